@@ -1,0 +1,35 @@
+-- The checks of the calls on places (document 01: "Reordering: 1, 3, 5. One place: 1, 3"), and what they answer.
+use Prim.Native.Nat.{ℕ}
+use mathlib.Core.Bool.{Bool}
+use mathlib.Core.List.{List, [], _∷_}
+use lib.Dec.{ltb, leb, eqb}
+use Rattle.refusals.specs.declared.Outcome.{Outcome}
+use Rattle.refusals.specs.declared.Outcome.the-variants as outcome
+use Rattle.refusals.specs.declared.Refusal.the-variants.{Side, Length, Lent}
+use Rattle.refusals.specs.Checks.{Check, need, firstOf}
+use Rattle.sizes.specs.Sizes.{allOf, sideFits}
+use Rattle.places.specs.Order.{toLinear, toRaster}
+use Rattle.places.specs.declared.Raster.{Raster}
+use Rattle.places.specs.declared.Linear.{Linear}
+use Rattle.places.specs.declared.RasterAnswer.{RasterAnswer}
+use Rattle.places.specs.declared.RasterAnswer.the-variants as raster
+use Rattle.places.specs.declared.LinearAnswer.{LinearAnswer}
+use Rattle.places.specs.declared.LinearAnswer.the-variants as linear
+
+-- one place
+abbrev pub placeChecks : ℕ → ℕ → List Check
+placeChecks N place = need (sideFits N) Side ∷ need (ltb place (allOf N)) Length ∷ []
+
+-- whole arrays: the lengths of the input and of the output
+abbrev pub reorderChecks : ℕ → ℕ → ℕ → List Check
+reorderChecks N input output =
+    need (sideFits N) Side ∷ need (eqb input (allOf N)) Length ∷ need (leb (allOf N) output) Lent ∷ []
+
+-- the place p, where the checks are passed
+abbrev pub rasterIf : Outcome → ℕ → RasterAnswer
+rasterIf outcome.Done p = raster.Place (record { 0 = p })
+rasterIf (outcome.Refused why) p = raster.Refused why
+
+abbrev pub linearIf : Outcome → ℕ → LinearAnswer
+linearIf outcome.Done q = linear.Place (record { 0 = q })
+linearIf (outcome.Refused why) q = linear.Refused why

@@ -1,0 +1,36 @@
+-- The numbers for no, and the places reported (document 01, "Numbers for no").
+use Prim.Native.Nat.{ℕ}
+use Rattle.refusals.specs.declared.Refusal.{Refusal}
+use Rattle.refusals.specs.declared.Refusal.the-variants.{Side, Levels, Length, Coefficient, Lent, Output, Letters, Version, Planes, Surplus, Padding, Contradiction, Beyond}
+
+-- column "no."
+abbrev pub numberOf : Refusal → ℕ
+numberOf Side = 1
+numberOf Levels = 2
+numberOf Length = 3
+numberOf (Coefficient place) = 4
+numberOf Lent = 5
+numberOf Output = 6
+numberOf Letters = 7
+numberOf Version = 8
+numberOf Planes = 9
+numberOf Surplus = 10
+numberOf Padding = 11
+numberOf (Contradiction bit) = 12
+numberOf (Beyond bit) = 13
+
+-- column "place reported"
+abbrev pub placeOf : Refusal → ℕ
+placeOf Side = 0
+placeOf Levels = 0
+placeOf Length = 0
+placeOf (Coefficient place) = place
+placeOf Lent = 0
+placeOf Output = 0
+placeOf Letters = 0
+placeOf Version = 0
+placeOf Planes = 0
+placeOf Surplus = 0
+placeOf Padding = 0
+placeOf (Contradiction bit) = bit
+placeOf (Beyond bit) = bit

@@ -1,0 +1,80 @@
+// The numbers for no: one case for each line of document 01's table. A case holds the place that it reports, where that is not always 0.
+ghost use mathlib.Core.Path.{_≡_};
+ghost use Rattle.refusals.specs.Refusals.{numberOf, placeOf};
+
+pub enum Refusal {
+    // 1: N out of range
+    Side,
+    // 2: L out of range
+    Levels,
+    // 3: the input's length is not I, or a single place is not below I
+    Length,
+    // 4: a coefficient over the limit; the first such place
+    Coefficient(u32),
+    // 5: a lent table or array is too short
+    Lent,
+    // 6: the output is too short
+    Output,
+    // 7: under 12 bytes, or wrong letters
+    Letters,
+    // 8: version not 1
+    Version,
+    // 9: P over 24
+    Planes,
+    // 10: more body bytes than the declared bits need
+    Surplus,
+    // 11: all body bytes present, padding not 0
+    Padding,
+    // 12: a contradiction while a plane is in progress; the first bit at which no array fits
+    Contradiction(u32),
+    // 13: usable bits left after plane 0; the first of them
+    Beyond(u32),
+}
+
+// What a call answers that gives back nothing but its effect.
+pub enum Outcome {
+    Done,
+    Refused(Refusal),
+}
+
+// The number for no.
+pub fn number(why: Refusal) -> u32
+    ensures { λ r. ⌜ r ≡ numberOf why ⌝ }
+{
+    match why {
+        Refusal::Side => 1,
+        Refusal::Levels => 2,
+        Refusal::Length => 3,
+        Refusal::Coefficient(_) => 4,
+        Refusal::Lent => 5,
+        Refusal::Output => 6,
+        Refusal::Letters => 7,
+        Refusal::Version => 8,
+        Refusal::Planes => 9,
+        Refusal::Surplus => 10,
+        Refusal::Padding => 11,
+        Refusal::Contradiction(_) => 12,
+        Refusal::Beyond(_) => 13,
+    }
+}
+
+// The place reported with it.
+pub fn place(why: Refusal) -> u32
+    ensures { λ r. ⌜ r ≡ placeOf why ⌝ }
+{
+    match why {
+        Refusal::Side => 0,
+        Refusal::Levels => 0,
+        Refusal::Length => 0,
+        Refusal::Coefficient(place) => place,
+        Refusal::Lent => 0,
+        Refusal::Output => 0,
+        Refusal::Letters => 0,
+        Refusal::Version => 0,
+        Refusal::Planes => 0,
+        Refusal::Surplus => 0,
+        Refusal::Padding => 0,
+        Refusal::Contradiction(bit) => bit,
+        Refusal::Beyond(bit) => bit,
+    }
+}

@@ -1,0 +1,40 @@
+-- The summaries (document 01: "the bitwise OR of magnitudes over DESC(i) and GRAND(i): I/4 and I/16 numbers"),
+-- and the checks of the call that fills them ("Summaries: 1 to 5").
+use Prim.Native.Nat.{ℕ, _/_}
+use mathlib.Core.Bool.{Bool, _&&_}
+use mathlib.Core.List.{List, [], _∷_, map}
+use lib.Bits.{bitOr}
+use lib.Dec.{leb, eqb}
+use lib.IntN.{ℤ}
+use lib.ListN.{length}
+use Rattle.refusals.specs.declared.Refusal.the-variants.{Side, Levels, Length, Lent}
+use Rattle.refusals.specs.Checks.{Check, need}
+use Rattle.sizes.specs.Sizes.{allOf, sideFits, levelsFit}
+use Rattle.sizes.specs.Tables.{table}
+use Rattle.coef.specs.Coef.{magAt, coefficientCheck}
+use Rattle.tree.specs.Tree.{desc, grand}
+
+-- the bitwise OR of a list of numbers
+unfoldable pub orAll : List ℕ → ℕ
+orAll [] = 0
+orAll (x ∷ rest) = bitOr x (orAll rest)
+
+-- the summary of the magnitudes of A at place i
+unfoldable pub descOr : ℕ → ℕ → List ℤ → ℕ → ℕ
+descOr N L A i = orAll (map (λ j. magAt A j) (desc N L i))
+
+unfoldable pub grandOr : ℕ → ℕ → List ℤ → ℕ → ℕ
+grandOr N L A i = orAll (map (λ j. magAt A j) (grand N L i))
+
+-- the two tables; places below D/4 have no descendants, so their entries are 0
+abbrev pub descTable : ℕ → ℕ → List ℤ → List ℕ
+descTable N L A = table (allOf N / 4) (λ i. descOr N L A i)
+
+abbrev pub grandTable : ℕ → ℕ → List ℤ → List ℕ
+grandTable N L A = table (allOf N / 16) (λ i. grandOr N L A i)
+
+-- the coefficients, and the lengths of the two lent tables
+abbrev pub summaryChecks : ℕ → ℕ → List ℤ → ℕ → ℕ → List Check
+summaryChecks N L A descs grands =
+    need (sideFits N) Side ∷ need (levelsFit N L) Levels ∷ need (eqb (length A) (allOf N)) Length ∷ coefficientCheck A
+    ∷ need (leb (allOf N / 4) descs && leb (allOf N / 16) grands) Lent ∷ []

@@ -1,0 +1,2 @@
+// The summaries.
+ghost use mathlib.Core.Path.{_≡_};
