@@ -1,6 +1,6 @@
 -- Children and descendants of a place (document 01, "Linear order").
 use Prim.Native.Nat.{ℕ, zero, suc, _+_, _*_, _/_}
-use mathlib.Core.Bool.{Bool, _&&_, cond}
+use mathlib.Core.Bool.{Bool, false, _&&_, _||_, cond}
 use mathlib.Core.List.{List, [], _∷_, _++_, flatMap}
 use lib.Dec.{leb, ltb}
 use Rattle.sizes.specs.Sizes.{allOf, coarsestOf}
@@ -22,3 +22,8 @@ desc N L i = descendants N L N i
 -- "GRAND(i) is DESC(i) without the children": what descends from them
 unfoldable pub grand : ℕ → ℕ → ℕ → List ℕ
 grand N L i = flatMap (λ c. desc N L c) (children N L i)
+
+-- some member of a list of places has p
+unfoldable pub anyIn : (ℕ → Bool) → List ℕ → Bool
+anyIn p [] = false
+anyIn p (i ∷ rest) = p i || anyIn p rest

@@ -1,0 +1,15 @@
+pub mod Sums
+pub mod Tree
+pub mod Parts
+pub mod Count
+pub mod Sizes
+pub mod Bound
+pub mod Members
+pub mod Summary
+pub mod Tiles
+pub mod Steps
+pub mod Passes
+pub mod Opens
+pub mod SetPass
+pub mod Whole
+pub mod Lists

@@ -1,0 +1,105 @@
+-- What is split, what stands, and the whole stream, from the magnitudes and signs alone (document 01, "Parts that stand").
+-- Assumes nothing.
+use Prim.Native.Nat.{ℕ, zero, suc, _+_, _*_, _-_, _^_, _/_, _%_, _≤_, _<_}
+use mathlib.Core.Path.{_≡_, refl, ap, sym, _∙_}
+use mathlib.Core.Bool.{Bool, true, false, not, _&&_, _||_, cond}
+use mathlib.Core.List.{List, [], _∷_, _++_}
+use native.Mathlib.Omega.{arith}
+use lib.Dec.{T, ltb, leb, eqb}
+use lib.ListN.{length}
+use Rattle.nls.proofs.Counting.Sums.{sum, each}
+use Rattle.nls.proofs.Counting.Tree.{Size, D, Q, I, desc, grand}
+
+-- 1 for true
+abbrev pub ι : Bool → ℕ
+ι true = 1
+ι false = 0
+
+-- The places that have children, D / 4 to I / 4 - 1, and those that have grandchildren, D / 4 to I / 16 - 1.
+abbrev pub over-desc : Size → (ℕ → ℕ) → ℕ
+over-desc z f = sum (z .e) (Q z - z .e) f
+
+abbrev pub over-grand : Size → (ℕ → ℕ) → ℕ
+over-grand z f = sum (z .e) (z .j - z .e) f
+
+abbrev pub over-all : Size → (ℕ → ℕ) → ℕ
+over-all z f = sum 0 (I z) f
+
+module _ (z : Size) (mag : ℕ → ℕ) where
+  -- the coefficient at i is at least 2 ^ b
+  unfoldable pub big : ℕ → ℕ → Bool
+  big b i = leb (2 ^ b) (mag i)
+
+  -- DESC(i), GRAND(i) has a member of at least 2 ^ b
+  unfoldable pub split-desc : ℕ → ℕ → Bool
+  split-desc b i = ltb 0 (desc z (λ c. ι (big b c)) i)
+
+  unfoldable pub split-grand : ℕ → ℕ → Bool
+  split-grand b i = ltb 0 (grand z (λ c. ι (big b c)) i)
+
+  -- after plane b
+  unfoldable pub alone : ℕ → ℕ → Bool
+  alone b i = ltb i (D z) || split-desc b (i / 4)
+
+  unfoldable pub stands-desc : ℕ → ℕ → Bool
+  stands-desc b i = not (split-desc b i) && (ltb i (D z) || split-grand b (i / 4))
+
+  unfoldable pub stands-grand : ℕ → ℕ → Bool
+  stands-grand b i = split-desc b i && not (split-grand b i)
+
+  -- the number of parts that stand after plane b, and the sum of their sizes
+  unfoldable pub parts : ℕ → ℕ
+  parts b =
+      over-all z (λ i. ι (alone b i)) + over-desc z (λ i. ι (stands-desc b i)) + over-grand z (λ i. ι (stands-grand b i))
+
+  unfoldable pub sizes : ℕ → ℕ
+  sizes b =
+      over-all z (λ i. ι (alone b i))
+      + over-desc z (λ i. cond (stands-desc b i) (desc z (λ _. 1) i) 0)
+      + over-grand z (λ i. cond (stands-grand b i) (grand z (λ _. 1) i) 0)
+
+  -- the sets that are split after plane b, and the coefficients of at least 2 ^ b
+  unfoldable pub splits : ℕ → ℕ
+  splits b = over-desc z (λ i. ι (split-desc b i)) + over-grand z (λ i. ι (split-grand b i))
+
+  unfoldable pub bigs : ℕ → ℕ
+  bigs b = over-all z (λ i. ι (big b i))
+
+  -- The stream. `neg i` is the sign, 1 for negative.
+  module _ (neg : ℕ → Bool) where
+    -- bit b of the magnitude
+    unfoldable pub bit : ℕ → ℕ → Bool
+    bit b i = eqb (mag i / 2 ^ b % 2) 1
+
+    -- the bit, and after a 1 the sign
+    unfoldable pub coded : ℕ → ℕ → List Bool
+    coded b i = bit b i ∷ cond (bit b i) (neg i ∷ []) []
+
+    -- pixel pass, at i: it stood alone before plane b, and was not found
+    unfoldable pub pixel : ℕ → ℕ → List Bool
+    pixel b i = cond (alone (suc b) i && not (big (suc b) i)) (coded b i) []
+
+    -- refinement pass, at i: found before plane b
+    unfoldable pub refine : ℕ → ℕ → List Bool
+    refine b i = cond (big (suc b) i) (bit b i ∷ []) []
+
+    -- set pass, at place 4 p: GRAND(p / 4) if its place is this; then DESC(p); then the children
+    unfoldable pub test-grand : ℕ → ℕ → List Bool
+    test-grand b q = cond (split-desc b q && not (split-grand (suc b) q)) (split-grand b q ∷ []) []
+
+    unfoldable pub test-desc : ℕ → ℕ → List Bool
+    test-desc b p = cond ((ltb p (D z) || split-grand b (p / 4)) && not (split-desc (suc b) p)) (split-desc b p ∷ []) []
+
+    unfoldable pub children : ℕ → ℕ → List Bool
+    children b p = cond (split-desc b p && not (split-desc (suc b) p)) (each (4 * p) 4 (λ c. coded b c)) []
+
+    unfoldable pub group : ℕ → ℕ → List Bool
+    group b p = cond (leb (D z) p && eqb (p % 4) 0) (test-grand b (p / 4)) [] ++ (test-desc b p ++ children b p)
+
+    unfoldable pub plane : ℕ → List Bool
+    plane b = each 0 (I z) (λ i. pixel b i) ++ (each (z .e) (Q z - z .e) (λ p. group b p) ++ each 0 (I z) (λ i. refine b i))
+
+    -- planes n - 1 down to 0
+    unfoldable pub body : ℕ → List Bool
+    body zero = []
+    body (suc b) = plane b ++ body b

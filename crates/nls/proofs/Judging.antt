@@ -1,0 +1,17 @@
+pub mod Most
+pub mod Owed
+pub mod Clash
+pub mod Room
+pub mod Apart
+pub mod Fresh
+pub mod Debt
+pub mod Open
+pub mod Enough
+pub mod Refuse
+pub mod Decide
+pub mod Flag
+pub mod ByCount
+pub mod Decoder
+pub mod Numbers
+pub mod Only
+pub mod Final

@@ -1,0 +1,6 @@
+pub mod Arrays
+pub mod Machine
+pub mod Reading
+pub mod Judging
+pub mod Counting
+pub mod Joined

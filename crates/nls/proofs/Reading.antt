@@ -1,0 +1,4 @@
+pub mod Know
+pub mod Whole
+pub mod Prefix
+pub mod Value

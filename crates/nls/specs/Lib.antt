@@ -1,0 +1,6 @@
+pub mod Marks
+pub mod Scan
+pub mod Stream
+pub mod Parts
+pub mod Reading
+pub mod Judging

@@ -1,0 +1,79 @@
+-- Reading a cut stream (document 01, "Reading a cut stream").
+use Prim.Native.Nat.{ℕ, zero, suc, _+_, _*_, _-_, _/_, _^_, min}
+use mathlib.Core.Bool.{Bool, true, false, cond}
+use mathlib.Core.Option.{Option, none, some}
+use mathlib.Core.List.{List, [], _∷_}
+use lib.Dec.{eqb}
+use lib.IntN.{ℤ, pos}
+use lib.ListN.{getD, set, replicate}
+use Rattle.sizes.specs.Sizes.{allOf}
+use Rattle.sizes.specs.Tables.{table}
+use Rattle.bits.specs.Bits.{digit}
+use Rattle.coef.specs.Coef.{at, magnitude, negative, signed}
+use Rattle.nls.specs.Scan.{Question, bitOf, signOf, inDesc, inGrand, Pass, pixels, sets, refining, State, ask, next}
+use Rattle.nls.specs.Stream.{begin, after}
+
+-- What has been read of each coefficient: its known bits with their sign, and the plane of its own bit that was read last, P before any.
+pub record Known : Type 0 where
+  pub bits : List ℤ
+  pub planes : List ℕ
+
+abbrev pub nothing : ℕ → ℕ → Known
+nothing N P = record { bits = replicate (allOf N) (pos 0); planes = replicate (allOf N) P }
+
+-- the coefficient at i now has the known bits z, down to plane b
+abbrev pub noted : ℕ → ℤ → ℕ → Known → Known
+noted i z b k = record { bits = set (k .bits) i z; planes = set (k .planes) i b }
+
+-- An answer in plane b. A test bit 1 counts "with its sign, where one follows"; a refinement bit adds to the known bits.
+abbrev pub learn : Pass → ℕ → Question → Bool → Known → Known
+learn refining b (bitOf i c) a k = noted i (signed (negative (at (k .bits) i)) (magnitude (at (k .bits) i) + digit a * 2 ^ b)) b k
+learn pixels b (bitOf i c) false k = record { bits = k .bits; planes = set (k .planes) i b }
+learn pixels b (bitOf i c) true k = k
+learn sets b (bitOf i c) false k = record { bits = k .bits; planes = set (k .planes) i b }
+learn sets b (bitOf i c) true k = k
+learn pass b (signOf i) a k = noted i (signed a (2 ^ b)) b k
+learn pass b (inDesc g c) a k = k
+learn pass b (inGrand g c) a k = k
+
+abbrev pub learnAt : Option Question → State → Bool → Known → Known
+learnAt none s a k = k
+learnAt (some q) s a k = learn (s .pass) (s .left - 1) q a k
+
+-- after the bits u, from a settled state on
+unfoldable pub learned : ℕ → State → Known → List Bool → Known
+learned N s k [] = k
+learned N s k (a ∷ u) = learned N (next (allOf N) s a) (learnAt (ask (allOf N) s) s a k) u
+
+abbrev pub known : ℕ → ℕ → ℕ → List Bool → Known
+known N L P u = learned N (begin N L P) (nothing N P) u
+
+-- A rule makes a magnitude of known bits m, not 0, at precision k. "m + 2^(k-1) .. for k = 0 it is m"
+abbrev pub midpoint : ℕ → ℕ → ℕ
+midpoint k m = cond (eqb k 0) m (m + 2 ^ (k - 1))
+
+-- "if m is 0 the value is 0, else .. with its sign"
+unfoldable pub valueBy : (ℕ → ℕ → ℕ) → ℕ → ℤ → ℤ
+valueBy rule k z = cond (eqb (magnitude z) 0) (pos 0) (signed (negative z) (rule k (magnitude z)))
+
+module _ (N L P : ℕ) (u : List Bool) where
+  -- the number of the last finished plane, or P if none
+  abbrev pub lastPlane : ℕ
+  lastPlane = (after N L P u) .left
+
+  -- "b if its own bit of the plane b in progress was read (with its sign, where one follows); else the number of the last finished plane, or P if none"
+  abbrev pub precisionAt : ℕ → ℕ
+  precisionAt i = min (getD (known N L P u .planes) i 0) lastPlane
+
+  -- what decoding gives back: values by a rule, precisions, marks, planes finished, and "the worst error 2^k - 1"
+  abbrev pub valuesBy : (ℕ → ℕ → ℕ) → List ℤ
+  valuesBy rule = table (allOf N) (λ i. valueBy rule (precisionAt i) (at (known N L P u .bits) i))
+
+  abbrev pub precisions : List ℕ
+  precisions = table (allOf N) (λ i. precisionAt i)
+
+  abbrev pub planesFinished : ℕ
+  planesFinished = P - lastPlane
+
+  abbrev pub worstError : ℕ
+  worstError = 2 ^ lastPlane - 1
