@@ -23,8 +23,9 @@ answer N L A (inGrand g b) = bit (grandOr N L A g) b
 unfoldable pub answers : ℕ → ℕ → List ℤ → ℕ → State → List Bool
 answers N L A zero s = []
 answers N L A (suc n) s = elim (ask (allOf N) s) [
-    none ↦ []
-  | some q ↦ answer N L A q ∷ answers N L A n (next (allOf N) s (answer N L A q)) ]
+  | none ↦ []
+  | some q ↦ answer N L A q ∷ answers N L A n (next (allOf N) s (answer N L A q))
+]
 
 -- the scan before its first bit, and after the bits u
 abbrev pub begin : ℕ → ℕ → ℕ → State

@@ -45,10 +45,11 @@ module _ (z : Size) (mag : ℕ → ℕ) where
     no-splits : splits z mag n ≡ 0
     unfolding splits split-desc split-grand
     no-splits =
-        omega
-        (arith,
-        sum-zero (z .e) (Q z - z .e) (λ i. ι (split-desc z mag n i)) (λ i u v. rw (desc-zero z (λ c. ι (big z mag n c)) none-big i)),
-        sum-zero (z .e) (z .j - z .e) (λ i. ι (split-grand z mag n i)) (λ i u v. rw (grand-zero z (λ c. ι (big z mag n c)) none-big i)))
+        omega (
+          arith,
+          sum-zero (z .e) (Q z - z .e) (λ i. ι (split-desc z mag n i)) (λ i u v. rw (desc-zero z (λ c. ι (big z mag n c)) none-big i)),
+          sum-zero (z .e) (z .j - z .e) (λ i. ι (split-grand z mag n i)) (λ i u v. rw (grand-zero z (λ c. ι (big z mag n c)) none-big i)),
+        )
 
     -- DEMAND 3, the number of bits
     pub bits-count : (neg : ℕ → Bool) → length (body z mag neg n) ≡ sum 0 n (λ b. parts z mag b) + splits z mag 0 + nonzeros z mag
@@ -59,17 +60,18 @@ module _ (z : Size) (mag : ℕ → ℕ) where
     pub bits-bound : (neg : ℕ → Bool) → length (body z mag neg n) ≤ worst z n
     unfolding worst splits nonzeros
     bits-bound neg =
-        omega
-        (arith,
-        bits-count neg,
-        sum-le 0 n (λ b. parts z mag b) (λ _. I z) (λ b u v. parts-le z mag b),
-        sum-const 0 n (I z),
-        sum-le (z .e) (Q z - z .e) (λ i. ι (split-desc z mag 0 i)) (λ _. 1) (λ i u v. ι-le (split-desc z mag 0 i)),
-        sum-const (z .e) (Q z - z .e) 1,
-        sum-le (z .e) (z .j - z .e) (λ i. ι (split-grand z mag 0 i)) (λ _. 1) (λ i u v. ι-le (split-grand z mag 0 i)),
-        sum-const (z .e) (z .j - z .e) 1,
-        sum-le 0 (I z) (λ i. ι (ltb 0 (mag i))) (λ _. 1) (λ i u v. ι-le (ltb 0 (mag i))),
-        sum-const 0 (I z) 1)
+        omega (
+          arith,
+          bits-count neg,
+          sum-le 0 n (λ b. parts z mag b) (λ _. I z) (λ b u v. parts-le z mag b),
+          sum-const 0 n (I z),
+          sum-le (z .e) (Q z - z .e) (λ i. ι (split-desc z mag 0 i)) (λ _. 1) (λ i u v. ι-le (split-desc z mag 0 i)),
+          sum-const (z .e) (Q z - z .e) 1,
+          sum-le (z .e) (z .j - z .e) (λ i. ι (split-grand z mag 0 i)) (λ _. 1) (λ i u v. ι-le (split-grand z mag 0 i)),
+          sum-const (z .e) (z .j - z .e) 1,
+          sum-le 0 (I z) (λ i. ι (ltb 0 (mag i))) (λ _. 1) (λ i u v. ι-le (ltb 0 (mag i))),
+          sum-const 0 (I z) 1,
+        )
 
   -- where all is big, all is split and every part is a coefficient
   module _ (b : ℕ) (all : (i : ℕ) → i < I z → T (big z mag b i)) where
@@ -85,24 +87,26 @@ module _ (z : Size) (mag : ℕ → ℕ) where
     full-parts : parts z mag b ≡ I z
     unfolding parts alone stands-desc stands-grand
     full-parts =
-        omega
-        (arith,
-        sum-cong 0 (I z) (λ i. ι (alone z mag b i)) (λ _. 1)
-          (λ i u v. ap (λ (t : Bool). ι t) (T-true (ltb i (D z) || split-desc z mag b (i / 4)) (big-alone z mag b i (omega arith) (all i (omega arith))))),
-        sum-const 0 (I z) 1,
-        sum-zero (z .e) (Q z - z .e) (λ i. ι (stands-desc z mag b i)) (λ i u v. rw (desc-split i u (omega arith))),
-        sum-zero (z .e) (z .j - z .e) (λ i. ι (stands-grand z mag b i))
-          (λ i u v. rw (desc-split i u (omega arith), grand-split i u (omega arith))))
+        omega (
+          arith,
+          sum-cong 0 (I z) (λ i. ι (alone z mag b i)) (λ _. 1)
+              (λ i u v. ap (λ (t : Bool). ι t) (T-true (ltb i (D z) || split-desc z mag b (i / 4)) (big-alone z mag b i (omega arith) (all i (omega arith))))),
+          sum-const 0 (I z) 1,
+          sum-zero (z .e) (Q z - z .e) (λ i. ι (stands-desc z mag b i)) (λ i u v. rw (desc-split i u (omega arith))),
+          sum-zero (z .e) (z .j - z .e) (λ i. ι (stands-grand z mag b i))
+              (λ i u v. rw (desc-split i u (omega arith), grand-split i u (omega arith))),
+        )
 
     full-splits : splits z mag b ≡ (Q z - z .e) + (z .j - z .e)
     unfolding splits
     full-splits =
-        omega
-        (arith,
-        sum-cong (z .e) (Q z - z .e) (λ i. ι (split-desc z mag b i)) (λ _. 1) (λ i u v. rw (desc-split i u (omega arith))),
-        sum-const (z .e) (Q z - z .e) 1,
-        sum-cong (z .e) (z .j - z .e) (λ i. ι (split-grand z mag b i)) (λ _. 1) (λ i u v. rw (grand-split i u (omega arith))),
-        sum-const (z .e) (z .j - z .e) 1)
+        omega (
+          arith,
+          sum-cong (z .e) (Q z - z .e) (λ i. ι (split-desc z mag b i)) (λ _. 1) (λ i u v. rw (desc-split i u (omega arith))),
+          sum-const (z .e) (Q z - z .e) 1,
+          sum-cong (z .e) (z .j - z .e) (λ i. ι (split-grand z mag b i)) (λ _. 1) (λ i u v. rw (grand-split i u (omega arith))),
+          sum-const (z .e) (z .j - z .e) 1,
+        )
 
 -- DEMAND 3, the bound is reached where all magnitudes are from 2 ^ (P - 1) to 2 ^ P - 1
 module _ (z : Size) (mag : ℕ → ℕ) (n : ℕ) (small : (i : ℕ) → i < I z → mag i < 2 ^ suc n) (large : (i : ℕ) → i < I z → 2 ^ n ≤ mag i) where
@@ -113,15 +117,16 @@ module _ (z : Size) (mag : ℕ → ℕ) (n : ℕ) (small : (i : ℕ) → i < I z
   pub bound-reached : (neg : ℕ → Bool) → length (body z mag neg (suc n)) ≡ worst z (suc n)
   unfolding worst nonzeros
   bound-reached neg =
-      omega
-      (arith,
-      bits-count z mag (suc n) small neg,
-      sum-cong 0 (suc n) (λ b. parts z mag b) (λ _. I z) (λ b u v. full-parts z mag b (large-big b (omega arith))),
-      sum-const 0 (suc n) (I z),
-      full-splits z mag 0 (large-big 0 (omega arith)),
-      sum-cong 0 (I z) (λ i. ι (ltb 0 (mag i))) (λ _. 1)
-        (λ i u v. rw (lt-ltb 0 (mag i) (le-trans (pow-pos n) (large i (omega arith))))),
-      sum-const 0 (I z) 1)
+      omega (
+        arith,
+        bits-count z mag (suc n) small neg,
+        sum-cong 0 (suc n) (λ b. parts z mag b) (λ _. I z) (λ b u v. full-parts z mag b (large-big b (omega arith))),
+        sum-const 0 (suc n) (I z),
+        full-splits z mag 0 (large-big 0 (omega arith)),
+        sum-cong 0 (I z) (λ i. ι (ltb 0 (mag i))) (λ _. 1)
+            (λ i u v. rw (lt-ltb 0 (mag i) (le-trans (pow-pos n) (large i (omega arith))))),
+        sum-const 0 (I z) 1,
+      )
 
 -- as an array: every entry 2 ^ (P - 1)
 pub reached-by : (z : Size) (n : ℕ) (neg : ℕ → Bool)
@@ -141,13 +146,14 @@ pow-sixteen m n e = omega (arith, pow-four m (suc m) refl, pow-four (suc m) n e)
 
 abbrev pub size : (N L : ℕ) → 1 ≤ L → L < N → Size
 size N L b c =
-    record
-    { e = 4 ^ (N - L - 1)
-    ; j = 4 ^ (N - 2)
-    ; deep = N
-    ; some = pow-le-pow-right {n = 4} (omega arith) {i = 0} {j = N - L - 1} (omega arith)
-    ; below = pow-le-pow-right {n = 4} (omega arith) {i = N - L - 1} {j = N - 2} (omega arith)
-    ; high = omega (arith, pow-sixteen (N - 2) N (omega arith)) }
+    record {
+      e = 4 ^ (N - L - 1);
+      j = 4 ^ (N - 2);
+      deep = N;
+      some = pow-le-pow-right {n = 4} (omega arith) {i = 0} {j = N - L - 1} (omega arith);
+      below = pow-le-pow-right {n = 4} (omega arith) {i = N - L - 1} {j = N - 2} (omega arith);
+      high = omega (arith, pow-sixteen (N - 2) N (omega arith));
+    }
 
 -- I is 4 ^ N and D is 4 ^ (N - L)
 pub all-is : (N L : ℕ) (b : 1 ≤ L) (c : L < N) → I (size N L b c) ≡ 4 ^ N

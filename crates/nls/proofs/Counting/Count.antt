@@ -193,7 +193,7 @@ module _ (z : Size) (mag : ℕ → ℕ) where
     pixel-length b i =
         length-cond (alone z mag (suc b) i && not (big z mag (suc b) i)) (coded z mag neg b i)
         ∙ cond-cong (alone z mag (suc b) i && not (big z mag (suc b) i)) (length (coded z mag neg b i)) (suc (ι (big z mag b i)))
-          (λ t. coded-length b i (and-right (alone z mag (suc b) i) (not (big z mag (suc b) i)) t))
+        (λ t. coded-length b i (and-right (alone z mag (suc b) i) (not (big z mag (suc b) i)) t))
 
     refine-length : (b i : ℕ) → length (refine z mag neg b i) ≡ cond (big z mag (suc b) i) 1 0
     unfolding refine
@@ -205,13 +205,13 @@ module _ (z : Size) (mag : ℕ → ℕ) where
     children-length b p h k =
         length-cond (split-desc z mag b p && not (split-desc z mag (suc b) p)) (each (4 * p) 4 (λ c. coded z mag neg b c))
         ∙ cond-cong (split-desc z mag b p && not (split-desc z mag (suc b) p)) (length (each (4 * p) 4 (λ c. coded z mag neg b c)))
-          (sum (4 * p) 4 (λ c. suc (ι (big z mag b c))))
-          (λ t. each-length (4 * p) 4 (λ c. coded z mag neg b c)
-            ∙ sum-cong (4 * p) 4 (λ c. length (coded z mag neg b c)) (λ c. suc (ι (big z mag b c)))
-              (λ c u v. coded-length b c
-                (not-T (big z mag (suc b) c)
-                (λ w. T-not (split-desc z mag (suc b) p) (and-right (split-desc z mag b p) (not (split-desc z mag (suc b) p)) t)
-                (child-splits (suc b) p c h k u v w)))))
+        (sum (4 * p) 4 (λ c. suc (ι (big z mag b c))))
+        (λ t. each-length (4 * p) 4 (λ c. coded z mag neg b c)
+        ∙ sum-cong (4 * p) 4 (λ c. length (coded z mag neg b c)) (λ c. suc (ι (big z mag b c)))
+        (λ c u v. coded-length b c
+        (not-T (big z mag (suc b) c)
+        (λ w. T-not (split-desc z mag (suc b) p) (and-right (split-desc z mag b p) (not (split-desc z mag (suc b) p)) t)
+        (child-splits (suc b) p c h k u v w)))))
 
     test-desc-length : (b p : ℕ) → length (test-desc z mag neg b p)
         ≡ ι ((ltb p (D z) || split-grand z mag b (p / 4)) && not (split-desc z mag (suc b) p))
@@ -242,8 +242,10 @@ by-parent z t f =
   where
     h : ℕ → ℕ
     h i = cond (not (ltb i (D z)) && t (i / 4)) (f i) 0
+
     late : (i : ℕ) → D z ≤ i → cond (t (i / 4)) (f i) 0 ≡ h i
     late i u = rw (le-ltb i (D z) u)
+
     early : (i : ℕ) → i < D z → h i ≡ 0
     early i u = rw (lt-ltb i (D z) u)
 
@@ -255,19 +257,23 @@ by-first z g =
     ∙ sum-at (z .e + 3 * z .e) (4 * z .e) (4 * (z .j - z .e)) (4 * (z .j - z .e)) h (omega arith) refl
     ∙ sum-four (z .e) (z .j - z .e) h
     ∙ sum-cong (z .e) (z .j - z .e) (λ q. sum (4 * q) 4 h) g
-      (λ q u v. sum-first (4 * q) 3 h (λ p k l. other q p k (omega arith)) ∙ first q u)
+    (λ q u v. sum-first (4 * q) 3 h (λ p k l. other q p k (omega arith)) ∙ first q u)
   where
     h : ℕ → ℕ
     h p = cond (leb (D z) p && eqb (p % 4) 0) (g (p / 4)) 0
+
     early : (p : ℕ) → p < D z → h p ≡ 0
     early p u = rw (lt-leb (D z) p u)
+
     and-false : (t : Bool) → (t && false) ≡ false
     and-false true = refl
     and-false false = refl
+
     other : (q p : ℕ) → 4 * q < p → p < 4 * q + 4 → h p ≡ 0
     other q p k l =
         let odd : eqb (p % 4) 0 ≡ false = ne-eqb (p % 4) 0 (omega arith) in
         rw (odd, and-false (leb (D z) p))
+
     first : (q : ℕ) → z .e ≤ q → h (4 * q) ≡ g q
     first q u =
         let late : leb (D z) (4 * q) ≡ true = le-leb (D z) (4 * q) (omega arith) in
@@ -298,13 +304,13 @@ module _ (z : Size) (mag : ℕ → ℕ) (neg : ℕ → Bool) where
   unfolding group grand-tests desc-tests fresh
   group-length b p h k =
       let whole : length (cond (leb (D z) p && eqb (p % 4) 0) (test-grand z mag neg b (p / 4)) [] ++ (test-desc z mag neg b p ++ children z mag neg b p))
-          ≡ length (cond (leb (D z) p && eqb (p % 4) 0) (test-grand z mag neg b (p / 4)) [])
-            + (length (test-desc z mag neg b p) + length (children z mag neg b p)) =
-          rw (length-append, length-append) in
+      ≡ length (cond (leb (D z) p && eqb (p % 4) 0) (test-grand z mag neg b (p / 4)) [])
+      + (length (test-desc z mag neg b p) + length (children z mag neg b p)) =
+      rw (length-append, length-append) in
       let one : length (cond (leb (D z) p && eqb (p % 4) 0) (test-grand z mag neg b (p / 4)) [])
-          ≡ cond (leb (D z) p && eqb (p % 4) 0) (grand-tests b (p / 4)) 0 =
-          length-cond (leb (D z) p && eqb (p % 4) 0) (test-grand z mag neg b (p / 4))
-          ∙ ap (λ (n : ℕ). cond (leb (D z) p && eqb (p % 4) 0) n 0) (test-grand-length z mag neg b (p / 4)) in
+      ≡ cond (leb (D z) p && eqb (p % 4) 0) (grand-tests b (p / 4)) 0 =
+      length-cond (leb (D z) p && eqb (p % 4) 0) (test-grand z mag neg b (p / 4))
+      ∙ ap (λ (n : ℕ). cond (leb (D z) p && eqb (p % 4) 0) n 0) (test-grand-length z mag neg b (p / 4)) in
       omega (arith, test-desc-length z mag neg b p, children-length z mag neg b p h k)
 
   plane-sums : (b : ℕ) → length (plane z mag neg b)
@@ -315,25 +321,25 @@ module _ (z : Size) (mag : ℕ → ℕ) (neg : ℕ → Bool) where
   unfolding plane
   plane-sums b =
       let whole : length (plane z mag neg b) ≡ length (each 0 (I z) (λ i. pixel z mag neg b i))
-          + (length (each (z .e) (Q z - z .e) (λ p. group z mag neg b p)) + length (each 0 (I z) (λ i. refine z mag neg b i))) =
-          rw (length-append, length-append) in
+      + (length (each (z .e) (Q z - z .e) (λ p. group z mag neg b p)) + length (each 0 (I z) (λ i. refine z mag neg b i))) =
+      rw (length-append, length-append) in
       let first : length (each 0 (I z) (λ i. pixel z mag neg b i)) ≡ over-all z (λ i. pixels b i) =
-          each-length 0 (I z) (λ i. pixel z mag neg b i)
-          ∙ sum-cong 0 (I z) (λ i. length (pixel z mag neg b i)) (λ i. pixels b i) (λ i u v. unfold pixels in pixel-length z mag neg b i) in
+      each-length 0 (I z) (λ i. pixel z mag neg b i)
+      ∙ sum-cong 0 (I z) (λ i. length (pixel z mag neg b i)) (λ i. pixels b i) (λ i u v. unfold pixels in pixel-length z mag neg b i) in
       let last : length (each 0 (I z) (λ i. refine z mag neg b i)) ≡ over-all z (λ i. refines b i) =
-          each-length 0 (I z) (λ i. refine z mag neg b i)
-          ∙ sum-cong 0 (I z) (λ i. length (refine z mag neg b i)) (λ i. refines b i) (λ i u v. unfold refines in refine-length z mag neg b i) in
+      each-length 0 (I z) (λ i. refine z mag neg b i)
+      ∙ sum-cong 0 (I z) (λ i. length (refine z mag neg b i)) (λ i. refines b i) (λ i u v. unfold refines in refine-length z mag neg b i) in
       let sets : length (each (z .e) (Q z - z .e) (λ p. group z mag neg b p))
-          ≡ over-desc z (λ p. cond (leb (D z) p && eqb (p % 4) 0) (grand-tests b (p / 4)) 0)
-          + (over-desc z (λ p. desc-tests b p) + over-desc z (λ p. cond (fresh b p) (sum (4 * p) 4 (λ c. suc (ι (big z mag b c)))) 0)) =
-          each-length (z .e) (Q z - z .e) (λ p. group z mag neg b p)
-          ∙ sum-cong (z .e) (Q z - z .e) (λ p. length (group z mag neg b p))
-            (λ p. cond (leb (D z) p && eqb (p % 4) 0) (grand-tests b (p / 4)) 0
-              + (desc-tests b p + cond (fresh b p) (sum (4 * p) 4 (λ c. suc (ι (big z mag b c)))) 0))
-            (λ p u v. group-length b p (omega arith) (omega arith))
-          ∙ sum-add (z .e) (Q z - z .e) (λ p. cond (leb (D z) p && eqb (p % 4) 0) (grand-tests b (p / 4)) 0)
-            (λ p. desc-tests b p + cond (fresh b p) (sum (4 * p) 4 (λ c. suc (ι (big z mag b c)))) 0)
-          ∙ rw (sum-add (z .e) (Q z - z .e) (λ p. desc-tests b p) (λ p. cond (fresh b p) (sum (4 * p) 4 (λ c. suc (ι (big z mag b c)))) 0)) in
+      ≡ over-desc z (λ p. cond (leb (D z) p && eqb (p % 4) 0) (grand-tests b (p / 4)) 0)
+      + (over-desc z (λ p. desc-tests b p) + over-desc z (λ p. cond (fresh b p) (sum (4 * p) 4 (λ c. suc (ι (big z mag b c)))) 0)) =
+      each-length (z .e) (Q z - z .e) (λ p. group z mag neg b p)
+      ∙ sum-cong (z .e) (Q z - z .e) (λ p. length (group z mag neg b p))
+      (λ p. cond (leb (D z) p && eqb (p % 4) 0) (grand-tests b (p / 4)) 0
+      + (desc-tests b p + cond (fresh b p) (sum (4 * p) 4 (λ c. suc (ι (big z mag b c)))) 0))
+      (λ p u v. group-length b p (omega arith) (omega arith))
+      ∙ sum-add (z .e) (Q z - z .e) (λ p. cond (leb (D z) p && eqb (p % 4) 0) (grand-tests b (p / 4)) 0)
+      (λ p. desc-tests b p + cond (fresh b p) (sum (4 * p) 4 (λ c. suc (ι (big z mag b c)))) 0)
+      ∙ rw (sum-add (z .e) (Q z - z .e) (λ p. desc-tests b p) (λ p. cond (fresh b p) (sum (4 * p) 4 (λ c. suc (ι (big z mag b c)))) 0)) in
       omega (arith, by-first z (λ q. grand-tests b q), by-parent z (λ p. fresh b p) (λ c. suc (ι (big z mag b c))))
 
   coefs : (b : ℕ) → over-all z (λ i. pixels b i) + over-all z (λ i. refines b i)

@@ -129,9 +129,9 @@ module _ (z : Size) (mag : ℕ → ℕ) (neg : ℕ → Bool) (b : ℕ) where
       let l4 : List ℕ = set (set (set (set l i 4) (i + 1) 4) (i + 2) 4) (i + 3) 4 in
       let m4 : Table = put (put (put (put m i 4) (i + 1) 4) (i + 2) 4) (i + 3) 4 in
       let r4 : Rep z l4 m4 =
-          rep-set z (set (set (set l i 4) (i + 1) 4) (i + 2) 4) (put (put (put m i 4) (i + 1) 4) (i + 2) 4) (i + 3) 4
-          (rep-set z (set (set l i 4) (i + 1) 4) (put (put m i 4) (i + 1) 4) (i + 2) 4
-          (rep-set z (set l i 4) (put m i 4) (i + 1) 4 (rep-set z l m i 4 r))) in
+      rep-set z (set (set (set l i 4) (i + 1) 4) (i + 2) 4) (put (put (put m i 4) (i + 1) 4) (i + 2) 4) (i + 3) 4
+      (rep-set z (set (set l i 4) (i + 1) 4) (put (put m i 4) (i + 1) 4) (i + 2) 4
+      (rep-set z (set l i 4) (put m i 4) (i + 1) 4 (rep-set z l m i 4 r))) in
       rep-cond z (set l4 (4 * i) 6) l4 (put m4 (4 * i) 6) m4 (ltb (4 * i) (I z)) (rep-set z l4 m4 (4 * i) 6 r4) r4
 
   pub like-set : (l : List ℕ) (m : Table) (i : ℕ) → i < I z → Rep z l m → Like z (set-l z mag neg b l i) (set-step z mag neg b m i)
@@ -155,7 +155,7 @@ like-go z sl s h (suc f) l m i r =
   where
     tell : (i < I z → Like z (sl l i) (s m i))
         → ((i′ : ℕ) → Rep z ((sl l i) .1) ((s m i) .1)
-            → ((go-l z sl f ((sl l i) .1) i′) .0 ≡ (go z s f ((s m i) .1) i′) .0) × Rep z ((go-l z sl f ((sl l i) .1) i′) .1) ((go z s f ((s m i) .1) i′) .1))
+        → ((go-l z sl f ((sl l i) .1) i′) .0 ≡ (go z s f ((s m i) .1) i′) .0) × Rep z ((go-l z sl f ((sl l i) .1) i′) .1) ((go z s f ((s m i) .1) i′) .1))
         → (t : Bool) → leb (I z) i ≡ t
         → ((go-l z sl (suc f) l i) .0 ≡ (go z s (suc f) m i) .0) × Rep z ((go-l z sl (suc f) l i) .1) ((go z s (suc f) m i) .1)
     tell like ih true e = rw e (refl, r)
@@ -196,12 +196,13 @@ module _ (z : Size) (mag : ℕ → ℕ) (neg : ℕ → Bool) where
   pub rep-start : (n : ℕ) → Rep z (start-from-l n) (start-from z mag neg n)
   unfolding start-from-l start-from
   rep-start zero =
-      record
-      { long = length-append (replicate (D z) 1) (replicate (I z - D z) 0) ∙ omega (arith, length-replicate {A = ℕ} (D z) 1, length-replicate {A = ℕ} (I z - D z) 0)
-      ; same = λ y u. ⊎-elim
-          (λ l. rw (le-ltb y (D z) l) (sym (ap (λ (n : ℕ). getD (replicate (D z) 1 ++ replicate (I z - D z) 0) n 0) (back y l) ∙ getD-append-add (replicate (D z) 1) (replicate (I z - D z) 0) (y - D z) 0 ∙ getD-replicate (I z - D z) (y - D z) 0 0 (omega arith))))
-          (λ l. rw (lt-ltb y (D z) l) (sym (List·getD-append (replicate (D z) 1) (replicate (I z - D z) 0) 0 y (omega (arith, length-replicate {A = ℕ} (D z) 1)) ∙ getD-replicate (D z) y 1 0 l)))
-          (order (D z) y) }
+      record {
+        long = length-append (replicate (D z) 1) (replicate (I z - D z) 0) ∙ omega (arith, length-replicate {A = ℕ} (D z) 1, length-replicate {A = ℕ} (I z - D z) 0);
+        same = λ y u. ⊎-elim
+            (λ l. rw (le-ltb y (D z) l) (sym (ap (λ (n : ℕ). getD (replicate (D z) 1 ++ replicate (I z - D z) 0) n 0) (back y l) ∙ getD-append-add (replicate (D z) 1) (replicate (I z - D z) 0) (y - D z) 0 ∙ getD-replicate (I z - D z) (y - D z) 0 0 (omega arith))))
+            (λ l. rw (lt-ltb y (D z) l) (sym (List·getD-append (replicate (D z) 1) (replicate (I z - D z) 0) 0 y (omega (arith, length-replicate {A = ℕ} (D z) 1)) ∙ getD-replicate (D z) y 1 0 l)))
+            (order (D z) y);
+      }
     where
       back : (y : ℕ) → D z ≤ y → y ≡ length {A = ℕ} (replicate (D z) 1) + (y - D z)
       back y l = omega (arith, length-replicate {A = ℕ} (D z) 1)

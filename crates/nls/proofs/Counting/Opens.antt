@@ -69,6 +69,7 @@ module _ (z : Size) (mag : ℕ → ℕ) (neg : ℕ → Bool) (b : ℕ) where
     where
       base : y ≡ w → ⊥
       base e = h 0 (unfold down in e)
+
       tell : (t : Bool) → push z mag neg b f (suc c) (4 * w) (put m w c) y ≡ put m w c y
           → cond t (push z mag neg b f (suc c) (4 * w) (put m w c)) m y ≡ m y
       tell true r = r ∙ put-other m w c y base
@@ -86,7 +87,7 @@ module _ (z : Size) (mag : ℕ → ℕ) (neg : ℕ → Bool) (b : ℕ) where
       let t : ltb w (I z) ≡ true = lt-ltb w (I z) (omega (arith, down-ge k w)) in
       let s : down k (4 * w) ≡ 4 * down k w = down-shift k w in
       let r : push z mag neg b f (suc c) (4 * w) (put m w c) (down k (4 * w)) ≡ suc c + k =
-          push-hit k f (suc c) (4 * w) (put m w c) (omega arith) (omega arith) (omega arith) in
+      push-hit k f (suc c) (4 * w) (put m w c) (omega arith) (omega arith) (omega arith) in
       rw t ((rw s at r) ∙ omega arith)
 
   two-down : (n a : ℕ) → down n (4 * (4 * a)) ≡ down (suc (suc n)) a
@@ -106,7 +107,7 @@ module _ (z : Size) (mag : ℕ → ℕ) (neg : ℕ → Bool) (b : ℕ) where
   pushed-hit m a (suc (suc n)) h p q =
       let s : down n (4 * (4 * a)) ≡ 4 * (4 * down n a) = two-down n a in
       let r : push z mag neg b (z .deep) 7 (4 * (4 * a)) (put m (4 * a) 5) (down n (4 * (4 * a))) ≡ 7 + n =
-          push-hit n (z .deep) 7 (4 * (4 * a)) (put m (4 * a) 5) (omega arith) (shallow n (4 * (4 * a)) (omega arith) (omega arith)) (omega arith) in
+      push-hit n (z .deep) 7 (4 * (4 * a)) (put m (4 * a) 5) (omega arith) (shallow n (4 * (4 * a)) (omega arith) (omega arith)) (omega arith) in
       (rw s at r) ∙ sym (code-two n)
 
   pub pushed-miss : (m : Table) (a y : ℕ) → ((k : ℕ) → 1 ≤ k → y ≡ down k a → ⊥) → pushed z mag neg b m (4 * a) y ≡ m y
@@ -156,7 +157,6 @@ flip q s y = cond (eqb y q) true (s y)
 -- GRAND(q) IS SPLIT
 module _ (z : Size) (mag : ℕ → ℕ) (neg : ℕ → Bool) (b : ℕ) (sd sg : ℕ → Bool)
     (c1 : (q : ℕ) → z .e ≤ q → T (sg q) → T (sd q)) (c2 : (p : ℕ) → T (sd p) → T (ltb p (D z) || sg (p / 4))) where
-
   -- a place below a child of q is covered by GRAND(q)
   by-grand : (q c k x : ℕ) → z .e ≤ q → StandsG z sd sg q → c < 4 → 1 ≤ k → x ≡ down k (4 * q + c) → (up (suc k) x ≡ q) × Cov z sd sg (suc k) (up (suc k) x)
   by-grand q c k x h s l p e =
@@ -179,6 +179,7 @@ module _ (z : Size) (mag : ℕ → ℕ) (neg : ℕ → Bool) (b : ℕ) (sd sg : 
       coef x u t =
           kids-miss z mag neg b 4 m q x (omega arith) (λ c k l p e. clash z sd sg c1 c2 (suc k) x ((by-grand q c k x h s l p e) .1) t)
           ∙ w .coef x u t
+
       grand : (k a : ℕ) → 2 ≤ k → z .e ≤ a → StandsG z sd (flip q sg) a → down k a < I z → kids z mag neg b 4 m q (down k a) ≡ code true k
       grand k a p v t u = tell (eqb a q) refl
         where
@@ -189,6 +190,7 @@ module _ (z : Size) (mag : ℕ → ℕ) (neg : ℕ → Bool) (b : ℕ) (sd sg : 
               let cv : Cov z sd sg k (up k (down k a)) = rw (up-down k a) (omega arith, v, inr (p, st)) in
               kids-miss z mag neg b 4 m q (down k a) (omega arith) (λ c k′ l p′ e′. eqb-false a q e (one-set q c k k′ a h s l p′ e′ cv))
               ∙ w .grand k a p v st u
+
       desc : (k a : ℕ) → 1 ≤ k → z .e ≤ a → StandsD z sd (flip q sg) a → down k a < I z → kids z mag neg b 4 m q (down k a) ≡ code false k
       desc k a p v t u = tell (eqb (a / 4) q) refl
         where
@@ -218,8 +220,12 @@ module _ (z : Size) (mag : ℕ → ℕ) (neg : ℕ → Bool) (b : ℕ) (sd sg : 
   four-miss : (m : Table) (p y : ℕ) → (y / 4 ≡ p → ⊥) → four m p y ≡ m y
   unfolding four
   four-miss m p y h =
-      rw (ne-eqb y (4 * p + 3) (λ e. h (omega arith)), ne-eqb y (4 * p + 2) (λ e. h (omega arith)), ne-eqb y (4 * p + 1) (λ e. h (omega arith)),
-      ne-eqb y (4 * p) (λ e. h (omega arith)))
+      rw (
+        ne-eqb y (4 * p + 3) (λ e. h (omega arith)),
+        ne-eqb y (4 * p + 2) (λ e. h (omega arith)),
+        ne-eqb y (4 * p + 1) (λ e. h (omega arith)),
+        ne-eqb y (4 * p) (λ e. h (omega arith)),
+      )
 
   opened-desc : (m : Table) (p : ℕ) → open-desc z mag neg b m (4 * p) ≡ cond (ltb (4 * (4 * p)) (I z)) (put (four m p) (4 * (4 * p)) 6) (four m p)
   unfolding open-desc four
@@ -249,18 +255,22 @@ module _ (z : Size) (mag : ℕ → ℕ) (neg : ℕ → Bool) (b : ℕ) (sd sg : 
       -- the children and the grandchildren of p are covered by DESC(p)
       cov-kid : (x : ℕ) → x / 4 ≡ p → Cov z sd sg 1 (up 1 x)
       cov-kid x e = let u : up 1 x ≡ p = unfold up in e in rw u (omega arith, h, inl s)
+
       cov-grandkid : (x : ℕ) → x ≡ 4 * (4 * p) → Cov z sd sg 2 (up 2 x)
       cov-grandkid x e = let u : up 2 x ≡ p = unfold up in (omega arith) in rw u (omega arith, h, inl s)
+
       one-one : (k a : ℕ) → Cov z sd sg k (up k (down k a)) → down k a / 4 ≡ p → (k ≡ 1) × (a ≡ p)
       one-one k a cv e =
           let same : k ≡ 1 = unique z sd sg c1 c2 k 1 (down k a) cv (cov-kid (down k a) e) in
           let u : up 1 (down k a) ≡ p = unfold up in e in
           (same, sym (up-down k a) ∙ ap (λ (n : ℕ). up n (down k a)) same ∙ u)
+
       one-two : (k a : ℕ) → Cov z sd sg k (up k (down k a)) → down k a ≡ 4 * (4 * p) → (k ≡ 2) × (a ≡ p)
       one-two k a cv e =
           let same : k ≡ 2 = unique z sd sg c1 c2 k 2 (down k a) cv (cov-grandkid (down k a) e) in
           let u : up 2 (down k a) ≡ p = unfold up in (omega arith) in
           (same, sym (up-down k a) ∙ ap (λ (n : ℕ). up n (down k a)) same ∙ u)
+
       coef : (x : ℕ) → x < I z → Alone z (flip p sd) sg x → open-desc z mag neg b m (4 * p) x ≡ cond (eqb (x / 4) p) 4 (cs x)
       coef x u t = tell (eqb (x / 4) p) refl
         where
@@ -271,6 +281,7 @@ module _ (z : Size) (mag : ℕ → ℕ) (neg : ℕ → Bool) (b : ℕ) (sd sg : 
               rw e
               (untouched m p x (eqb-false (x / 4) p e) (λ o. clash z sd sg c1 c2 2 x (cov-grandkid x o) old)
               ∙ w .coef x u old)
+
       desc : (k a : ℕ) → 1 ≤ k → z .e ≤ a → StandsD z (flip p sd) sg a → down k a < I z → open-desc z mag neg b m (4 * p) (down k a) ≡ code false k
       desc k a l v t u = tell (eqb a p) refl
         where
@@ -281,6 +292,7 @@ module _ (z : Size) (mag : ℕ → ℕ) (neg : ℕ → Bool) (b : ℕ) (sd sg : 
               let cv : Cov z sd sg k (up k (down k a)) = rw (up-down k a) (l, v, inl st) in
               untouched m p (down k a) (λ o. eqb-false a p e ((one-one k a cv o) .1)) (λ o. eqb-false a p e ((one-two k a cv o) .1))
               ∙ w .desc k a l v st u
+
       grand : (k a : ℕ) → 2 ≤ k → z .e ≤ a → StandsG z (flip p sd) sg a → down k a < I z → open-desc z mag neg b m (4 * p) (down k a) ≡ code true k
       grand k a l v t u = tell (eqb a p) refl
         where
@@ -292,6 +304,7 @@ module _ (z : Size) (mag : ℕ → ℕ) (neg : ℕ → Bool) (b : ℕ) (sd sg : 
               untouched m p (down (suc (suc (suc n))) p) (λ o. omega (arith, down-far n p)) (λ o. omega (arith, down-far n p))
               ∙ w .desc (suc (suc (suc n))) p (omega arith) h s u
               ∙ code-far false (suc (suc (suc n))) (omega arith) ∙ sym (code-far true (suc (suc (suc n))) (omega arith))
+
           tell : (r : Bool) → eqb a p ≡ r → open-desc z mag neg b m (4 * p) (down k a) ≡ code true k
           tell true e = let same : a ≡ p = eqb-true a p e in subst (λ (n : ℕ). down k n < I z → open-desc z mag neg b m (4 * p) (down k n) ≡ code true k) (sym same) (far k l) u
           tell false e =
@@ -310,9 +323,10 @@ module _ (z : Size) (sd sg sd′ sg′ : ℕ → Bool) (hd : (y : ℕ) → z .e 
   same-alone x t = same-or (ltb x (D z)) (sd (x / 4)) (sd′ (x / 4)) (λ o. let l : D z ≤ x = nltb→le x (D z) o in hd (x / 4) (omega arith)) t
 
   pub same-desc : (a : ℕ) → z .e ≤ a → StandsD z sd sg a → StandsD z sd′ sg′ a
-  same-desc a h s =
-      (rw (hd a h) at (s .0),
-      same-or (ltb a (D z)) (sg (a / 4)) (sg′ (a / 4)) (λ o. let l : D z ≤ a = nltb→le a (D z) o in hg (a / 4) (omega arith)) (s .1))
+  same-desc a h s = (
+    rw (hd a h) at (s .0),
+    same-or (ltb a (D z)) (sg (a / 4)) (sg′ (a / 4)) (λ o. let l : D z ≤ a = nltb→le a (D z) o in hg (a / 4) (omega arith)) (s .1),
+  )
 
   same-grand : (a : ℕ) → z .e ≤ a → StandsG z sd sg a → StandsG z sd′ sg′ a
   same-grand a h s = (rw (hd a h) at (s .0), rw (hg a h) at (s .1))
@@ -326,12 +340,14 @@ module _ (z : Size) (sd sg sd′ sg′ : ℕ → Bool) (hd : (y : ℕ) → z .e 
 pub same-marks : (z : Size) (sd sg sd′ sg′ : ℕ → Bool) (hd : (y : ℕ) → z .e ≤ y → sd y ≡ sd′ y) (hg : (y : ℕ) → z .e ≤ y → sg y ≡ sg′ y)
     (cs cs′ : ℕ → ℕ) (m : Table) → ((x : ℕ) → x < I z → Alone z sd sg x → cs x ≡ cs′ x) → Marks z sd sg cs m → Marks z sd′ sg′ cs′ m
 same-marks z sd sg sd′ sg′ hd hg cs cs′ m h w =
-    record
-    { coef = λ x u t. let old : Alone z sd sg x = same-alone z sd′ sg′ sd sg hd′ hg′ x t in w .coef x u old ∙ h x u old
-    ; desc = λ k a l v s u. w .desc k a l v (same-desc z sd′ sg′ sd sg hd′ hg′ a v s) u
-    ; grand = λ k a l v s u. w .grand k a l v (same-grand z sd′ sg′ sd sg hd′ hg′ a v s) u }
+    record {
+      coef = λ x u t. let old : Alone z sd sg x = same-alone z sd′ sg′ sd sg hd′ hg′ x t in w .coef x u old ∙ h x u old;
+      desc = λ k a l v s u. w .desc k a l v (same-desc z sd′ sg′ sd sg hd′ hg′ a v s) u;
+      grand = λ k a l v s u. w .grand k a l v (same-grand z sd′ sg′ sd sg hd′ hg′ a v s) u;
+    }
   where
     hd′ : (y : ℕ) → z .e ≤ y → sd′ y ≡ sd y
     hd′ y l = sym (hd y l)
+
     hg′ : (y : ℕ) → z .e ≤ y → sg′ y ≡ sg y
     hg′ y l = sym (hg y l)

@@ -67,8 +67,8 @@ module _ (z : Size) (mag : ℕ → ℕ) where
     unfolding pixel alone
     pixel-quiet k x u c =
         let no-one : (ltb x (D z) || split-desc z mag (suc b) (x / 4)) ≡ false =
-            T-false (ltb x (D z) || split-desc z mag (suc b) (x / 4))
-            (clash z (split-desc z mag (suc b)) (split-grand z mag (suc b)) (closed1 (suc b)) (desc-known z mag (suc b)) k x c) in
+        T-false (ltb x (D z) || split-desc z mag (suc b) (x / 4))
+        (clash z (split-desc z mag (suc b)) (split-grand z mag (suc b)) (closed1 (suc b)) (desc-known z mag (suc b)) k x c) in
         rw no-one
 
     pixel-coef : (m : Table) (x : ℕ) → x < I z → Alone z (split-desc z mag (suc b)) (split-grand z mag (suc b)) x → m x ≡ rest (suc b) x
@@ -80,6 +80,7 @@ module _ (z : Size) (mag : ℕ → ℕ) where
       where
         here : (ltb x (D z) || split-desc z mag (suc b) (x / 4)) ≡ true
         here = T-true (ltb x (D z) || split-desc z mag (suc b) (x / 4)) t
+
         tell : (s : Bool) → big z mag (suc b) x ≡ s
             → ((pixel-step z mag neg b m x) .0 ≡ pixel z mag neg b x)
             × ((y : ℕ) → (pixel-step z mag neg b m x) .1 y ≡ cond (eqb y x) (found b x) (m y))
@@ -109,15 +110,15 @@ module _ (z : Size) (mag : ℕ → ℕ) where
         (I z) 0 m (omega arith)
         (first-spot z (split-desc z mag (suc b)) (split-grand z mag (suc b)) (closed1 (suc b)) (desc-known z mag (suc b)))
         (retell z (split-desc z mag (suc b)) (split-grand z mag (suc b)) (closed1 (suc b)) (desc-known z mag (suc b))
-          (rest (suc b)) (halfway (found b) (rest (suc b)) 0) m (λ x u t. rw (le-ltb x 0 (omega arith))) k))
+        (rest (suc b)) (halfway (found b) (rest (suc b)) 0) m (λ x u t. rw (le-ltb x 0 (omega arith))) k))
 
     -- REFINEMENT PASS
     refine-quiet : (k x : ℕ) → x < I z → Cov z (split-desc z mag b) (split-grand z mag b) k (up k x) → refine z mag neg b x ≡ []
     unfolding refine
     refine-quiet k x u c =
         let no-one : big z mag (suc b) x ≡ false =
-            T-false (big z mag (suc b) x)
-            (λ t. clash z (split-desc z mag b) (split-grand z mag b) (closed1 b) (desc-known z mag b) k x c (big-alone z mag b x u (big-mono z mag b x t))) in
+        T-false (big z mag (suc b) x)
+        (λ t. clash z (split-desc z mag b) (split-grand z mag b) (closed1 b) (desc-known z mag b) k x c (big-alone z mag b x u (big-mono z mag b x t))) in
         rw no-one
 
     refine-coef : (m : Table) (x : ℕ) → x < I z → Alone z (split-desc z mag b) (split-grand z mag b) x → m x ≡ found b x
@@ -161,4 +162,4 @@ module _ (z : Size) (mag : ℕ → ℕ) where
         (I z) 0 m (omega arith)
         (first-spot z (split-desc z mag b) (split-grand z mag b) (closed1 b) (desc-known z mag b))
         (retell z (split-desc z mag b) (split-grand z mag b) (closed1 b) (desc-known z mag b)
-          (found b) (halfway (rest b) (found b) 0) m (λ x u t. rw (le-ltb x 0 (omega arith))) k))
+        (found b) (halfway (rest b) (found b) 0) m (λ x u t. rw (le-ltb x 0 (omega arith))) k))

@@ -86,7 +86,7 @@ module _ (z : Size) (mag : ℕ → ℕ) (neg : ℕ → Bool) (b : ℕ) where
   closed-1 g d l q h t =
       ⊎-elim
       (λ o. let s : T (split-desc z mag (suc b) q) = closed1 z mag (suc b) q h (rw (sgt-out g q o) at t) in
-        ⊎-elim (λ r. rw (sdt-out d q r) s) (λ r. rw (sdt-in d q r) (desc-shrinks z mag b q s)) (order d q))
+      ⊎-elim (λ r. rw (sdt-out d q r) s) (λ r. rw (sdt-in d q r) (desc-shrinks z mag b q s)) (order d q))
       (λ o. rw (sdt-in d q (omega arith)) (closed1 z mag b q h (rw (sgt-in g q o) at t)))
       (order g (4 * q))
 
@@ -94,8 +94,8 @@ module _ (z : Size) (mag : ℕ → ℕ) (neg : ℕ → Bool) (b : ℕ) where
   closed-2 g d l p t =
       ⊎-elim
       (λ o. or-map (ltb p (D z)) (split-grand z mag (suc b) (p / 4)) (sgt g (p / 4))
-        (λ s. ⊎-elim (λ r. rw (sgt-out g (p / 4) r) s) (λ r. rw (sgt-in g (p / 4) r) (grand-shrinks z mag b (p / 4) s)) (order g (4 * (p / 4))))
-        (desc-known z mag (suc b) p (rw (sdt-out d p o) at t)))
+      (λ s. ⊎-elim (λ r. rw (sgt-out g (p / 4) r) s) (λ r. rw (sgt-in g (p / 4) r) (grand-shrinks z mag b (p / 4) s)) (order g (4 * (p / 4))))
+      (desc-known z mag (suc b) p (rw (sdt-out d p o) at t)))
       (λ o. rw (sgt-in g (p / 4) (omega arith)) (desc-known z mag b p (rw (sdt-in d p o) at t)))
       (order d p)
 
@@ -167,12 +167,13 @@ module _ (z : Size) (mag : ℕ → ℕ) (neg : ℕ → Bool) (b : ℕ) where
   -- the end
   done : (f p : ℕ) (m : Table) → Q z ≤ p → State p p (4 * p) m → Res f m (4 * p) (each p (Q z - p) (λ k. group z mag neg b k))
   done f p m h w =
-      rw (go-over z (set-step z mag neg b) f m (4 * p) (omega arith))
-      (sym (each-at p p (Q z - p) 0 (λ k. group z mag neg b k) refl (omega arith) ∙ each-none p (λ k. group z mag neg b k)),
-      same-marks z (sdt p) (sgt p) (split-desc z mag b) (split-grand z mag b)
-      (λ y l. ⊎-elim (λ o. sdt-out p y o ∙ empty-desc (suc b) y (omega arith) ∙ sym (empty-desc b y (omega arith))) (λ o. sdt-in p y o) (order p y))
-      (λ y l. ⊎-elim (λ o. sgt-out p y o ∙ empty-grand (suc b) y (omega arith) ∙ sym (empty-grand b y (omega arith))) (λ o. sgt-in p y o) (order p (4 * y)))
-      (λ x. cst (4 * p) x) (λ x. found z mag b x) m (λ x u t. cst-past (4 * p) x (omega arith)) w)
+      rw (go-over z (set-step z mag neg b) f m (4 * p) (omega arith)) (
+        sym (each-at p p (Q z - p) 0 (λ k. group z mag neg b k) refl (omega arith) ∙ each-none p (λ k. group z mag neg b k)),
+        same-marks z (sdt p) (sgt p) (split-desc z mag b) (split-grand z mag b)
+            (λ y l. ⊎-elim (λ o. sdt-out p y o ∙ empty-desc (suc b) y (omega arith) ∙ sym (empty-desc b y (omega arith))) (λ o. sdt-in p y o) (order p y))
+            (λ y l. ⊎-elim (λ o. sgt-out p y o ∙ empty-grand (suc b) y (omega arith) ∙ sym (empty-grand b y (omega arith))) (λ o. sgt-in p y o) (order p (4 * y)))
+            (λ x. cst (4 * p) x) (λ x. found z mag b x) m (λ x u t. cst-past (4 * p) x (omega arith)) w,
+      )
 
   -- where a group writes nothing
   quiet-grand : (p : ℕ) → z .e ≤ p → (D z ≤ p → p % 4 ≡ 0 → T (not (split-desc z mag b (p / 4))) ⊎ T (split-grand z mag (suc b) (p / 4)))
@@ -192,15 +193,23 @@ module _ (z : Size) (mag : ℕ → ℕ) (neg : ℕ → Bool) (b : ℕ) where
   unfolding group test-desc children
   group-split p h t =
       let s : split-desc z mag (suc b) p ≡ true = T-true (split-desc z mag (suc b) p) t in
-      rw (quiet-grand p h (λ o r. inr (or-out (ltb p (D z)) (split-grand z mag (suc b) (p / 4)) (of-false (ltb p (D z)) (le-ltb p (D z) o)) (desc-known z mag (suc b) p t))),
-      s, and-false (ltb p (D z) || split-grand z mag b (p / 4)), and-false (split-desc z mag b p))
+      rw (
+        quiet-grand p h (λ o r. inr (or-out (ltb p (D z)) (split-grand z mag (suc b) (p / 4)) (of-false (ltb p (D z)) (le-ltb p (D z) o)) (desc-known z mag (suc b) p t))),
+        s,
+        and-false (ltb p (D z) || split-grand z mag b (p / 4)),
+        and-false (split-desc z mag b p),
+      )
 
   group-none : (p : ℕ) → D z ≤ p → T (not (split-desc z mag b p)) → T (not (split-grand z mag b (p / 4))) → (p % 4 ≡ 0 → T (not (split-desc z mag b (p / 4))))
       → group z mag neg b p ≡ []
   unfolding group test-desc children
   group-none p h x y w =
-      rw (quiet-grand p (omega arith) (λ o r. inl (w r)), le-ltb p (D z) h,
-      T-false (split-grand z mag b (p / 4)) (T-not (split-grand z mag b (p / 4)) y), T-false (split-desc z mag b p) (T-not (split-desc z mag b p) x))
+      rw (
+        quiet-grand p (omega arith) (λ o r. inl (w r)),
+        le-ltb p (D z) h,
+        T-false (split-grand z mag b (p / 4)) (T-not (split-grand z mag b (p / 4)) y),
+        T-false (split-desc z mag b p) (T-not (split-desc z mag b p) x),
+      )
 
   -- THE CHILDREN
   coded-step : (m : Table) (x : ℕ) → m x ≡ 4 → ((set-step z mag neg b m x) .0 ≡ coded z mag neg b x)
@@ -271,8 +280,10 @@ module _ (z : Size) (mag : ℕ → ℕ) (neg : ℕ → Bool) (b : ℕ) where
     where
       small : T (not (big z mag (suc b) c))
       small = not-T (big z mag (suc b) c) (λ t. T-not (split-desc z mag (suc b) p) y′ (child-splits z mag (suc b) p c (omega arith) l g k t))
+
       value : cond (bit z mag neg b c) 2 1 ≡ found z mag b c
       value = found-new c small
+
       tell : (x : ℕ) (t : Bool) → eqb x c ≡ t → cond (eqb x c) (cond (bit z mag neg b c) 2 1) (cst c x) ≡ cst (suc c) x
       tell x true o =
           let same : x ≡ c = eqb-true x c o in
@@ -285,14 +296,14 @@ module _ (z : Size) (mag : ℕ → ℕ) (neg : ℕ → Bool) (b : ℕ) where
       let next : suc c ≡ 4 * suc p = omega arith in
       let w′ : State (suc p) (suc p) (suc c) ((set-step z mag neg b m c) .1) = kid-state p c m e l y y′ g (omega arith) w in
       let sp : Spot z (sdt (suc p)) (sgt (suc p)) (suc c) =
-          after-alone z (sdt (suc p)) (sgt (suc p)) (closed-1 (suc p) (suc p) (omega arith)) (closed-2 (suc p) (suc p) (le-refl _)) c
-          (now-alone p c (suc p) g (omega arith) y) in
+      after-alone z (sdt (suc p)) (sgt (suc p)) (closed-1 (suc p) (suc p) (omega arith)) (closed-2 (suc p) (suc p) (le-refl _)) c
+      (now-alone p c (suc p) g (omega arith) y) in
       let r : Res f ((set-step z mag neg b m c) .1) (4 * suc p) (each (suc p) (Q z - suc p) (λ k. group z mag neg b k)) =
-          s0 (suc p) ((set-step z mag neg b m c) .1) (omega arith) (omega arith) (rw next at sp) (rw next at w′) in
+      s0 (suc p) ((set-step z mag neg b m c) .1) (omega arith) (omega arith) (rw next at sp) (rw next at w′) in
       subst (λ (o : List Bool). Res (suc f) m c o)
       (sym (ap (λ (o : List Bool). o ++ each (suc p) (Q z - suc p) (λ k. group z mag neg b k))
-        (each-cons c 0 (λ k. coded z mag neg b k) ∙ ap (λ (o : List Bool). coded z mag neg b c ++ o) (each-none (suc c) (λ k. coded z mag neg b k)))
-        ∙ append-assoc (coded z mag neg b c) [] (each (suc p) (Q z - suc p) (λ k. group z mag neg b k))))
+      (each-cons c 0 (λ k. coded z mag neg b k) ∙ ap (λ (o : List Bool). coded z mag neg b c ++ o) (each-none (suc c) (λ k. coded z mag neg b k)))
+      ∙ append-assoc (coded z mag neg b c) [] (each (suc p) (Q z - suc p) (λ k. group z mag neg b k))))
       (res-on f m ((set-step z mag neg b m c) .1) c (4 * suc p) (coded z mag neg b c) (each (suc p) (Q z - suc p) (λ k. group z mag neg b k))
       (omega arith) (st .0) refl (st .2 ∙ next) r)
   step2 f s0 s2 p c (suc n) m h e l y y′ g k w =
@@ -300,7 +311,7 @@ module _ (z : Size) (mag : ℕ → ℕ) (neg : ℕ → Bool) (b : ℕ) where
       let r = s2 p (suc c) n ((set-step z mag neg b m c) .1) (omega arith) e l y y′ (omega arith) (omega arith) (kid-state p c m e l y y′ g (omega arith) w) in
       subst (λ (o : List Bool). Res (suc f) m c o)
       (sym (ap (λ (o : List Bool). o ++ each (suc p) (Q z - suc p) (λ k. group z mag neg b k)) (each-cons c (suc n) (λ k. coded z mag neg b k))
-        ∙ append-assoc (coded z mag neg b c) (each (suc c) (suc n) (λ k. coded z mag neg b k)) (each (suc p) (Q z - suc p) (λ k. group z mag neg b k))))
+      ∙ append-assoc (coded z mag neg b c) (each (suc c) (suc n) (λ k. coded z mag neg b k)) (each (suc p) (Q z - suc p) (λ k. group z mag neg b k))))
       (res-on f m ((set-step z mag neg b m c) .1) c (suc c) (coded z mag neg b c)
       (each (suc c) (suc n) (λ k. coded z mag neg b k) ++ each (suc p) (Q z - suc p) (λ k. group z mag neg b k))
       (omega arith) (st .0) refl (st .2) r)
@@ -368,22 +379,26 @@ module _ (z : Size) (mag : ℕ → ℕ) (neg : ℕ → Bool) (b : ℕ) where
     where
       new : T (not (split-desc z mag (suc b) p))
       new = rw (sdt-out p p (le-refl p)) at (st .0)
+
       known : T (ltb p (D z) || split-grand z mag b (p / 4))
       known = rw (sgt-in (suc p) (p / 4) (omega arith)) at (st .1)
+
       R : List Bool
       R = each (suc p) (Q z - suc p) (λ k. group z mag neg b k)
+
       mark : m (4 * p) ≡ 5
       mark = md-mark m p (suc p) (4 * p) e l st w
+
       tell : (t : Bool) → split-desc z mag b p ≡ t
           → Res (suc f) m (4 * p) (test-desc z mag neg b p ++ (children z mag neg b p ++ each (suc p) (Q z - suc p) (λ k. group z mag neg b k)))
       tell true o =
           let y : T (split-desc z mag b p) = of-true (split-desc z mag b p) o in
           let sp = md-step m p mark new true o in
           let w′ : State (suc p) (suc p) (4 * p) (open-desc z mag neg b m (4 * p)) =
-              same-marks z (flip p (sdt p)) (sgt (suc p)) (sdt (suc p)) (sgt (suc p)) (λ k u. flip-d p y k) (λ k u. refl)
-              (λ x. cond (eqb (x / 4) p) 4 (cst (4 * p) x)) (λ x. cst (4 * p) x) (open-desc z mag neg b m (4 * p))
-              (λ x u t. fresh x (eqb (x / 4) p) refl)
-              (desc-opens z mag neg b (sdt p) (sgt (suc p)) (closed-1 (suc p) p (le-refl _)) (closed-2 (suc p) p (omega arith)) (λ x. cst (4 * p) x) m p e st w) in
+          same-marks z (flip p (sdt p)) (sgt (suc p)) (sdt (suc p)) (sgt (suc p)) (λ k u. flip-d p y k) (λ k u. refl)
+          (λ x. cond (eqb (x / 4) p) 4 (cst (4 * p) x)) (λ x. cst (4 * p) x) (open-desc z mag neg b m (4 * p))
+          (λ x u t. fresh x (eqb (x / 4) p) refl)
+          (desc-opens z mag neg b (sdt p) (sgt (suc p)) (closed-1 (suc p) p (le-refl _)) (closed-2 (suc p) p (omega arith)) (λ x. cst (4 * p) x) m p e st w) in
           let r = s2 p (4 * p) 3 (open-desc z mag neg b m (4 * p)) (omega arith) e l y new (le-refl _) (omega arith) w′ in
           rw (test-desc-is p known new, o, children-yes p y new)
           (res-on f m (open-desc z mag neg b m (4 * p)) (4 * p) (4 * p) (true ∷ []) (each (4 * p) 4 (λ k. coded z mag neg b k) ++ R)
@@ -399,15 +414,15 @@ module _ (z : Size) (mag : ℕ → ℕ) (neg : ℕ → Bool) (b : ℕ) where
           let sp = md-step m p mark new false o in
           let next : 4 * p + 4 ≡ 4 * suc p = omega arith in
           let hd : (y : ℕ) → z .e ≤ y → sdt p y ≡ sdt (suc p) y =
-              adv-d p (suc p) (omega arith) (λ y u v x. let s : y ≡ p = omega arith in rw s (same-false p n)) in
+          adv-d p (suc p) (omega arith) (λ y u v x. let s : y ≡ p = omega arith in rw s (same-false p n)) in
           let w′ : State (suc p) (suc p) (4 * suc p) m =
-              same-marks z (sdt p) (sgt (suc p)) (sdt (suc p)) (sgt (suc p)) hd (λ k u. refl) (λ x. cst (4 * p) x) (λ x. cst (4 * suc p) x) m
-              (λ x u t. adv-c (4 * p) (4 * suc p) x (omega arith) (λ v v′. alone-was p (suc p) x v t)) w in
+          same-marks z (sdt p) (sgt (suc p)) (sdt (suc p)) (sgt (suc p)) hd (λ k u. refl) (λ x. cst (4 * p) x) (λ x. cst (4 * suc p) x) m
+          (λ x u t. adv-c (4 * p) (4 * suc p) x (omega arith) (λ v v′. alone-was p (suc p) x v t)) w in
           let at : Spot z (sdt p) (sgt (suc p)) (4 * p + 4 ^ 1) =
-              after-run z (sdt p) (sgt (suc p)) (closed-1 (suc p) p (le-refl _)) (closed-2 (suc p) p (omega arith)) 1 (4 * p)
-              (rw (up-one p) (omega arith, e, inl st)) (rw (up-one p) (sym (down-one p))) in
+          after-run z (sdt p) (sgt (suc p)) (closed-1 (suc p) p (le-refl _)) (closed-2 (suc p) p (omega arith)) 1 (4 * p)
+          (rw (up-one p) (omega arith, e, inl st)) (rw (up-one p) (sym (down-one p))) in
           let at′ : Spot z (sdt (suc p)) (sgt (suc p)) (4 * suc p) =
-              rw next at (same-spot z (sdt p) (sgt (suc p)) (sdt (suc p)) (sgt (suc p)) hd (λ k u. refl) (4 * p + 4) at) in
+          rw next at (same-spot z (sdt p) (sgt (suc p)) (sdt (suc p)) (sgt (suc p)) hd (λ k u. refl) (4 * p + 4) at) in
           let r = s0 (suc p) m (omega arith) (omega arith) at′ w′ in
           rw (test-desc-is p known new, o, children-no p n)
           (res-on f m m (4 * p) (4 * suc p) (false ∷ []) R (omega arith) (sp .0) (sp .1) (sp .2 ∙ next) r)
@@ -425,28 +440,28 @@ module _ (z : Size) (mag : ℕ → ℕ) (neg : ℕ → Bool) (b : ℕ) where
   alone0 f s0 p m h e l t w =
       let four : 4 * p / 4 ≡ p = omega arith in
       let y : T (split-desc z mag (suc b) p) =
-          rw (four, sdt-out p p (le-refl p)) at (or-out (ltb (4 * p) (D z)) (sdt p (4 * p / 4)) (of-false (ltb (4 * p) (D z)) (le-ltb (4 * p) (D z) (omega arith))) t) in
+      rw (four, sdt-out p p (le-refl p)) at (or-out (ltb (4 * p) (D z)) (sdt p (4 * p / 4)) (of-false (ltb (4 * p) (D z)) (le-ltb (4 * p) (D z) (omega arith))) t) in
       let mark : m (4 * p) ≡ found z mag b (4 * p) = w .coef (4 * p) (omega arith) t ∙ cst-was (4 * p) (4 * p) (alone-was p p (4 * p) (le-refl _) t) in
       let st = coef-step m (4 * p) (found z mag b (4 * p)) mark (found-le (4 * p)) in
       let hd : (k : ℕ) → z .e ≤ k → sdt p k ≡ sdt (suc p) k =
-          adv-d p (suc p) (omega arith)
-          (λ k u v x. let s : k ≡ p = omega arith in rw s (both (split-desc z mag b p) (split-desc z mag (suc b) p) (desc-shrinks z mag b p y) y)) in
+      adv-d p (suc p) (omega arith)
+      (λ k u v x. let s : k ≡ p = omega arith in rw s (both (split-desc z mag b p) (split-desc z mag (suc b) p) (desc-shrinks z mag b p y) y)) in
       let hg : (k : ℕ) → z .e ≤ k → sgt p k ≡ sgt (suc p) k =
-          adv-g p (suc p) (omega arith)
-          (λ k u v x. let s : p / 4 ≡ k = omega arith in
-            let g : T (split-grand z mag (suc b) k) =
-                rw s at (or-out (ltb p (D z)) (split-grand z mag (suc b) (p / 4)) (of-false (ltb p (D z)) (le-ltb p (D z) (omega arith))) (desc-known z mag (suc b) p y)) in
-            both (split-grand z mag b k) (split-grand z mag (suc b) k) (grand-shrinks z mag b k g) g) in
+      adv-g p (suc p) (omega arith)
+      (λ k u v x. let s : p / 4 ≡ k = omega arith in
+      let g : T (split-grand z mag (suc b) k) =
+      rw s at (or-out (ltb p (D z)) (split-grand z mag (suc b) (p / 4)) (of-false (ltb p (D z)) (le-ltb p (D z) (omega arith))) (desc-known z mag (suc b) p y)) in
+      both (split-grand z mag b k) (split-grand z mag (suc b) k) (grand-shrinks z mag b k g) g) in
       let w′ : State (suc p) (suc p) (4 * suc p) m =
-          same-marks z (sdt p) (sgt p) (sdt (suc p)) (sgt (suc p)) hd hg (λ x. cst (4 * p) x) (λ x. cst (4 * suc p) x) m
-          (λ x u v. adv-c (4 * p) (4 * suc p) x (omega arith) (λ o o′. alone-was p p x o v)) w in
+      same-marks z (sdt p) (sgt p) (sdt (suc p)) (sgt (suc p)) hd hg (λ x. cst (4 * p) x) (λ x. cst (4 * suc p) x) m
+      (λ x u v. adv-c (4 * p) (4 * suc p) x (omega arith) (λ o o′. alone-was p p x o v)) w in
       let last : (4 * p + 3) / 4 ≡ p = omega arith in
       let lone : Alone z (sdt p) (sgt p) (4 * p + 3) = or-true (ltb (4 * p + 3) (D z)) (sdt p ((4 * p + 3) / 4)) (rw (last, sdt-out p p (le-refl p)) y) in
       let at : Spot z (sdt p) (sgt p) (suc (4 * p + 3)) =
-          after-alone z (sdt p) (sgt p) (closed-1 p p (omega arith)) (closed-2 p p (le-refl p)) (4 * p + 3) lone in
+      after-alone z (sdt p) (sgt p) (closed-1 p p (omega arith)) (closed-2 p p (le-refl p)) (4 * p + 3) lone in
       let next : suc (4 * p + 3) ≡ 4 * suc p = omega arith in
       let at′ : Spot z (sdt (suc p)) (sgt (suc p)) (4 * suc p) =
-          rw next at (same-spot z (sdt p) (sgt p) (sdt (suc p)) (sgt (suc p)) hd hg (suc (4 * p + 3)) at) in
+      rw next at (same-spot z (sdt p) (sgt p) (sdt (suc p)) (sgt (suc p)) hd hg (suc (4 * p + 3)) at) in
       let go-to : 4 * p + 4 ≡ 4 * suc p = omega arith in
       let r = s0 (suc p) m (omega arith) (omega arith) at′ w′ in
       rw (out-cons p l, group-split p e y)
@@ -470,7 +485,7 @@ module _ (z : Size) (mag : ℕ → ℕ) (neg : ℕ → Bool) (b : ℕ) where
   unfolding up
   under-g k y h n =
       let g : T (not (split-grand z mag b (y / 4))) =
-          below-sg z (split-desc z mag b) (split-grand z mag b) (closed1 z mag b) (desc-known z mag b) k y h n in
+      below-sg z (split-desc z mag b) (split-grand z mag b) (closed1 z mag b) (desc-known z mag b) k y h n in
       let high : D z ≤ y = omega (arith, up-le k (y / 4)) in
       (high, g, not-sd z (split-desc z mag b) (split-grand z mag b) (closed1 z mag b) (desc-known z mag b) y high g)
 
@@ -516,18 +531,18 @@ module _ (z : Size) (mag : ℕ → ℕ) (neg : ℕ → Bool) (b : ℕ) where
     unfolding group
     md0 st =
         let hg : (k : ℕ) → z .e ≤ k → sgt p k ≡ sgt (suc p) k =
-            adv-g p (suc p) (omega arith)
-            (λ k u v x. let s : p / 4 ≡ k = omega arith in
-              let g : T (split-grand z mag (suc b) k) =
-                  rw (sgt-out p k v) at (rw s at (or-out (ltb p (D z)) (sgt p (p / 4)) (of-false (ltb p (D z)) (le-ltb p (D z) (omega arith))) (st .1))) in
-              both (split-grand z mag b k) (split-grand z mag (suc b) k) (grand-shrinks z mag b k g) g) in
+        adv-g p (suc p) (omega arith)
+        (λ k u v x. let s : p / 4 ≡ k = omega arith in
+        let g : T (split-grand z mag (suc b) k) =
+        rw (sgt-out p k v) at (rw s at (or-out (ltb p (D z)) (sgt p (p / 4)) (of-false (ltb p (D z)) (le-ltb p (D z) (omega arith))) (st .1))) in
+        both (split-grand z mag b k) (split-grand z mag (suc b) k) (grand-shrinks z mag b k g) g) in
         let none : cond (leb (D z) p && eqb (p % 4) 0) (test-grand z mag neg b (p / 4)) [] ≡ [] =
-            quiet-grand p e
-            (λ o r. inr (rw (sgt-out p (p / 4) (omega arith)) at (or-out (ltb p (D z)) (sgt p (p / 4)) (of-false (ltb p (D z)) (le-ltb p (D z) o)) (st .1)))) in
+        quiet-grand p e
+        (λ o r. inr (rw (sgt-out p (p / 4) (omega arith)) at (or-out (ltb p (D z)) (sgt p (p / 4)) (of-false (ltb p (D z)) (le-ltb p (D z) o)) (st .1)))) in
         let st′ : StandsD z (sdt p) (sgt (suc p)) p =
-            same-desc z (sdt p) (sgt p) (sdt p) (sgt (suc p)) (λ k u. refl) hg p e st in
+        same-desc z (sdt p) (sgt p) (sdt p) (sgt (suc p)) (λ k u. refl) hg p e st in
         let w′ : State (suc p) p (4 * p) m =
-            same-marks z (sdt p) (sgt p) (sdt p) (sgt (suc p)) (λ k u. refl) hg (λ x. cst (4 * p) x) (λ x. cst (4 * p) x) m (λ x u v. refl) w in
+        same-marks z (sdt p) (sgt p) (sdt p) (sgt (suc p)) (λ k u. refl) hg (λ x. cst (4 * p) x) (λ x. cst (4 * p) x) m (λ x u v. refl) w in
         rw (out-cons p l, none, append-assoc (test-desc z mag neg b p) (children z mag neg b p) (each (suc p) (Q z - suc p) (λ k. group z mag neg b k)))
         (s1′ p m (omega arith) e l st′ w′)
 
@@ -537,30 +552,37 @@ module _ (z : Size) (mag : ℕ → ℕ) (neg : ℕ → Bool) (b : ℕ) where
       where
         R : List Bool
         R = each (suc p) (Q z - suc p) (λ k. group z mag neg b k)
+
         up-is : p / 4 ≡ a
         up-is = omega arith
+
         yes-d : T (split-desc z mag b a)
         yes-d = rw (sdt-in p a (omega arith)) at (st .0)
+
         not-g : T (not (split-grand z mag (suc b) a))
         not-g = rw (sgt-out p a (omega arith)) at (st .1)
+
         mark : m (4 * p) ≡ 6
         mark = mg-mark m p a v d l st w
+
         -- the children of a are not split before
         old-kid : (k : ℕ) → 4 * a ≤ k → k < 4 * a + 4 → T (not (split-desc z mag (suc b) k))
         old-kid k u x = not-T (split-desc z mag (suc b) k) (λ t. T-not (split-grand z mag (suc b) a) not-g (desc-splits z mag (suc b) a k u x t))
+
         tell : (t : Bool) → split-grand z mag b a ≡ t → Res (suc f) m (4 * p) (each p (Q z - p) (λ k. group z mag neg b k))
         tell true o =
             let y : T (split-grand z mag b a) = of-true (split-grand z mag b a) o in
             let sp = mg-step m p a mark d not-g true o in
             let sixteen : 4 * p ≡ 16 * a = omega arith in
             let w′ : State (suc p) p (4 * p) (open-grand z mag neg b m (4 * p)) =
-                same-marks z (sdt p) (flip a (sgt p)) (sdt p) (sgt (suc p)) (λ k u. refl) (λ k u. flip-g p a d y k)
-                (λ x. cst (4 * p) x) (λ x. cst (4 * p) x) (open-grand z mag neg b m (4 * p)) (λ x u t. refl)
-                (rw sixteen
-                (rw sixteen at (grand-opens z mag neg b (sdt p) (sgt p) (closed-1 p p (omega arith)) (closed-2 p p (le-refl p)) (λ x. cst (4 * p) x) m a v st w))) in
-            let st′ : StandsD z (sdt p) (sgt (suc p)) p =
-                (rw (sdt-out p p (le-refl p)) (old-kid p (omega arith) (omega arith)),
-                or-true (ltb p (D z)) (sgt (suc p) (p / 4)) (rw (up-is, sgt-in (suc p) a (omega arith)) y)) in
+            same-marks z (sdt p) (flip a (sgt p)) (sdt p) (sgt (suc p)) (λ k u. refl) (λ k u. flip-g p a d y k)
+            (λ x. cst (4 * p) x) (λ x. cst (4 * p) x) (open-grand z mag neg b m (4 * p)) (λ x u t. refl)
+            (rw sixteen
+            (rw sixteen at (grand-opens z mag neg b (sdt p) (sgt p) (closed-1 p p (omega arith)) (closed-2 p p (le-refl p)) (λ x. cst (4 * p) x) m a v st w))) in
+            let st′ : StandsD z (sdt p) (sgt (suc p)) p = (
+              rw (sdt-out p p (le-refl p)) (old-kid p (omega arith) (omega arith)),
+              or-true (ltb p (D z)) (sgt (suc p) (p / 4)) (rw (up-is, sgt-in (suc p) a (omega arith)) y),
+            ) in
             let r = s1 p (open-grand z mag neg b m (4 * p)) h e l st′ w′ in
             rw (out-cons p l, group-grand p a v d yes-d not-g, o, append-assoc (test-desc z mag neg b p) (children z mag neg b p) R)
             (res-on f m (open-grand z mag neg b m (4 * p)) (4 * p) (4 * p) (true ∷ []) (test-desc z mag neg b p ++ (children z mag neg b p ++ R))
@@ -569,27 +591,28 @@ module _ (z : Size) (mag : ℕ → ℕ) (neg : ℕ → Bool) (b : ℕ) where
             let ng : T (not (split-grand z mag b a)) = of-false (split-grand z mag b a) o in
             let sp = mg-step m p a mark d not-g false o in
             let hd : (k : ℕ) → z .e ≤ k → sdt p k ≡ sdt (p + 4) k =
-                adv-d p (p + 4) (omega arith) (λ k u x x′. same-false k (kid-no ng k (omega arith) (omega arith))) in
+            adv-d p (p + 4) (omega arith) (λ k u x x′. same-false k (kid-no ng k (omega arith) (omega arith))) in
             let hg : (k : ℕ) → z .e ≤ k → sgt p k ≡ sgt (p + 4) k =
-                adv-g p (p + 4) (omega arith) (λ k u x x′. let s : k ≡ a = omega arith in rw s (same-false-g a ng)) in
+            adv-g p (p + 4) (omega arith) (λ k u x x′. let s : k ≡ a = omega arith in rw s (same-false-g a ng)) in
             let w′ : State (p + 4) (p + 4) (4 * (p + 4)) m =
-                same-marks z (sdt p) (sgt p) (sdt (p + 4)) (sgt (p + 4)) hd hg (λ x. cst (4 * p) x) (λ x. cst (4 * (p + 4)) x) m
-                (λ x u t. adv-c (4 * p) (4 * (p + 4)) x (omega arith) (λ y y′. alone-was p p x y t)) w in
+            same-marks z (sdt p) (sgt p) (sdt (p + 4)) (sgt (p + 4)) hd hg (λ x. cst (4 * p) x) (λ x. cst (4 * (p + 4)) x) m
+            (λ x u t. adv-c (4 * p) (4 * (p + 4)) x (omega arith) (λ y y′. alone-was p p x y t)) w in
             let at : Spot z (sdt p) (sgt p) (4 * p + 4 ^ 2) =
-                after-run z (sdt p) (sgt p) (closed-1 p p (omega arith)) (closed-2 p p (le-refl p)) 2 (4 * p)
-                (rw (up-two p a d) (omega arith, v, inr (omega arith, st))) (rw (up-two p a d) (sym (down-two′ p a d))) in
+            after-run z (sdt p) (sgt p) (closed-1 p p (omega arith)) (closed-2 p p (le-refl p)) 2 (4 * p)
+            (rw (up-two p a d) (omega arith, v, inr (omega arith, st))) (rw (up-two p a d) (sym (down-two′ p a d))) in
             let next : 4 * p + 16 ≡ 4 * (p + 4) = omega arith in
             let at′ : Spot z (sdt (p + 4)) (sgt (p + 4)) (4 * (p + 4)) =
-                rw next at (same-spot z (sdt p) (sgt p) (sdt (p + 4)) (sgt (p + 4)) hd hg (4 * p + 16) at) in
+            rw next at (same-spot z (sdt p) (sgt p) (sdt (p + 4)) (sgt (p + 4)) hd hg (4 * p + 16) at) in
             let jump : each (suc p) (Q z - suc p) (λ k. group z mag neg b k) ≡ each (p + 4) (Q z - (p + 4)) (λ k. group z mag neg b k) =
-                each-jump (suc p) 3 (Q z - suc p) (λ k. group z mag neg b k) (λ k u x x′. quiet ng k (omega arith) (omega arith))
-                ∙ each-at (suc p + 3) (p + 4) (Q z - suc p - 3) (Q z - (p + 4)) (λ k. group z mag neg b k) (omega arith) (omega arith) in
+            each-jump (suc p) 3 (Q z - suc p) (λ k. group z mag neg b k) (λ k u x x′. quiet ng k (omega arith) (omega arith))
+            ∙ each-at (suc p + 3) (p + 4) (Q z - suc p - 3) (Q z - (p + 4)) (λ k. group z mag neg b k) (omega arith) (omega arith) in
             let r = s0 (p + 4) m (omega arith) (omega arith) at′ w′ in
             rw (out-cons p l, group-grand p a v d yes-d not-g, o, test-desc-no p (omega arith) (rw up-is ng), children-no p (kid-no ng p (omega arith) (omega arith)), jump)
             (res-on f m m (4 * p) (4 * (p + 4)) (false ∷ []) (each (p + 4) (Q z - (p + 4)) (λ k. group z mag neg b k)) (omega arith) (sp .0) (sp .1) (sp .2 ∙ next) r)
           where
             kid-no : T (not (split-grand z mag b a)) → (k : ℕ) → 4 * a ≤ k → k < 4 * a + 4 → T (not (split-desc z mag b k))
             kid-no ng k u x = not-T (split-desc z mag b k) (λ t. T-not (split-grand z mag b a) ng (desc-splits z mag b a k u x t))
+
             quiet : T (not (split-grand z mag b a)) → (k : ℕ) → p < k → k < p + 4 → group z mag neg b k ≡ []
             quiet ng k u x =
                 let s : k / 4 ≡ a = omega arith in
@@ -604,20 +627,20 @@ module _ (z : Size) (mag : ℕ → ℕ) (neg : ℕ → Bool) (b : ℕ) where
         let four-W : 4 ^ suc (suc k) ≡ 4 * 4 ^ suc k = pow-succ' 4 (suc k) in
         let st = run-step m (4 * p) v mark big-v in
         let hd : (y : ℕ) → z .e ≤ y → sdt p y ≡ sdt (p + 4 ^ suc k) y =
-            adv-d p (p + 4 ^ suc k) (omega arith) (λ y u x x′. same-false y ((all y x x′) .2)) in
+        adv-d p (p + 4 ^ suc k) (omega arith) (λ y u x x′. same-false y ((all y x x′) .2)) in
         let hg : (y : ℕ) → z .e ≤ y → sgt p y ≡ sgt (p + 4 ^ suc k) y =
-            adv-g p (p + 4 ^ suc k) (omega arith)
-            (λ y u x x′. let s : 4 * y / 4 ≡ y = omega arith in same-false-g y (rw s at ((all (4 * y) x x′) .1))) in
+        adv-g p (p + 4 ^ suc k) (omega arith)
+        (λ y u x x′. let s : 4 * y / 4 ≡ y = omega arith in same-false-g y (rw s at ((all (4 * y) x x′) .1))) in
         let w′ : State (p + 4 ^ suc k) (p + 4 ^ suc k) (4 * (p + 4 ^ suc k)) m =
-            same-marks z (sdt p) (sgt p) (sdt (p + 4 ^ suc k)) (sgt (p + 4 ^ suc k)) hd hg (λ x. cst (4 * p) x) (λ x. cst (4 * (p + 4 ^ suc k)) x) m
-            (λ x u t. adv-c (4 * p) (4 * (p + 4 ^ suc k)) x (omega arith) (λ y y′. alone-was p p x y t)) w in
+        same-marks z (sdt p) (sgt p) (sdt (p + 4 ^ suc k)) (sgt (p + 4 ^ suc k)) hd hg (λ x. cst (4 * p) x) (λ x. cst (4 * (p + 4 ^ suc k)) x) m
+        (λ x u t. adv-c (4 * p) (4 * (p + 4 ^ suc k)) x (omega arith) (λ y y′. alone-was p p x y t)) w in
         let next : 4 * p + 4 ^ suc (suc k) ≡ 4 * (p + 4 ^ suc k) = omega arith in
         let at′ : Spot z (sdt (p + 4 ^ suc k)) (sgt (p + 4 ^ suc k)) (4 * (p + 4 ^ suc k)) =
-            rw next at (same-spot z (sdt p) (sgt p) (sdt (p + 4 ^ suc k)) (sgt (p + 4 ^ suc k)) hd hg (4 * p + 4 ^ suc (suc k)) at) in
+        rw next at (same-spot z (sdt p) (sgt p) (sdt (p + 4 ^ suc k)) (sgt (p + 4 ^ suc k)) hd hg (4 * p + 4 ^ suc (suc k)) at) in
         let jump : each p (Q z - p) (λ k. group z mag neg b k) ≡ each (p + 4 ^ suc k) (Q z - (p + 4 ^ suc k)) (λ k. group z mag neg b k) =
-            each-jump p (4 ^ suc k) (Q z - p) (λ k. group z mag neg b k)
-            (λ y u x x′. group-none y ((all y u x) .0) ((all y u x) .2) ((all y u x) .1) (λ even. q y (same y u x)))
-            ∙ each-at (p + 4 ^ suc k) (p + 4 ^ suc k) (Q z - p - 4 ^ suc k) (Q z - (p + 4 ^ suc k)) (λ k. group z mag neg b k) refl (omega arith) in
+        each-jump p (4 ^ suc k) (Q z - p) (λ k. group z mag neg b k)
+        (λ y u x x′. group-none y ((all y u x) .0) ((all y u x) .2) ((all y u x) .1) (λ even. q y (same y u x)))
+        ∙ each-at (p + 4 ^ suc k) (p + 4 ^ suc k) (Q z - p - 4 ^ suc k) (Q z - (p + 4 ^ suc k)) (λ k. group z mag neg b k) refl (omega arith) in
         let r = s0 (p + 4 ^ suc k) m (omega (arith, pow4-pos (suc k))) (omega arith) at′ w′ in
         rw jump
         (res-on f m m (4 * p) (4 * (p + 4 ^ suc k)) [] (each (p + 4 ^ suc k) (Q z - (p + 4 ^ suc k)) (λ k. group z mag neg b k)) (omega arith)
@@ -625,6 +648,7 @@ module _ (z : Size) (mag : ℕ → ℕ) (neg : ℕ → Bool) (b : ℕ) where
       where
         same : (y : ℕ) → p ≤ y → y < p + 4 ^ suc k → up (suc k) y ≡ up (suc k) p
         same y u x = in-run (suc k) (up (suc k) p) y (omega arith) (omega arith)
+
         all : (y : ℕ) → p ≤ y → y < p + 4 ^ suc k → (D z ≤ y) × T (not (split-grand z mag b (y / 4))) × T (not (split-desc z mag b y))
         all y u x = under-g k y (omega (arith, same y u x)) (rw (same y u x) n)
 
@@ -657,26 +681,26 @@ module _ (z : Size) (mag : ℕ → ℕ) (neg : ℕ → Bool) (b : ℕ) where
   ways f s0 s1 s1′ p m h e l w (suc zero) c d at =
       ⊎-elim
       (λ st. let nd : T (not (split-desc z mag b (p / 4))) = rw (sdt-in p (p / 4) (omega arith)) at (st .0) in
-        skip0 f s0 s1 s1′ p m h e l w 0 (code false 2) (c .1) d (not-sg z (split-desc z mag b) (split-grand z mag b) (closed1 z mag b) (desc-known z mag b) (p / 4) (c .1) nd)
-        (λ y o. rw o nd)
-        (run-mark-d m p 1 (c .1) d l st w)
-        (code-seven false 2 (omega arith) (λ t. absurd t)) (skip-code false 2 (omega arith) (λ t. absurd t)) at)
+      skip0 f s0 s1 s1′ p m h e l w 0 (code false 2) (c .1) d (not-sg z (split-desc z mag b) (split-grand z mag b) (closed1 z mag b) (desc-known z mag b) (p / 4) (c .1) nd)
+      (λ y o. rw o nd)
+      (run-mark-d m p 1 (c .1) d l st w)
+      (code-seven false 2 (omega arith) (λ t. absurd t)) (skip-code false 2 (omega arith) (λ t. absurd t)) at)
       (λ g. mg0 f s0 s1 s1′ p m h e l w (p / 4) (c .1) d (g .1)) (c .2)
   ways f s0 s1 s1′ p m h e l w (suc (suc k)) c d at =
       let low : up k (p / 4 / 4) ≤ p / 4 / 4 = up-le k (p / 4 / 4) in
       ⊎-elim
       (λ st. let nd : T (not (split-desc z mag b (up k (p / 4 / 4)))) = rw (sdt-in p (up k (p / 4 / 4)) (omega arith)) at (st .0) in
-        let ng : T (not (split-grand z mag b (up k (p / 4 / 4)))) =
-            not-sg z (split-desc z mag b) (split-grand z mag b) (closed1 z mag b) (desc-known z mag b) (up k (p / 4 / 4)) (c .1) nd in
-        skip0 f s0 s1 s1′ p m h e l w (suc k) (code false (suc (suc (suc k)))) (c .1) d ng
-        (λ y o. (under-g k (y / 4) (omega (arith, o, c .1)) (rw o ng)) .2)
-        (run-mark-d m p (suc (suc k)) (c .1) d l st w)
-        (code-seven false (suc (suc (suc k))) (omega arith) (λ t. absurd t)) (skip-code false (suc (suc (suc k))) (omega arith) (λ t. absurd t)) at)
+      let ng : T (not (split-grand z mag b (up k (p / 4 / 4)))) =
+      not-sg z (split-desc z mag b) (split-grand z mag b) (closed1 z mag b) (desc-known z mag b) (up k (p / 4 / 4)) (c .1) nd in
+      skip0 f s0 s1 s1′ p m h e l w (suc k) (code false (suc (suc (suc k)))) (c .1) d ng
+      (λ y o. (under-g k (y / 4) (omega (arith, o, c .1)) (rw o ng)) .2)
+      (run-mark-d m p (suc (suc k)) (c .1) d l st w)
+      (code-seven false (suc (suc (suc k))) (omega arith) (λ t. absurd t)) (skip-code false (suc (suc (suc k))) (omega arith) (λ t. absurd t)) at)
       (λ g. let ng : T (not (split-grand z mag b (up k (p / 4 / 4)))) = rw (sgt-in p (up k (p / 4 / 4)) (omega arith)) at (g .1 .1) in
-        skip0 f s0 s1 s1′ p m h e l w (suc k) (code true (suc (suc (suc k)))) (c .1) d ng
-        (λ y o. (under-g k (y / 4) (omega (arith, o, c .1)) (rw o ng)) .2)
-        (run-mark-g m p (suc (suc k)) (omega arith) (c .1) d l (g .1) w)
-        (code-seven true (suc (suc (suc k))) (omega arith) (λ t. omega arith)) (skip-code true (suc (suc (suc k))) (omega arith) (λ t. omega arith)) at)
+      skip0 f s0 s1 s1′ p m h e l w (suc k) (code true (suc (suc (suc k)))) (c .1) d ng
+      (λ y o. (under-g k (y / 4) (omega (arith, o, c .1)) (rw o ng)) .2)
+      (run-mark-g m p (suc (suc k)) (omega arith) (c .1) d l (g .1) w)
+      (code-seven true (suc (suc (suc k))) (omega arith) (λ t. omega arith)) (skip-code true (suc (suc (suc k))) (omega arith) (λ t. omega arith)) at)
       (c .2)
 
   up-four : (k p : ℕ) → up (suc k) (4 * p) ≡ up k p
@@ -702,10 +726,11 @@ module _ (z : Size) (mag : ℕ → ℕ) (neg : ℕ → Bool) (b : ℕ) where
 
   -- all three
   all : (f : ℕ) → S0 f × S1 f × S2 f
-  all zero =
-      (λ p m h e sp w. done 0 p m (omega arith) w,
-      λ p m h e l st w. absurd (omega arith),
-      λ p c n m h e l y y′ g k w. absurd (omega arith))
+  all zero = (
+    λ p m h e sp w. done 0 p m (omega arith) w,
+    λ p m h e l st w. absurd (omega arith),
+    λ p c n m h e l y y′ g k w. absurd (omega arith),
+  )
   all (suc f) =
       let ih = all f in
       (step0 f (ih .0) (ih .1) (step1 f (ih .0) (ih .2)), step1 f (ih .0) (ih .2), step2 f (ih .0) (ih .2))
@@ -719,7 +744,7 @@ module _ (z : Size) (mag : ℕ → ℕ) (neg : ℕ → Bool) (b : ℕ) where
       let e : suc n + f ≡ suc (n + f) = omega arith in
       let next : 4 * p + 4 ≡ 4 * suc p = omega arith in
       let lone : Alone z (split-desc z mag (suc b)) (split-grand z mag (suc b)) (4 * p) =
-          or-left (ltb (4 * p) (D z)) (split-desc z mag (suc b) (4 * p / 4)) (lt→ltb (4 * p) (D z) (omega arith)) in
+      or-left (ltb (4 * p) (D z)) (split-desc z mag (suc b) (4 * p / 4)) (lt→ltb (4 * p) (D z) (omega arith)) in
       let st = coef-step m (4 * p) (found z mag b (4 * p)) (w .coef (4 * p) (omega arith) lone) (found-le (4 * p)) in
       rw e (res-on (n + f) m m (4 * p) (4 * suc p) [] o (omega arith) (st .0) (st .1) (st .2 ∙ next) (before n (suc p) f m o (omega arith) w r))
 
@@ -730,13 +755,13 @@ module _ (z : Size) (mag : ℕ → ℕ) (neg : ℕ → Bool) (b : ℕ) where
   unfolding was
   set-pass m w =
       let start : State (z .e) (z .e) (4 * z .e) m =
-          same-marks z (split-desc z mag (suc b)) (split-grand z mag (suc b)) (sdt (z .e)) (sgt (z .e))
-          (λ y u. sym (sdt-out (z .e) y u)) (λ y u. sym (sgt-out (z .e) y (omega arith)))
-          (λ x. found z mag b x) (λ x. cst (4 * z .e) x) m (λ x u t. sym (cst-was (4 * z .e) x t)) w in
+      same-marks z (split-desc z mag (suc b)) (split-grand z mag (suc b)) (sdt (z .e)) (sgt (z .e))
+      (λ y u. sym (sdt-out (z .e) y u)) (λ y u. sym (sgt-out (z .e) y (omega arith)))
+      (λ x. found z mag b x) (λ x. cst (4 * z .e) x) m (λ x u t. sym (cst-was (4 * z .e) x t)) w in
       let last : Alone z (sdt (z .e)) (sgt (z .e)) (4 * z .e - 1) =
-          or-left (ltb (4 * z .e - 1) (D z)) (sdt (z .e) ((4 * z .e - 1) / 4)) (lt→ltb (4 * z .e - 1) (D z) (omega arith)) in
+      or-left (ltb (4 * z .e - 1) (D z)) (sdt (z .e) ((4 * z .e - 1) / 4)) (lt→ltb (4 * z .e - 1) (D z) (omega arith)) in
       let at : Spot z (sdt (z .e)) (sgt (z .e)) (suc (4 * z .e - 1)) =
-          after-alone z (sdt (z .e)) (sgt (z .e)) (closed-1 (z .e) (z .e) (omega arith)) (closed-2 (z .e) (z .e) (le-refl _)) (4 * z .e - 1) last in
+      after-alone z (sdt (z .e)) (sgt (z .e)) (closed-1 (z .e) (z .e) (omega arith)) (closed-2 (z .e) (z .e) (le-refl _)) (4 * z .e - 1) last in
       let here : suc (4 * z .e - 1) ≡ 4 * z .e = omega arith in
       let r = (all (12 * Q z)) .0 (z .e) m (omega arith) (le-refl _) (rw here at at) start in
       before (z .e) 0 (12 * Q z) m (each (z .e) (Q z - z .e) (λ p. group z mag neg b p)) (omega arith) w r

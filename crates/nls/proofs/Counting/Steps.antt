@@ -174,10 +174,11 @@ module _ (z : Size) (sd sg : ℕ → Bool)
   pub remark : (cs : ℕ → ℕ) (m m′ : Table) (x v : ℕ) → Alone z sd sg x → ((y : ℕ) → m′ y ≡ cond (eqb y x) v (m y))
       → Marks z sd sg cs m → Marks z sd sg (λ y. cond (eqb y x) v (cs y)) m′
   remark cs m m′ x v t h k =
-      record
-      { coef = λ y u w. h y ∙ ap (λ (n : ℕ). cond (eqb y x) v n) (k .coef y u w)
-      ; desc = λ n a p q s u. h (down n a) ∙ put-other m x v (down n a) (apart n a x (p, q, inl s) t) ∙ k .desc n a p q s u
-      ; grand = λ n a p q s u. h (down n a) ∙ put-other m x v (down n a) (apart n a x (omega arith, q, inr (p, s)) t) ∙ k .grand n a p q s u }
+      record {
+        coef = λ y u w. h y ∙ ap (λ (n : ℕ). cond (eqb y x) v n) (k .coef y u w);
+        desc = λ n a p q s u. h (down n a) ∙ put-other m x v (down n a) (apart n a x (p, q, inl s) t) ∙ k .desc n a p q s u;
+        grand = λ n a p q s u. h (down n a) ∙ put-other m x v (down n a) (apart n a x (omega arith, q, inr (p, s)) t) ∙ k .grand n a p q s u;
+      }
 
   pub retell : (cs cs′ : ℕ → ℕ) (m : Table) → ((x : ℕ) → x < I z → Alone z sd sg x → cs x ≡ cs′ x) → Marks z sd sg cs m → Marks z sd sg cs′ m
   retell cs cs′ m h k = record { coef = λ x u t. k .coef x u t ∙ h x u t; desc = k .desc; grand = k .grand }
@@ -195,16 +196,16 @@ module _ (z : Size) (sd sg : ℕ → Bool)
   module _ (step : Table → ℕ → Step) (old new : ℕ → ℕ) (out : ℕ → List Bool)
       (quiet : (k x : ℕ) → x < I z → Cov z sd sg k (up k x) → out x ≡ [])
       (at-coef : (m : Table) (x : ℕ) → x < I z → Alone z sd sg x → m x ≡ old x
-          → ((step m x) .0 ≡ out x) × ((y : ℕ) → (step m x) .1 y ≡ cond (eqb y x) (new x) (m y)) × ((step m x) .2 ≡ suc x))
+      → ((step m x) .0 ≡ out x) × ((y : ℕ) → (step m x) .1 y ≡ cond (eqb y x) (new x) (m y)) × ((step m x) .2 ≡ suc x))
       (at-run : (m : Table) (x : ℕ) (s : Bool) (k : ℕ) → 1 ≤ k → (T s → 2 ≤ k) → m x ≡ code s k
-          → ((step m x) .0 ≡ []) × ((step m x) .1 ≡ m) × ((step m x) .2 ≡ x + 4 ^ k)) where
-
+      → ((step m x) .0 ≡ []) × ((step m x) .1 ≡ m) × ((step m x) .2 ≡ x + 4 ^ k)) where
     over : (f i : ℕ) (m : Table) → I z ≤ i → Marks z sd sg (halfway new old i) m
         → ((go z step f m i) .0 ≡ each i (I z - i) out) × Marks z sd sg (λ x. new x) ((go z step f m i) .1)
     over f i m h k =
-        rw (go-over z step f m i h)
-        (sym (each-at i i (I z - i) 0 out refl (omega arith) ∙ each-none i out),
-        retell (halfway new old i) (λ x. new x) m (λ x u t. rw (lt-ltb x i (omega arith))) k)
+        rw (go-over z step f m i h) (
+          sym (each-at i i (I z - i) 0 out refl (omega arith) ∙ each-none i out),
+          retell (halfway new old i) (λ x. new x) m (λ x u t. rw (lt-ltb x i (omega arith))) k,
+        )
 
     pub pass : (f i : ℕ) (m : Table) → I z ≤ f + i → Spot z sd sg i → Marks z sd sg (halfway new old i) m
         → ((go z step f m i) .0 ≡ each i (I z - i) out) × Marks z sd sg (λ x. new x) ((go z step f m i) .1)
@@ -212,40 +213,46 @@ module _ (z : Size) (sd sg : ℕ → Bool)
     pass (suc f) i m h p k =
         ⊎-elim (λ l. over (suc f) i m l k)
         (λ l. ⊎-elim
-          (λ t. coef l t (pass f (suc i) ((step m i) .1) (omega arith) (after-alone z sd sg c1 c2 i t) (coef-marks l t)))
-          (λ c. run l c (pass f (i + 4 ^ c .0) m (omega (arith, pow4-pos (c .0))) (after-run z sd sg c1 c2 (c .0) i (c .1) (c .2)) (run-marks c)))
-          p)
+        (λ t. coef l t (pass f (suc i) ((step m i) .1) (omega arith) (after-alone z sd sg c1 c2 i t) (coef-marks l t)))
+        (λ c. run l c (pass f (i + 4 ^ c .0) m (omega (arith, pow4-pos (c .0))) (after-run z sd sg c1 c2 (c .0) i (c .1) (c .2)) (run-marks c)))
+        p)
         (order (I z) i)
       where
         was : i < I z → Alone z sd sg i → m i ≡ old i
         was l t = k .coef i l t ∙ rw (le-ltb i i (le-refl i))
+
         coef-marks : i < I z → (t : Alone z sd sg i) → Marks z sd sg (halfway new old (suc i)) ((step m i) .1)
         coef-marks l t =
             retell (λ y. cond (eqb y i) (new i) (halfway new old i y)) (halfway new old (suc i)) ((step m i) .1) (λ y u v. later new old i y)
             (remark (halfway new old i) m ((step m i) .1) i (new i) t ((at-coef m i l t (was l t)) .1) k)
+
         coef : i < I z → (t : Alone z sd sg i)
             → ((go z step f ((step m i) .1) (suc i)) .0 ≡ each (suc i) (I z - suc i) out) × Marks z sd sg (λ x. new x) ((go z step f ((step m i) .1) (suc i)) .1)
             → ((go z step (suc f) m i) .0 ≡ each i (I z - i) out) × Marks z sd sg (λ x. new x) ((go z step (suc f) m i) .1)
         coef l t r =
             let w = at-coef m i l t (was l t) in
-            rw (go-on z step f m i (out i) ((step m i) .1) (suc i) l (w .0) refl (w .2))
-            (ap (λ (o : List Bool). out i ++ o) (r .0) ∙ sym (each-at i i (I z - i) (suc (I z - suc i)) out refl (omega arith) ∙ each-cons i (I z - suc i) out),
-            r .1)
+            rw (go-on z step f m i (out i) ((step m i) .1) (suc i) l (w .0) refl (w .2)) (
+              ap (λ (o : List Bool). out i ++ o) (r .0) ∙ sym (each-at i i (I z - i) (suc (I z - suc i)) out refl (omega arith) ∙ each-cons i (I z - suc i) out),
+              r .1,
+            )
+
         run-marks : (c : (n : ℕ) × Cov z sd sg n (up n i) × (i ≡ down n (up n i))) → Marks z sd sg (halfway new old (i + 4 ^ c .0)) m
         run-marks c = retell (halfway new old i) (halfway new old (i + 4 ^ c .0)) m
             (λ x u t. ⊎-elim
-              (λ l. ⊎-elim (λ r. rw (le-ltb x i l, le-ltb x (i + 4 ^ c .0) r))
-                (λ r. absurd (clash (c .0) x (inside (c .0) i x (c .1) (c .2) l r) t)) (order (i + 4 ^ c .0) x))
-              (λ l. rw (lt-ltb x i l, lt-ltb x (i + 4 ^ c .0) (omega (arith, pow4-pos (c .0))))) (order i x))
+            (λ l. ⊎-elim (λ r. rw (le-ltb x i l, le-ltb x (i + 4 ^ c .0) r))
+            (λ r. absurd (clash (c .0) x (inside (c .0) i x (c .1) (c .2) l r) t)) (order (i + 4 ^ c .0) x))
+            (λ l. rw (lt-ltb x i l, lt-ltb x (i + 4 ^ c .0) (omega (arith, pow4-pos (c .0))))) (order i x))
             k
+
         run : i < I z → (c : (n : ℕ) × Cov z sd sg n (up n i) × (i ≡ down n (up n i)))
             → ((go z step f m (i + 4 ^ c .0)) .0 ≡ each (i + 4 ^ c .0) (I z - (i + 4 ^ c .0)) out) × Marks z sd sg (λ x. new x) ((go z step f m (i + 4 ^ c .0)) .1)
             → ((go z step (suc f) m i) .0 ≡ each i (I z - i) out) × Marks z sd sg (λ x. new x) ((go z step (suc f) m i) .1)
         run l c r =
             let q = mark-at (halfway new old i) m (c .0) i l (c .1) (c .2) k in
             let w = at-run m i (q .0) (c .0) (c .1 .0) (q .2) (q .1) in
-            rw (go-on z step f m i [] m (i + 4 ^ c .0) l (w .0) (w .1) (w .2))
-            (r .0
-            ∙ each-at (i + 4 ^ c .0) (i + 4 ^ c .0) (I z - (i + 4 ^ c .0)) (I z - i - 4 ^ c .0) out refl (omega arith)
-            ∙ sym (each-jump i (4 ^ c .0) (I z - i) out (λ x u v o. quiet (c .0) x (omega arith) (inside (c .0) i x (c .1) (c .2) u v))),
-            r .1)
+            rw (go-on z step f m i [] m (i + 4 ^ c .0) l (w .0) (w .1) (w .2)) (
+              r .0
+                  ∙ each-at (i + 4 ^ c .0) (i + 4 ^ c .0) (I z - (i + 4 ^ c .0)) (I z - i - 4 ^ c .0) out refl (omega arith)
+                  ∙ sym (each-jump i (4 ^ c .0) (I z - i) out (λ x u v o. quiet (c .0) x (omega arith) (inside (c .0) i x (c .1) (c .2) u v))),
+              r .1,
+            )

@@ -146,6 +146,7 @@ module _ (z : Size) (sd sg : ℕ → Bool) where
         lower k k′ l c c′ =
             let e : k′ ≡ k + suc (k′ - suc k) = omega arith in
             once k (k′ - suc k) x c (subst (λ (n : ℕ). Cov n (up n x)) e c′)
+
         less : (m n : ℕ) → (m < n) ⊎ (n ≤ m)
         less m n = ⊎-elim (λ t. inl (ltb→lt m n t)) (λ t. inr (nltb→le m n t)) (bool (ltb m n))
 
@@ -155,10 +156,10 @@ module _ (z : Size) (sd sg : ℕ → Bool) where
     climb (suc f) k x h p q s =
         ⊎-elim (λ t. (k, (p, q, inl (s, t))))
         (λ t. let high : D z ≤ up k x = nltb→le (up k x) (D z) (nor-left (ltb (up k x) (D z)) (sg (up k x / 4)) t) in
-          let e : up (suc k) x ≡ up k x / 4 = up-last k x in
-          let g : T (not (sg (up (suc k) x))) = rw e (nor-right (ltb (up k x) (D z)) (sg (up k x / 4)) t) in
-          ⊎-elim (λ u. (suc k, (omega arith, omega arith, inr (omega arith, (u, g)))))
-          (λ u. climb f (suc k) x (omega arith) (omega arith) (omega arith) u) (bool (sd (up (suc k) x))))
+        let e : up (suc k) x ≡ up k x / 4 = up-last k x in
+        let g : T (not (sg (up (suc k) x))) = rw e (nor-right (ltb (up k x) (D z)) (sg (up k x / 4)) t) in
+        ⊎-elim (λ u. (suc k, (omega arith, omega arith, inr (omega arith, (u, g)))))
+        (λ u. climb f (suc k) x (omega arith) (omega arith) (omega arith) u) (bool (sd (up (suc k) x))))
         (bool (ltb (up k x) (D z) || sg (up k x / 4)))
 
     pub cover : (x : ℕ) → T (not (ltb x (D z) || sd (x / 4))) → (n : ℕ) × Cov n (up n x)
@@ -188,9 +189,9 @@ module _ (z : Size) (sd sg : ℕ → Bool) where
     pub after-alone : (x : ℕ) → Alone x → Spot (suc x)
     after-alone x t =
         spot x (λ k c e.
-          let c′ : Cov k (up k x) = rw e c in
-          let o = covered k x c′ in
-          or-false (ltb x (D z)) (sd (x / 4)) (not-T (ltb x (D z)) (λ u. let l : x < D z = ltb→lt x (D z) u in omega (arith, o .0))) (o .1) t)
+        let c′ : Cov k (up k x) = rw e c in
+        let o = covered k x c′ in
+        or-false (ltb x (D z)) (sd (x / 4)) (not-T (ltb x (D z)) (λ u. let l : x < D z = ltb→lt x (D z) u in omega (arith, o .0))) (o .1) t)
 
     pub after-run : (k x : ℕ) → Cov k (up k x) → x ≡ down k (up k x) → Spot (x + 4 ^ k)
     after-run k x c e =
@@ -200,13 +201,14 @@ module _ (z : Size) (sd sg : ℕ → Bool) where
       where
         inside : up k (x + 4 ^ k - 1) ≡ up k x
         inside = in-run k (up k x) (x + 4 ^ k - 1) (omega (arith, pow4-pos k)) (omega (arith, pow4-pos k))
+
         other : (k′ : ℕ) → Cov k′ (up k′ (suc (x + 4 ^ k - 1))) → up k′ (x + 4 ^ k - 1) ≡ up k′ (suc (x + 4 ^ k - 1)) → ⊥
         other k′ c′ e′ =
             let here : Cov k (up k (x + 4 ^ k - 1)) = rw inside c in
             let there : Cov k′ (up k′ (x + 4 ^ k - 1)) = rw e′ c′ in
             let same : k ≡ k′ = unique k k′ (x + 4 ^ k - 1) here there in
             let e″ : up k (x + 4 ^ k - 1) ≡ up k (suc (x + 4 ^ k - 1)) =
-                subst (λ (n : ℕ). up n (x + 4 ^ k - 1) ≡ up n (suc (x + 4 ^ k - 1))) (sym same) e′ in
+            subst (λ (n : ℕ). up n (x + 4 ^ k - 1) ≡ up n (suc (x + 4 ^ k - 1))) (sym same) e′ in
             let up-here : up k (suc (x + 4 ^ k - 1)) ≡ up k x = sym e″ ∙ inside in
             let hi : suc (x + 4 ^ k - 1) < down k (up k (suc (x + 4 ^ k - 1))) + 4 ^ k = run-high k (suc (x + 4 ^ k - 1)) in
             let hi′ : suc (x + 4 ^ k - 1) < down k (up k x) + 4 ^ k = rw up-here at hi in

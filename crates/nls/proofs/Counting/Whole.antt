@@ -117,14 +117,15 @@ module _ (z : Size) (mag : ℕ → ℕ) (neg : ℕ → Bool) where
     pub start-marks : Marks z (split-desc z mag n) (split-grand z mag n) (λ x. rest z mag n x) start
     unfolding start rest
     start-marks =
-        record
-        { coef = λ x u t. start-low (3 * z .e) x (low x (split-desc z mag n (x / 4)) (no-desc (x / 4)) t) ∙ sym (rw (no-big x u))
-        ; desc = λ k a p v s u.
-            let l : a < D z = low a (split-grand z mag n (a / 4)) (no-grand (a / 4)) (s .1) in
-            let back : z .e + (a - z .e) ≡ a = omega arith in
-            subst (λ (i : ℕ). down k i < I z → start-from (3 * z .e) (down k i) ≡ code false k) back
-            (λ o. start-hit (3 * z .e) (a - z .e) k (omega arith) (omega arith) p o) u
-        ; grand = λ k a p v s u. absurd (rw (no-desc a) at (s .0)) }
+        record {
+          coef = λ x u t. start-low (3 * z .e) x (low x (split-desc z mag n (x / 4)) (no-desc (x / 4)) t) ∙ sym (rw (no-big x u));
+          desc = λ k a p v s u.
+              let l : a < D z = low a (split-grand z mag n (a / 4)) (no-grand (a / 4)) (s .1) in
+              let back : z .e + (a - z .e) ≡ a = omega arith in
+              subst (λ (i : ℕ). down k i < I z → start-from (3 * z .e) (down k i) ≡ code false k) back
+              (λ o. start-hit (3 * z .e) (a - z .e) k (omega arith) (omega arith) p o) u;
+          grand = λ k a p v s u. absurd (rw (no-desc a) at (s .0));
+        }
 
     -- DEMAND 3, of the scan
     pub scan-is-body : (scan n start) .0 ≡ body z mag neg n

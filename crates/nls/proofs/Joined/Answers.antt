@@ -21,6 +21,7 @@ or-low x y = tell (eqb (x % 2) 1) (eqb (y % 2) 1) refl refl
   where
     both : bitOr x y % 2 ≡ max (x % 2) (y % 2)
     both = omega (arith, or-step x y)
+
     tell : (s t : Bool) → eqb (x % 2) 1 ≡ s → eqb (y % 2) 1 ≡ t → eqb (bitOr x y % 2) 1 ≡ (eqb (x % 2) 1 || eqb (y % 2) 1)
     tell true t p q = rw p (eq-eqb (bitOr x y % 2) 1 (omega (arith, both, eqb-true (x % 2) 1 p)))
     tell false true p q = rw (p, q) (eq-eqb (bitOr x y % 2) 1 (omega (arith, both, eqb-true (y % 2) 1 q)))
@@ -88,12 +89,15 @@ below-top (suc n) g j h = go (or-cases (eqb (j / 4) g) (below (suc n) g (j / 4))
         → (c : ℕ) × (4 * g ≤ c) × (c < 4 * g + 4) × ((c ≡ j) ⊎ (below (suc n) c j ≡ true))
     go (inl e) ih = let s : j / 4 ≡ g = eqb-true (j / 4) g e in (j, omega arith, omega arith, inl refl)
     go (inr e) ih =
-        let r = ih e in
-        (r .0, r .1, r .2,
-        ⊎-elim {C = (r .0 ≡ j) ⊎ (below (suc n) (r .0) j ≡ true)}
-        (λ s. inr (or-l (eqb (j / 4) (r .0)) (below n (r .0) (j / 4)) (eq-eqb (j / 4) (r .0) (sym s))))
-        (λ s. inr (or-r (eqb (j / 4) (r .0)) (below n (r .0) (j / 4)) s))
-        (r .3))
+        let r = ih e in (
+          r .0,
+          r .1,
+          r .2,
+          ⊎-elim {C = (r .0 ≡ j) ⊎ (below (suc n) (r .0) j ≡ true)}
+              (λ s. inr (or-l (eqb (j / 4) (r .0)) (below n (r .0) (j / 4)) (eq-eqb (j / 4) (r .0) (sym s))))
+              (λ s. inr (or-r (eqb (j / 4) (r .0)) (below n (r .0) (j / 4)) s))
+              (r .3),
+        )
 
 tree-of : (b d : ℕ) (f : ℕ → ℕ) (i : ℕ) → bit (or-tree d f i) b ≡ true → (j : ℕ) × (below d i j ≡ true) × (bit (f j) b ≡ true)
 unfolding or-tree
@@ -116,9 +120,9 @@ tree-has b (suc d) f i j h k =
     join-has b (4 * i) 4 (λ c. bitOr (f c) (or-tree d f c)) (r .0) (r .1) (r .2)
     (or-bit b (f (r .0)) (or-tree d f (r .0))
     ∙ ⊎-elim {C = (bit (f (r .0)) b || bit (or-tree d f (r .0)) b) ≡ true}
-      (λ s. or-l (bit (f (r .0)) b) (bit (or-tree d f (r .0)) b) (subst (λ (x : ℕ). bit (f x) b ≡ true) (sym s) k))
-      (λ s. or-r (bit (f (r .0)) b) (bit (or-tree d f (r .0)) b) (tree-has b d f (r .0) j s k))
-      (r .3))
+    (λ s. or-l (bit (f (r .0)) b) (bit (or-tree d f (r .0)) b) (subst (λ (x : ℕ). bit (f x) b ≡ true) (sym s) k))
+    (λ s. or-r (bit (f (r .0)) b) (bit (or-tree d f (r .0)) b) (tree-has b d f (r .0) j s k))
+    (r .3))
 
 pub same-bool : (x y : Bool) → (x ≡ true → y ≡ true) → (y ≡ true → x ≡ true) → x ≡ y
 same-bool true y f g = sym (f refl)
@@ -146,14 +150,14 @@ module _ (z : Size) (full : I z ≡ 4 ^ z .deep) (A : Arr) where
   desc-answer g b =
       same-bool (any (4 ^ N) (λ j. (ltb j (4 ^ N) && below N g j) && bit (A .mag j) b)) (bit (or-tree N (within z (A .mag)) g) b)
       (λ h. let r = any-find (4 ^ N) (λ j. (ltb j (4 ^ N) && below N g j) && bit (A .mag j) b) h in
-        let k = and-l (ltb (r .0) (4 ^ N) && below N g (r .0)) (bit (A .mag (r .0)) b) (r .2) in
-        tree-has b N (within z (A .mag)) g (r .0) (and-r (ltb (r .0) (4 ^ N)) (below N g (r .0)) k)
-        (within-has (r .0) b (r .1) (and-r (ltb (r .0) (4 ^ N) && below N g (r .0)) (bit (A .mag (r .0)) b) (r .2))))
+      let k = and-l (ltb (r .0) (4 ^ N) && below N g (r .0)) (bit (A .mag (r .0)) b) (r .2) in
+      tree-has b N (within z (A .mag)) g (r .0) (and-r (ltb (r .0) (4 ^ N)) (below N g (r .0)) k)
+      (within-has (r .0) b (r .1) (and-r (ltb (r .0) (4 ^ N) && below N g (r .0)) (bit (A .mag (r .0)) b) (r .2))))
       (λ h. let r = tree-of b N (within z (A .mag)) g h in
-        let w = within-of (r .0) b (r .2) in
-        any-some (4 ^ N) (λ j. (ltb j (4 ^ N) && below N g j) && bit (A .mag j) b) (r .0) (w .0)
-        (and-i (ltb (r .0) (4 ^ N) && below N g (r .0)) (bit (A .mag (r .0)) b)
-        (and-i (ltb (r .0) (4 ^ N)) (below N g (r .0)) (lt-ltb (r .0) (4 ^ N) (w .0)) (r .1)) (w .1)))
+      let w = within-of (r .0) b (r .2) in
+      any-some (4 ^ N) (λ j. (ltb j (4 ^ N) && below N g j) && bit (A .mag j) b) (r .0) (w .0)
+      (and-i (ltb (r .0) (4 ^ N) && below N g (r .0)) (bit (A .mag (r .0)) b)
+      (and-i (ltb (r .0) (4 ^ N)) (below N g (r .0)) (lt-ltb (r .0) (4 ^ N) (w .0)) (r .1)) (w .1)))
 
   up-below : (n c j : ℕ) → below n c j ≡ true → below n (c / 4) (j / 4) ≡ true
   unfolding below
@@ -168,28 +172,31 @@ module _ (z : Size) (full : I z ≡ 4 ^ z .deep) (A : Arr) where
   unfolding below
   down-below zero g j h = absurd (false≢true h)
   down-below (suc n) g j h =
-      let r = below-top n g (j / 4) h in
-      (r .0, r .1, r .2,
-      ⊎-elim {C = below (suc n) (r .0) j ≡ true}
-      (λ s. or-l (eqb (j / 4) (r .0)) (below n (r .0) (j / 4)) (eq-eqb (j / 4) (r .0) (sym s)))
-      (λ s. or-r (eqb (j / 4) (r .0)) (below n (r .0) (j / 4)) s)
-      (r .3))
+      let r = below-top n g (j / 4) h in (
+        r .0,
+        r .1,
+        r .2,
+        ⊎-elim {C = below (suc n) (r .0) j ≡ true}
+            (λ s. or-l (eqb (j / 4) (r .0)) (below n (r .0) (j / 4)) (eq-eqb (j / 4) (r .0) (sym s)))
+            (λ s. or-r (eqb (j / 4) (r .0)) (below n (r .0) (j / 4)) s)
+            (r .3),
+      )
 
   pub grand-answer : (g b : ℕ) → ans N (bits-of A) (inGrand g b) ≡ has-grand z (A .mag) b g
   unfolding ans inside has-grand or-grand or-desc bit
   grand-answer g b =
       same-bool (any (4 ^ N) (λ j. (ltb j (4 ^ N) && below N g (j / 4)) && bit (A .mag j) b)) (bit (join (4 * g) 4 (λ c. or-tree N (within z (A .mag)) c)) b)
       (λ h. let r = any-find (4 ^ N) (λ j. (ltb j (4 ^ N) && below N g (j / 4)) && bit (A .mag j) b) h in
-        let k = and-l (ltb (r .0) (4 ^ N) && below N g (r .0 / 4)) (bit (A .mag (r .0)) b) (r .2) in
-        let d = down-below N g (r .0) (and-r (ltb (r .0) (4 ^ N)) (below N g (r .0 / 4)) k) in
-        join-has b (4 * g) 4 (λ c. or-tree N (within z (A .mag)) c) (d .0) (d .1) (d .2)
-        (tree-has b N (within z (A .mag)) (d .0) (r .0) (d .3)
-        (within-has (r .0) b (r .1) (and-r (ltb (r .0) (4 ^ N) && below N g (r .0 / 4)) (bit (A .mag (r .0)) b) (r .2)))))
+      let k = and-l (ltb (r .0) (4 ^ N) && below N g (r .0 / 4)) (bit (A .mag (r .0)) b) (r .2) in
+      let d = down-below N g (r .0) (and-r (ltb (r .0) (4 ^ N)) (below N g (r .0 / 4)) k) in
+      join-has b (4 * g) 4 (λ c. or-tree N (within z (A .mag)) c) (d .0) (d .1) (d .2)
+      (tree-has b N (within z (A .mag)) (d .0) (r .0) (d .3)
+      (within-has (r .0) b (r .1) (and-r (ltb (r .0) (4 ^ N) && below N g (r .0 / 4)) (bit (A .mag (r .0)) b) (r .2)))))
       (λ h. let d = join-of b (4 * g) 4 (λ c. or-tree N (within z (A .mag)) c) h in
-        let r = tree-of b N (within z (A .mag)) (d .0) (d .3) in
-        let w = within-of (r .0) b (r .2) in
-        let up : d .0 / 4 ≡ g = omega (arith, d .1, d .2) in
-        any-some (4 ^ N) (λ j. (ltb j (4 ^ N) && below N g (j / 4)) && bit (A .mag j) b) (r .0) (w .0)
-        (and-i (ltb (r .0) (4 ^ N) && below N g (r .0 / 4)) (bit (A .mag (r .0)) b)
-        (and-i (ltb (r .0) (4 ^ N)) (below N g (r .0 / 4)) (lt-ltb (r .0) (4 ^ N) (w .0))
-          (subst (λ (x : ℕ). below N x (r .0 / 4) ≡ true) up (up-below N (d .0) (r .0) (r .1)))) (w .1)))
+      let r = tree-of b N (within z (A .mag)) (d .0) (d .3) in
+      let w = within-of (r .0) b (r .2) in
+      let up : d .0 / 4 ≡ g = omega (arith, d .1, d .2) in
+      any-some (4 ^ N) (λ j. (ltb j (4 ^ N) && below N g (j / 4)) && bit (A .mag j) b) (r .0) (w .0)
+      (and-i (ltb (r .0) (4 ^ N) && below N g (r .0 / 4)) (bit (A .mag (r .0)) b)
+      (and-i (ltb (r .0) (4 ^ N)) (below N g (r .0 / 4)) (lt-ltb (r .0) (4 ^ N) (w .0))
+      (subst (λ (x : ℕ). below N x (r .0 / 4) ≡ true) up (up-below N (d .0) (r .0) (r .1)))) (w .1)))

@@ -43,13 +43,15 @@ module _ (N : ℕ) (two : 2 ≤ N) where
   set-high l i v h k c =
       record {
         top = λ y. ⊎-elim (λ s. omega (arith, s .1, k)) (λ s. omega (arith, s, c .top y)) (set-cases l i v y);
-        low = λ y u. ⊎-elim (λ s. absurd (omega (arith, s .0, h, u))) (λ s. omega (arith, s, c .low y u)) (set-cases l i v y) }
+        low = λ y u. ⊎-elim (λ s. absurd (omega (arith, s .0, h, u))) (λ s. omega (arith, s, c .low y u)) (set-cases l i v y);
+      }
 
   pub set-low : (l : List ℕ) (i v : ℕ) → v ≤ 4 → Codes N l → Codes N (set l i v)
   set-low l i v k c =
       record {
         top = λ y. ⊎-elim (λ s. omega (arith, s .1, k)) (λ s. omega (arith, s, c .top y)) (set-cases l i v y);
-        low = λ y u. ⊎-elim (λ s. omega (arith, s .1, k)) (λ s. omega (arith, s, c .low y u)) (set-cases l i v y) }
+        low = λ y u. ⊎-elim (λ s. omega (arith, s .1, k)) (λ s. omega (arith, s, c .low y u)) (set-cases l i v y);
+      }
 
   codes-push : (n w k : ℕ) (l : List ℕ) → 7 ≤ k → 16 ≤ w → 4 ^ (k - 5) ≤ w → Codes N l → Codes N (pushFrom I n w k l)
   unfolding pushFrom
@@ -58,6 +60,7 @@ module _ (N : ℕ) (two : 2 ≤ N) where
     where
       up : 4 ^ (k + 1 - 5) ≤ 4 * w
       up = omega (arith, ap (λ (x : ℕ). 4 ^ x) {x = k + 1 - 5} {y = suc (k - 5)} (omega (arith, h)), pow-succ' 4 (k - 5), q)
+
       on : (t : Bool) → ltb w I ≡ t → (Codes N (set l w k) → Codes N (pushFrom I n (4 * w) (k + 1) (set l w k)))
           → Codes N (elim t as (λ _. List ℕ) [ true ↦ pushFrom I n (4 * w) (k + 1) (set l w k) | false ↦ l ])
       on true e ih =
@@ -159,17 +162,22 @@ module _ (N : ℕ) (two : 2 ≤ N) where
     where
       a : List ℕ
       a = replicate D 1
+
       z : List ℕ
       z = replicate k 0
+
       long-a : length a ≡ D
       long-a = length-replicate {A = ℕ} D 1
+
       long-z : length z ≡ k
       long-z = length-replicate {A = ℕ} k 0
+
       past : (D + k ≤ y) ⊎ (y < D + k) → D ≤ y → getD (replicate D 1 ++ replicate k 0) y 0 ≤ 1
       past (inl g) h = omega (arith, List·getD-eq-default {A = ℕ} (a ++ z) 0 {n = y} (omega (arith, g, length-append a z, long-a, long-z)))
       past (inr g) h =
           let back : length a + (y - D) ≡ y = omega (arith, long-a, h) in
           omega (arith, ap (λ (x : ℕ). getD (a ++ z) x 0) back, getD-append-add a z (y - D) 0, getD-replicate {A = ℕ} k (y - D) 0 0 (omega (arith, g, h)))
+
       on : (D ≤ y) ⊎ (y < D) → getD (replicate D 1 ++ replicate k 0) y 0 ≤ 1
       on (inl h) = past (order (D + k) y) h
       on (inr h) = omega (arith, List·getD-append a z 0 y (omega (arith, h, long-a)), getD-replicate {A = ℕ} D y 1 0 h)

@@ -91,6 +91,7 @@ module _ (N : ℕ) (W : Type 0) (act : W → State → Act W) where
       where
         none-asked : ask I s ≡ none
         none-asked = unfold ask in ap (λ (L : Look). asked I L) e
+
         stays : drive (suc (budget - used w)) w s ≡ (w, s)
         stays = unfold drive in rw (none-asked, drive)
 
@@ -101,9 +102,10 @@ module _ (N : ℕ) (W : Type 0) (act : W → State → Act W) where
       where
         some-asked : ask I s ≡ some q
         some-asked = unfold ask in ap (λ (L : Look). asked I L) e
+
         on : (o : Option Question) → o ≡ some q
             → _≡_ {A = W × State} (elim o as (λ _. W × State) [ none ↦ (w, s) | some q ↦ elim (act w s) as (λ _. W × State) [ stop v ↦ (v, s) | go a v ↦ drive f v (next I s a) ] ])
-              (elim (act w s) as (λ _. W × State) [ stop v ↦ (v, s) | go a v ↦ drive f v (next I s a) ])
+            (elim (act w s) as (λ _. W × State) [ stop v ↦ (v, s) | go a v ↦ drive f v (next I s a) ])
         on o z = rw z
 
     run-stop : (w : W) (s : State) (q : Question) (v : W) → look I s ≡ asks q → act w s ≡ stop v → run w s ≡ (v, s)
@@ -156,13 +158,15 @@ module _ (N : ℕ) (W : Type 0) (act : W → State → Act W) where
         → (x : Act W) → act (t .sink) (at (suc b) (pass-of p) i (t .marks)) ≡ x → Ok b p i t (coef-seen b p i (t .marks) x)
     coef-ok b p i t u lk yes-1 no-1 (stop v) e = fin-stop t (at (suc b) (pass-of p) i (t .marks)) (bitOf i b) v lk e
     coef-ok b p i t u lk yes-1 no-1 (go false v) e =
-        let r = room (t .sink) (at (suc b) (pass-of p) i (t .marks)) false v e in
-        (fin-go t (at (suc b) (pass-of p) i (t .marks)) (bitOf i b) false v (set (t .marks) i 1) lk e ∙ ap (λ (s : State). fin (dr (set (t .marks) i 1) v) s) no-1,
-        omega (arith, u, r .0, r .1))
+        let r = room (t .sink) (at (suc b) (pass-of p) i (t .marks)) false v e in (
+          fin-go t (at (suc b) (pass-of p) i (t .marks)) (bitOf i b) false v (set (t .marks) i 1) lk e ∙ ap (λ (s : State). fin (dr (set (t .marks) i 1) v) s) no-1,
+          omega (arith, u, r .0, r .1),
+        )
     coef-ok b p i t u lk yes-1 no-1 (go true v) e = on (act v (waits b p i (t .marks))) refl
       where
         first : fin t (at (suc b) (pass-of p) i (t .marks)) ≡ fin (dr (t .marks) v) (waits b p i (t .marks))
         first = fin-go t (at (suc b) (pass-of p) i (t .marks)) (bitOf i b) true v (t .marks) lk e ∙ ap (λ (s : State). fin (dr (t .marks) v) s) yes-1
+
         on : (y : Act W) → act v (waits b p i (t .marks)) ≡ y → Ok b p i t (sign-seen i (t .marks) y)
         on (stop w) z = first ∙ fin-stop (dr (t .marks) v) (waits b p i (t .marks)) (signOf i) w refl z
         on (go a w) z =
@@ -194,23 +198,26 @@ module _ (N : ℕ) (W : Type 0) (act : W → State → Act W) where
       where
         in-I : ltb i I ≡ true
         in-I = lt-ltb i I u
+
         on : (x : Bool) → eqb (getD (t .marks) i 0) 1 ≡ x
             → Ok b 0 i t (cond x (coef-seen b 0 i (t .marks) (act (t .sink) (at (suc b) pixels i (t .marks)))) (move (i + skip (getD (t .marks) i 0)) t))
         on true e =
             let same : t .marks ≡ set (t .marks) i 1 =
-                sym (ap (λ (v : ℕ). set (t .marks) i v) (sym (eqb-true (getD (t .marks) i 0) 1 e)) ∙ set-getD (t .marks) i 0) in
+            sym (ap (λ (v : ℕ). set (t .marks) i v) (sym (eqb-true (getD (t .marks) i 0) 1 e)) ∙ set-getD (t .marks) i 0) in
             coef-ok b 0 i t u (rw (in-I, e)) refl (ap (λ (m : List ℕ). at (suc b) pixels (i + 1) m) same) (act (t .sink) (at (suc b) pixels i (t .marks))) refl
         on false e = (fin-hush t (at (suc b) pixels i (t .marks)) (at (suc b) pixels (i + skip (getD (t .marks) i 0)) (t .marks)) (rw (in-I, e)), omega (arith, u, skip-pos (getD (t .marks) i 0)))
     visit-ok b (suc zero) i t u = on (eqb (getD (t .marks) i 0) 5) refl (eqb (getD (t .marks) i 0) 6) refl (eqb (getD (t .marks) i 0) 4) refl
       where
         in-I : ltb i I ≡ true
         in-I = lt-ltb i I u
+
         x : Act W
         x = act (t .sink) (at (suc b) sets i (t .marks))
+
         on : (d : Bool) → eqb (getD (t .marks) i 0) 5 ≡ d → (g : Bool) → eqb (getD (t .marks) i 0) 6 ≡ g → (c : Bool) → eqb (getD (t .marks) i 0) 4 ≡ c
             → Ok b 1 i t (cond d (test-seen 4 (splitDesc I i (t .marks) (ltb (4 * i) I)) i (t .marks) (act (t .sink) (at (suc b) sets i (t .marks))))
-              (cond g (test-seen 16 (splitGrand I i (t .marks)) i (t .marks) (act (t .sink) (at (suc b) sets i (t .marks))))
-              (cond c (coef-seen b 1 i (t .marks) (act (t .sink) (at (suc b) sets i (t .marks)))) (move (i + setSkip (getD (t .marks) i 0)) t))))
+            (cond g (test-seen 16 (splitGrand I i (t .marks)) i (t .marks) (act (t .sink) (at (suc b) sets i (t .marks))))
+            (cond c (coef-seen b 1 i (t .marks) (act (t .sink) (at (suc b) sets i (t .marks)))) (move (i + setSkip (getD (t .marks) i 0)) t))))
         on true e g q c o = test-ok b i t (inDesc (i / 4) b) 4 (splitDesc I i (t .marks) (ltb (4 * i) I)) u (rw (in-I, e)) (rw e) (rw e) (act (t .sink) (at (suc b) sets i (t .marks))) refl
         on false e true q c o = test-ok b i t (inGrand (i / 16) b) 16 (splitGrand I i (t .marks)) u (rw (in-I, e, q)) (rw (e, q)) (rw (e, q)) (act (t .sink) (at (suc b) sets i (t .marks))) refl
         on false e false q true o = coef-ok b 1 i t u (rw (in-I, e, q, o)) (rw (e, q)) (rw (e, q)) (act (t .sink) (at (suc b) sets i (t .marks))) refl
@@ -220,9 +227,10 @@ module _ (N : ℕ) (W : Type 0) (act : W → State → Act W) where
       where
         in-I : ltb i I ≡ true
         in-I = lt-ltb i I u
+
         on : (x : Bool) → eqb (getD (t .marks) i 0) 3 ≡ x → (y : Bool) → eqb (getD (t .marks) i 0) 2 ≡ y
             → Ok b (suc (suc k)) i t (cond x (fine-seen i (t .marks) (act (t .sink) (at (suc b) refining i (t .marks))))
-              (cond y (move (i + 1) (dr (set (t .marks) i 3) (t .sink))) (move (i + skip (getD (t .marks) i 0)) t)))
+            (cond y (move (i + 1) (dr (set (t .marks) i 3) (t .sink))) (move (i + skip (getD (t .marks) i 0)) t)))
         on true e y q = fine-ok b k i t u (rw (in-I, e)) (act (t .sink) (at (suc b) refining i (t .marks))) refl
         on false e true q = (fin-hush t (at (suc b) refining i (t .marks)) (at (suc b) refining (i + 1) (set (t .marks) i 3)) (rw (in-I, e, q)) ∙ same, omega (arith, u))
           where

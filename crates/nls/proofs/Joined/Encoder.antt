@@ -54,7 +54,7 @@ module _ (N : ℕ) (A : Bits) where
       where
         on : (o : Option Question)
             → _≡_ {A = (W × ℕ) × State} (elim o as (λ _. (W × ℕ) × State) [ none ↦ ((w, n), s) | some q ↦ elim (enc-act (w, n) s) as (λ _. (W × ℕ) × State) [ stop v ↦ (v, s) | go a v ↦ drive N (W × ℕ) enc-act zero v (next I s a) ] ])
-              (all-of w n [] s)
+            (all-of w n [] s)
         on none = none-more w n s
         on (some q) =
             let t : enc-act (w, n) s ≡ stop (w, n) = unfold enc-act in rw (le-ltb n budget (omega (arith, h))) in
@@ -64,12 +64,12 @@ module _ (N : ℕ) (A : Bits) where
         on : (o : Option Question) → ask I s ≡ o
             → ((a : Bool) → drive N (W × ℕ) enc-act (suc k) (put w a, n + 1) (next I s a) ≡ all-of (put w a) (n + 1) (answersOf N A k (next I s a)) (next I s a))
             → _≡_ {A = (W × ℕ) × State} (elim o as (λ _. (W × ℕ) × State) [ none ↦ ((w, n), s) | some q ↦ elim (enc-act (w, n) s) as (λ _. (W × ℕ) × State) [ stop v ↦ (v, s) | go a v ↦ drive N (W × ℕ) enc-act (suc k) v (next I s a) ] ])
-              (all-of w n (elim o as (λ _. List Bool) [ none ↦ [] | some q ↦ ans N A q ∷ answersOf N A k (next I s (ans N A q)) ]) s)
+            (all-of w n (elim o as (λ _. List Bool) [ none ↦ [] | some q ↦ ans N A q ∷ answersOf N A k (next I s (ans N A q)) ]) s)
         on none e ih = none-more w n s
         on (some q) e ih =
             let t : enc-act (w, n) s ≡ go (ans N A q) (put w (ans N A q), n + 1) =
-                unfold enc-act in (ap (λ (c : Bool). cond {A = Act (W × ℕ)} c (go (said (ask I s)) (put w (said (ask I s)), n + 1)) (stop (w, n))) (lt-ltb n budget (omega (arith, h)))
-                ∙ ap (λ (o : Option Question). go (said o) (put w (said o), n + 1)) e) in
+            unfold enc-act in (ap (λ (c : Bool). cond {A = Act (W × ℕ)} c (go (said (ask I s)) (put w (said (ask I s)), n + 1)) (stop (w, n))) (lt-ltb n budget (omega (arith, h)))
+            ∙ ap (λ (o : Option Question). go (said o) (put w (said o), n + 1)) e) in
             ap (λ (y : Act (W × ℕ)). (elim y as (λ _. (W × ℕ) × State) [ stop v ↦ (v, s) | go a v ↦ drive N (W × ℕ) enc-act (suc k) v (next I s a) ])) t
             ∙ ih (ans N A q) ∙ more (ans N A q) (answersOf N A k (next I s (ans N A q)))
           where
@@ -80,20 +80,24 @@ module _ (N : ℕ) (A : Bits) where
     pub encoder-is : (P : ℕ) (m : List ℕ) (w : W)
         → last (planes (Dr (W × ℕ)) I budget (visit N (W × ℕ) enc-act) P (record { marks = m; sink = (w, 0) }))
         ≡ record {
-            marks = (reach (4 ^ N) (settle I (at P pixels 0 m)) (answersOf N A budget (settle I (at P pixels 0 m)))) .marks;
-            sink = (puts put w (answersOf N A budget (settle I (at P pixels 0 m))), length (answersOf N A budget (settle I (at P pixels 0 m)))) }
+          marks = (reach (4 ^ N) (settle I (at P pixels 0 m)) (answersOf N A budget (settle I (at P pixels 0 m)))) .marks;
+          sink = (puts put w (answersOf N A budget (settle I (at P pixels 0 m))), length (answersOf N A budget (settle I (at P pixels 0 m))));
+        }
     encoder-is P m w =
         driven N (W × ℕ) enc-act budget (λ x. x .1) enc-uses P (record { marks = m; sink = (w, 0) }) ∙ end
       where
         s : State
         s = settle I (at P pixels 0 m)
+
         u : List Bool
         u = answersOf N A budget (settle I (at P pixels 0 m))
+
         ran : run N (W × ℕ) enc-act budget (λ x. x .1) enc-uses (w, 0) (at P pixels 0 m) ≡ ((puts put w u, length u), reach (4 ^ N) s u)
         ran = unfold run in
             (ap (λ (k : ℕ). drive N (W × ℕ) enc-act (suc k) (w, 0) s) {x = budget - 0} {y = budget} (omega arith)
             ∙ enc-drive budget w 0 s (omega arith)
             ∙ ap (λ (k : ℕ). ((puts put w u, k), reach (4 ^ N) s u)) {x = 0 + length u} {y = length u} (omega arith))
+
         end : fin N (W × ℕ) enc-act budget (λ x. x .1) enc-uses (record { marks = m; sink = (w, 0) }) (at P pixels 0 m)
             ≡ record { marks = (reach (4 ^ N) s u) .marks; sink = (puts put w u, length u) }
         end = unfold fin in ap {B = Dr (W × ℕ)} (λ (r : (W × ℕ) × State). record { marks = r .1 .marks; sink = r .0 }) ran

@@ -44,7 +44,8 @@ module _ (N : ℕ) (A : Bits) where
   runs-then s t u o p x y =
       record {
         fits = fit-append N A (settle I s) o p (x .fits) (subst (λ (r : State). Fit N A r p) (sym (x .ends)) (y .fits));
-        ends = reach-append N (settle I s) o p ∙ ap (λ (r : State). reach (4 ^ N) r p) (x .ends) ∙ y .ends }
+        ends = reach-append N (settle I s) o p ∙ ap (λ (r : State). reach (4 ^ N) r p) (x .ends) ∙ y .ends;
+      }
 
   module _ (k : ℕ) where
     pub leads-none : (s : State) → Leads N A k s [] s
@@ -62,14 +63,17 @@ module _ (N : ℕ) (A : Bits) where
         record {
           runs = record {
             fits = subst (λ (r : State). Fit N A r (a ∷ [])) (sym still) (subst (λ (x : Option Question). told N A x a) (sym o) h, tt);
-            ends = ap (λ (r : State). settle I (tell I r a)) still };
-          stays = subst (λ (r : State). In N k r (a ∷ [])) (sym still) (w, tt) }
+            ends = ap (λ (r : State). settle I (tell I r a)) still;
+          };
+          stays = subst (λ (r : State). In N k r (a ∷ [])) (sym still) (w, tt);
+        }
 
     pub leads-then : (s t u : State) (o p : List Bool) → Leads N A k s o t → Leads N A k t p u → Leads N A k s (o ++ p) u
     leads-then s t u o p x y =
         record {
           runs = runs-then s t u o p (x .runs) (y .runs);
-          stays = in-append N k (settle I s) o p (x .stays) (subst (λ (r : State). In N k r p) (sym (x .runs .ends)) (y .stays)) }
+          stays = in-append N k (settle I s) o p (x .stays) (subst (λ (r : State). In N k r p) (sym (x .runs .ends)) (y .stays));
+        }
 
     -- one bit and then more
     pub leads-bit : (s u : State) (q : Question) (a : Bool) (o : List Bool) → s .left ≡ k → look I s ≡ asks q → ans N A q ≡ a → Leads N A k (tell I s a) o u → Leads N A k s (a ∷ o) u

@@ -67,7 +67,6 @@ module _ (S : Type 0) (I budget : ℕ) (visit : ℕ → ℕ → ℕ → S → Se
   module _ (used : S → ℕ) (marks : S → List ℕ) (fin : S → State → S)
       (hushed : (t : S) (s r : State) → look I s ≡ silent r → fin t s ≡ fin t r)
       (ended : (t : S) (s : State) → look I s ≡ over → s .marks ≡ marks t → fin t s ≡ t) where
-
     -- a visit leaves the end as it is, and goes on at a later place or uses a bit
     abbrev pub Right : ℕ → ℕ → ℕ → S → Seen S → Type 0
     Right b p i t (halt u) = fin t (at (suc b) (pass-of p) i (marks t)) ≡ u
@@ -93,10 +92,11 @@ module _ (S : Type 0) (I budget : ℕ) (visit : ℕ → ℕ → ℕ → S → Se
         where
           x : S
           x = fin t (at (suc b) (pass-of p) i (marks t))
+
           go : (c : Bool) → ltb i I ≡ c
               → ((j : ℕ) (u : S) → (I - j) + (budget - used u) ≤ f → Done (fin u (at (suc b) (pass-of p) j (marks u))) (λ u. beyond b p (marks u)) (places b p f j u))
               → Done (fin t (at (suc b) (pass-of p) i (marks t))) (λ u. beyond b p (marks u))
-                (elim c as (λ _. Ran S) [ false ↦ on t | true ↦ follow (λ j u. places b p f j u) (visit b p i t) ])
+              (elim c as (λ _. Ran S) [ false ↦ on t | true ↦ follow (λ j u. places b p f j u) (visit b p i t) ])
           go false e ih = hushed t (at (suc b) (pass-of p) i (marks t)) (beyond b p (marks t)) (ends-pass I b p i (marks t) (ltb-false i I e))
           go true e ih = on-visit (visit b p i t) (right b p i t (ltb-true i I e))
             where
@@ -112,8 +112,8 @@ module _ (S : Type 0) (I budget : ℕ) (visit : ℕ → ℕ → ℕ → S → Se
           then-done (fin t (at (suc b) pixels 0 (marks t))) (λ u. at (suc b) sets 0 (marks u)) (λ u. at b pixels 0 (marks u)) (places b 0 (I + budget) 0 t)
           (λ u. then (places b 1 (I + budget) 0 u) (λ v. places b 2 (I + budget) 0 v)) (places-done b 0 (I + budget) 0 t (omega arith))
           (λ u. then-done (fin u (at (suc b) sets 0 (marks u))) (λ w. at (suc b) refining 0 (marks w)) (λ w. at b pixels 0 (marks w)) (places b 1 (I + budget) 0 u)
-            (λ v. places b 2 (I + budget) 0 v) (places-done b 1 (I + budget) 0 u (omega arith))
-            (λ v. places-done b 2 (I + budget) 0 v (omega arith)))
+          (λ v. places b 2 (I + budget) 0 v) (places-done b 1 (I + budget) 0 u (omega arith))
+          (λ v. places-done b 2 (I + budget) 0 v (omega arith)))
 
       planes-done : (n : ℕ) (t : S) → Done (fin t (at n pixels 0 (marks t))) (λ u. at 0 pixels 0 (marks u)) (planes n t)
       unfolding planes

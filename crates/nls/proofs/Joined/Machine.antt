@@ -43,7 +43,6 @@ module _ (z : Size) (full : I z ≡ 4 ^ z .deep) (A : Arr) (b : ℕ) where
       (visit : (l : List ℕ) (i : ℕ) → i < I z → Low l → Leads N B (suc b) (at (suc b) p i l) ((step l i) .0) (at (suc b) p ((step l i) .2) ((step l i) .1)))
       (keeps : (l : List ℕ) (i : ℕ) → Low l → Low ((step l i) .1))
       (falls : (l : List ℕ) (i : ℕ) → i < I z → Low l → left ((step l i) .1) ((step l i) .2) < left l i) where
-
     pub pass-leads : (f : ℕ) (l : List ℕ) (i : ℕ) → left l i ≤ f → Low l → Went z A b p (at (suc b) p i l) (go-l z step f l i)
     unfolding go-l
     pass-leads zero l i h w =
@@ -52,12 +51,14 @@ module _ (z : Size) (full : I z ≡ 4 ^ z .deep) (A : Arr) (b : ℕ) where
     pass-leads (suc f) l i h w =
         ⊎-elim (λ q. rw (le-leb (I z) i q) (record { to = i; past = q; leads = leads-none N B (suc b) (at (suc b) p i l); low = w }))
         (λ q. let r = pass-leads f ((step l i) .1) ((step l i) .2) (omega (arith, h, falls l i q w)) (keeps l i w) in
-          rw (lt-leb (I z) i q)
-          (record {
-            to = r .to; past = r .past;
-            leads = leads-then N B (suc b) (at (suc b) p i l) (at (suc b) p ((step l i) .2) ((step l i) .1)) (at (suc b) p (r .to) ((go-l z step f ((step l i) .1) ((step l i) .2)) .1))
+        rw (lt-leb (I z) i q)
+        (record {
+          to = r .to;
+          past = r .past;
+          leads = leads-then N B (suc b) (at (suc b) p i l) (at (suc b) p ((step l i) .2) ((step l i) .1)) (at (suc b) p (r .to) ((go-l z step f ((step l i) .1) ((step l i) .2)) .1))
               ((step l i) .0) ((go-l z step f ((step l i) .1) ((step l i) .2)) .0) (visit l i q w) (r .leads);
-            low = r .low }))
+          low = r .low;
+        }))
         (order (I z) i)
 
   past-end : (i : ℕ) → I z ≤ i → ltb i K ≡ false
@@ -69,8 +70,8 @@ module _ (z : Size) (full : I z ≡ 4 ^ z .deep) (A : Arr) (b : ℕ) where
   pixels-lead l w =
       let o : (List Bool) × (List ℕ) = go-l z (pixel-l z (A .mag) (A .neg) b) (I z) l 0 in
       let r : Went z A b pixels (at (suc b) pixels 0 l) o =
-          pass-leads pixels (pixel-l z (A .mag) (A .neg) b) (λ l i. I z - i) (λ l i u w. visit-pixel z full A b l i u) (low-pixel z (A .mag) (A .neg) b)
-          (λ l i u w. falls-pixel z (A .mag) (A .neg) b l i u) (I z) l 0 (omega arith) w in
+      pass-leads pixels (pixel-l z (A .mag) (A .neg) b) (λ l i. I z - i) (λ l i u w. visit-pixel z full A b l i u) (low-pixel z (A .mag) (A .neg) b)
+      (λ l i u w. falls-pixel z (A .mag) (A .neg) b l i u) (I z) l 0 (omega arith) w in
       (leads-hushed N B (suc b) (at (suc b) pixels 0 l) (at (suc b) pixels (r .to) (o .1)) (at (suc b) sets 0 (o .1)) (o .0) (r .leads) (rw (past-end (r .to) (r .past))), r .low)
 
   sets-lead : (l : List ℕ) → Low l
@@ -79,8 +80,8 @@ module _ (z : Size) (full : I z ≡ 4 ^ z .deep) (A : Arr) (b : ℕ) where
   sets-lead l w =
       let o : (List Bool) × (List ℕ) = go-l z (set-l z (A .mag) (A .neg) b) (z .e + 12 * Q z) l 0 in
       let r : Went z A b sets (at (suc b) sets 0 l) o =
-          pass-leads sets (set-l z (A .mag) (A .neg) b) (λ l i. rank z (A .mag) (A .neg) b l i) (λ l i u w. visit-set z full A b l i u w) (low-set z (A .mag) (A .neg) b)
-          (λ l i u w. falls-set z (A .mag) (A .neg) b l i u w) (z .e + 12 * Q z) l 0 (omega (arith, again-low (getD l 0 0) w)) w in
+      pass-leads sets (set-l z (A .mag) (A .neg) b) (λ l i. rank z (A .mag) (A .neg) b l i) (λ l i u w. visit-set z full A b l i u w) (low-set z (A .mag) (A .neg) b)
+      (λ l i u w. falls-set z (A .mag) (A .neg) b l i u w) (z .e + 12 * Q z) l 0 (omega (arith, again-low (getD l 0 0) w)) w in
       (leads-hushed N B (suc b) (at (suc b) sets 0 l) (at (suc b) sets (r .to) (o .1)) (at (suc b) refining 0 (o .1)) (o .0) (r .leads) (rw (past-end (r .to) (r .past))), r .low)
 
   fines-lead : (l : List ℕ) → Low l
@@ -89,8 +90,8 @@ module _ (z : Size) (full : I z ≡ 4 ^ z .deep) (A : Arr) (b : ℕ) where
   fines-lead l w =
       let o : (List Bool) × (List ℕ) = go-l z (refine-l z (A .mag) (A .neg) b) (I z) l 0 in
       let r : Went z A b refining (at (suc b) refining 0 l) o =
-          pass-leads refining (refine-l z (A .mag) (A .neg) b) (λ l i. I z - i) (λ l i u w. visit-refine z full A b l i u) (low-refine z (A .mag) (A .neg) b)
-          (λ l i u w. falls-refine z (A .mag) (A .neg) b l i u) (I z) l 0 (omega arith) w in
+      pass-leads refining (refine-l z (A .mag) (A .neg) b) (λ l i. I z - i) (λ l i u w. visit-refine z full A b l i u) (low-refine z (A .mag) (A .neg) b)
+      (λ l i u w. falls-refine z (A .mag) (A .neg) b l i u) (I z) l 0 (omega arith) w in
       (leads-hushed N B (suc b) (at (suc b) refining 0 l) (at (suc b) refining (r .to) (o .1)) (at b pixels 0 (o .1)) (o .0) (r .leads) (rw (past-end (r .to) (r .past))), r .low)
 
   -- ONE PLANE of the machine is one plane over a list
@@ -104,10 +105,11 @@ module _ (z : Size) (full : I z ≡ 4 ^ z .deep) (A : Arr) (b : ℕ) where
       let o3 : (List Bool) × (List ℕ) = go-l z (refine-l z (A .mag) (A .neg) b) (I z) (o2 .1) 0 in
       let r1 = pixels-lead l w in
       let r2 = sets-lead (o1 .1) (r1 .1) in
-      let r3 = fines-lead (o2 .1) (r2 .1) in
-      (leads-then N B (suc b) (at (suc b) pixels 0 l) (at (suc b) sets 0 (o1 .1)) (at b pixels 0 (o3 .1)) (o1 .0) (o2 .0 ++ o3 .0) (r1 .0)
-        (leads-then N B (suc b) (at (suc b) sets 0 (o1 .1)) (at (suc b) refining 0 (o2 .1)) (at b pixels 0 (o3 .1)) (o2 .0) (o3 .0) (r2 .0) (r3 .0)),
-      r3 .1)
+      let r3 = fines-lead (o2 .1) (r2 .1) in (
+        leads-then N B (suc b) (at (suc b) pixels 0 l) (at (suc b) sets 0 (o1 .1)) (at b pixels 0 (o3 .1)) (o1 .0) (o2 .0 ++ o3 .0) (r1 .0)
+            (leads-then N B (suc b) (at (suc b) sets 0 (o1 .1)) (at (suc b) refining 0 (o2 .1)) (at b pixels 0 (o3 .1)) (o2 .0) (o3 .0) (r2 .0) (r3 .0)),
+        r3 .1,
+      )
 
 -- What a list of marks holds after plane b: of each part that stands, its mark.
 pub record Held (z : Size) (mag : ℕ → ℕ) (b : ℕ) (l : List ℕ) : Type 0 where
@@ -120,7 +122,8 @@ marks-rep z sd sg cs l m r k =
     record {
       coef = λ x u t. sym (r .same x u) ∙ k .coef x u t;
       desc = λ n a p q s u. sym (r .same _ u) ∙ k .desc n a p q s u;
-      grand = λ n a p q s u. sym (r .same _ u) ∙ k .grand n a p q s u }
+      grand = λ n a p q s u. sym (r .same _ u) ∙ k .grand n a p q s u;
+    }
 
 plane-list : (z : Size) (mag : ℕ → ℕ) (neg : ℕ → Bool) (b : ℕ) (l : List ℕ) → Held z mag (suc b) l
     → ((scan-plane-l z mag neg b l) .0 ≡ plane z mag neg b) × (length ((scan-plane-l z mag neg b l) .1) ≡ I z)
@@ -141,10 +144,11 @@ module _ (z : Size) (full : I z ≡ 4 ^ z .deep) (A : Arr) where
       → (m : List ℕ) × Leads (z .deep) (bits-of A) (suc b) (at (suc b) pixels 0 l) (plane z (A .mag) (A .neg) b) (at b pixels 0 m) × Held z (A .mag) b m
   machine-plane b l h =
       let r = plane-leads z full A b l (h .low) in
-      let q = plane-list z (A .mag) (A .neg) b l h in
-      ((scan-plane-l z (A .mag) (A .neg) b l) .1,
-      subst (λ (o : List Bool). Leads (z .deep) (bits-of A) (suc b) (at (suc b) pixels 0 l) o (at b pixels 0 ((scan-plane-l z (A .mag) (A .neg) b l) .1))) (q .0) (r .0),
-      record { long = q .1; low = r .1; marks = q .2 })
+      let q = plane-list z (A .mag) (A .neg) b l h in (
+        (scan-plane-l z (A .mag) (A .neg) b l) .1,
+        subst (λ (o : List Bool). Leads (z .deep) (bits-of A) (suc b) (at (suc b) pixels 0 l) o (at b pixels 0 ((scan-plane-l z (A .mag) (A .neg) b l) .1))) (q .0) (r .0),
+        record { long = q .1; low = r .1; marks = q .2 },
+      )
 
   -- planes b + k - 1 to b
   unfoldable pub upto : ℕ → ℕ → List Bool
@@ -155,17 +159,20 @@ module _ (z : Size) (full : I z ≡ 4 ^ z .deep) (A : Arr) where
       → (m : List ℕ) × Runs (z .deep) (bits-of A) (at (k + b) pixels 0 l) (upto k b) (at b pixels 0 m) × Held z (A .mag) b m
   unfolding upto
   machine-planes zero b l h =
-      let e : 0 + b ≡ b = omega arith in
-      (l, subst (λ (n : ℕ). Runs (z .deep) (bits-of A) (at n pixels 0 l) [] (at b pixels 0 l)) (sym e) (runs-none (z .deep) (bits-of A) (at b pixels 0 l)),
-      subst (λ (n : ℕ). Held z (A .mag) n l) e h)
+      let e : 0 + b ≡ b = omega arith in (
+        l,
+        subst (λ (n : ℕ). Runs (z .deep) (bits-of A) (at n pixels 0 l) [] (at b pixels 0 l)) (sym e) (runs-none (z .deep) (bits-of A) (at b pixels 0 l)),
+        subst (λ (n : ℕ). Held z (A .mag) n l) e h,
+      )
   machine-planes (suc k) b l h =
       let e : suc k + b ≡ suc (k + b) = omega arith in
       let p = machine-plane (k + b) l (subst (λ (n : ℕ). Held z (A .mag) n l) e h) in
-      let q = machine-planes k b (p .0) (p .2) in
-      (q .0,
-      subst (λ (n : ℕ). Runs (z .deep) (bits-of A) (at n pixels 0 l) (plane z (A .mag) (A .neg) (k + b) ++ upto k b) (at b pixels 0 (q .0))) (sym e)
-      (runs-then (z .deep) (bits-of A) (at (suc (k + b)) pixels 0 l) (at (k + b) pixels 0 (p .0)) (at b pixels 0 (q .0)) (plane z (A .mag) (A .neg) (k + b)) (upto k b) (p .1 .runs) (q .1)),
-      q .2)
+      let q = machine-planes k b (p .0) (p .2) in (
+        q .0,
+        subst (λ (n : ℕ). Runs (z .deep) (bits-of A) (at n pixels 0 l) (plane z (A .mag) (A .neg) (k + b) ++ upto k b) (at b pixels 0 (q .0))) (sym e)
+            (runs-then (z .deep) (bits-of A) (at (suc (k + b)) pixels 0 l) (at (k + b) pixels 0 (p .0)) (at b pixels 0 (q .0)) (plane z (A .mag) (A .neg) (k + b)) (upto k b) (p .1 .runs) (q .1)),
+        q .2,
+      )
 
   pub body-upto : (k b : ℕ) → body z (A .mag) (A .neg) (k + b) ≡ upto k b ++ body z (A .mag) (A .neg) b
   unfolding upto body
@@ -193,10 +200,11 @@ module _ (z : Size) (full : I z ≡ 4 ^ z .deep) (A : Arr) where
   machine-body zero l h = (l, runs-none (z .deep) (bits-of A) (at 0 pixels 0 l), h)
   machine-body (suc b) l h =
       let p = machine-plane b l h in
-      let q = machine-body b (p .0) (p .2) in
-      (q .0,
-      runs-then (z .deep) (bits-of A) (at (suc b) pixels 0 l) (at b pixels 0 (p .0)) (at 0 pixels 0 (q .0)) (plane z (A .mag) (A .neg) b) (body z (A .mag) (A .neg) b) (p .1 .runs) (q .1),
-      q .2)
+      let q = machine-body b (p .0) (p .2) in (
+        q .0,
+        runs-then (z .deep) (bits-of A) (at (suc b) pixels 0 l) (at b pixels 0 (p .0)) (at 0 pixels 0 (q .0)) (plane z (A .mag) (A .neg) b) (body z (A .mag) (A .neg) b) (p .1 .runs) (q .1),
+        q .2,
+      )
 
   -- THE START
   pub start-low : (n : ℕ) → getD (start-from-l z (A .mag) (A .neg) n) 0 0 ≡ 1
@@ -211,10 +219,11 @@ module _ (z : Size) (full : I z ≡ 4 ^ z .deep) (A : Arr) where
   start-is-low = omega (arith, start-low (3 * z .e))
 
   pub start-held : (P : ℕ) → ((i : ℕ) → i < I z → A .mag i < 2 ^ P) → Held z (A .mag) P (start-l z (A .mag) (A .neg))
-  unfolding start-l W.start 
+  unfolding start-l W.start
   start-held P small =
       let r = rep-start z (A .mag) (A .neg) (3 * z .e) in
       record {
         long = r .long;
         low = omega (arith, start-low (3 * z .e));
-        marks = marks-rep z (split-desc z (A .mag) P) (split-grand z (A .mag) P) (λ x. rest z (A .mag) P x) _ _ r (W.start-marks z (A .mag) (A .neg) P small) }
+        marks = marks-rep z (split-desc z (A .mag) P) (split-grand z (A .mag) P) (λ x. rest z (A .mag) P x) _ _ r (W.start-marks z (A .mag) (A .neg) P small);
+      }

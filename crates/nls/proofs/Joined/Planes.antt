@@ -87,7 +87,7 @@ module _ (z : Size) (full : I z ≡ 4 ^ z .deep) (A : Arr) where
       go p true e ih =
           let s : c ≡ b = eqb-true c b e in
           let one : during N c (from (suc c) l) (plane z (A .mag) (A .neg) c) ≡ plane z (A .mag) (A .neg) c =
-              during-in N c (from (suc c) l) (plane z (A .mag) (A .neg) c) (p .1 .stays) in
+          during-in N c (from (suc c) l) (plane z (A .mag) (A .neg) c) (p .1 .stays) in
           let two : during N c (from c (p .0)) (body z (A .mag) (A .neg) c) ≡ [] = during-none c c (p .0) (omega arith) (p .2) in
           subst (λ (k : ℕ). during N k (from (suc c) l) (plane z (A .mag) (A .neg) c ++ body z (A .mag) (A .neg) c) ≡ plane z (A .mag) (A .neg) k) s
           (first c c l (p .0) (plane z (A .mag) (A .neg) c) (body z (A .mag) (A .neg) c) (p .1)
@@ -97,7 +97,7 @@ module _ (z : Size) (full : I z ≡ 4 ^ z .deep) (A : Arr) where
       go p false e ih =
           let ne : c ≡ b → ⊥ = eqb-false c b e in
           let one : during N b (from (suc c) l) (plane z (A .mag) (A .neg) c) ≡ [] =
-              during-out N b c (from (suc c) l) (plane z (A .mag) (A .neg) c) ne (p .1 .stays) in
+          during-out N b c (from (suc c) l) (plane z (A .mag) (A .neg) c) ne (p .1 .stays) in
           first b c l (p .0) (plane z (A .mag) (A .neg) c) (body z (A .mag) (A .neg) c) (p .1)
           ∙ ap (λ (r : List Bool). r ++ during N b (from c (p .0)) (body z (A .mag) (A .neg) c)) one
           ∙ ih (p .0) (p .2) (omega (arith, ne, h))

@@ -48,8 +48,8 @@ module _ (z : Size) (full : I z ≡ 4 ^ z .deep) (mag : ℕ → ℕ) (neg : ℕ 
       subst (λ (k : ℕ). (elim (ltb w K) as (λ _. List ℕ) [ true ↦ pushFrom K n (4 * w) (c + 1) (set m w c) | false ↦ m ]) ≡ cond (ltb w k) (push-l z mag neg b f (suc c) (4 * w) (set m w c)) m)
       (sym full)
       (go (ltb w K)
-        (subst (λ (d : ℕ). pushFrom K n (4 * w) d (set m w c) ≡ push-l z mag neg b f (suc c) (4 * w) (set m w c)) {x = suc c} {y = c + 1} (omega arith)
-        (push-same n f (4 * w) (suc c) (set m w c) (omega arith) (omega arith) (omega (arith, ap (λ (x : ℕ). x * w) (pow-succ' 4 f))))))
+      (subst (λ (d : ℕ). pushFrom K n (4 * w) d (set m w c) ≡ push-l z mag neg b f (suc c) (4 * w) (set m w c)) {x = suc c} {y = c + 1} (omega arith)
+      (push-same n f (4 * w) (suc c) (set m w c) (omega arith) (omega arith) (omega (arith, ap (λ (x : ℕ). x * w) (pow-succ' 4 f))))))
     where
       go : (t : Bool) → pushFrom K n (4 * w) (c + 1) (set m w c) ≡ push-l z mag neg b f (suc c) (4 * w) (set m w c)
           → (elim t as (λ _. List ℕ) [ true ↦ pushFrom K n (4 * w) (c + 1) (set m w c) | false ↦ m ]) ≡ cond t (push-l z mag neg b f (suc c) (4 * w) (set m w c)) m
@@ -86,7 +86,7 @@ module _ (z : Size) (full : I z ≡ 4 ^ z .deep) (mag : ℕ → ℕ) (neg : ℕ 
   roots-more zero k = ap (λ (x : ℕ). start-from-l z mag neg x) {x = k} {y = k + 0} (omega arith)
   roots-more (suc n) k =
       let here : push J (4 * (z .e + k)) (set (start-from-l z mag neg k) (4 * (z .e + k)) 5) ≡ start-from-l z mag neg (suc k) =
-          unfold start-from-l in pushed-same z full mag neg 0 (start-from-l z mag neg k) (4 * (z .e + k)) (omega arith) in
+      unfold start-from-l in pushed-same z full mag neg 0 (start-from-l z mag neg k) (4 * (z .e + k)) (omega arith) in
       let next : 4 * (z .e + k) + 4 ≡ 4 * (z .e + suc k) = omega arith in
       let count : suc k + n ≡ k + suc n = omega arith in
       ap (λ (x : List ℕ). pushRoots J n (4 * (z .e + k) + 4) x) here
@@ -98,7 +98,7 @@ module _ (z : Size) (full : I z ≡ 4 ^ z .deep) (mag : ℕ → ℕ) (neg : ℕ 
   unfolding start-l
   start-same =
       let none : replicate (D z) 1 ++ replicate (J - D z) 0 ≡ start-from-l z mag neg 0 =
-          unfold start-from-l in ap (λ (x : ℕ). replicate (D z) 1 ++ replicate (x - D z) 0) (sym full) in
+      unfold start-from-l in ap (λ (x : ℕ). replicate (D z) 1 ++ replicate (x - D z) 0) (sym full) in
       let many : 3 * D z / 4 ≡ 3 * z .e = omega arith in
       let first : D z ≡ 4 * (z .e + 0) = omega arith in
       ap (λ (x : List ℕ). pushRoots J (3 * D z / 4) (D z) x) none

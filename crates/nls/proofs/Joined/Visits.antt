@@ -155,8 +155,8 @@ module _ (z : Size) (mag : ℕ → ℕ) (neg : ℕ → Bool) (b : ℕ) where
     where
       go : (d : Bool) → eqb (getD l i 0) 5 ≡ d → (g : Bool) → eqb (getD l i 0) 6 ≡ g → (c h k t : Bool)
           → Low ((cond {A = LStep} d (h ∷ [], cond h (open-desc-l z mag neg b l i) l, cond h i (i + 4))
-            (cond g (k ∷ [], cond k (open-grand-l z mag neg b l i) l, cond k i (i + 16))
-            (cond c (P.coded z mag neg b i, set l i (cond t 2 1), suc i) ([], l, i + cond (leb (getD l i 0) 3) 4 (C.skip (getD l i 0)))))) .1)
+          (cond g (k ∷ [], cond k (open-grand-l z mag neg b l i) l, cond k i (i + 16))
+          (cond c (P.coded z mag neg b i, set l i (cond t 2 1), suc i) ([], l, i + cond (leb (getD l i 0) 3) 4 (C.skip (getD l i 0)))))) .1)
       go true e g q c true k t = low-desc l i (low-pos l i w (omega (arith, eqb-true (getD l i 0) 5 e))) w
       go true e g q c false k t = w
       go false e true q c h true t = low-grand l i (low-pos l i w (omega (arith, eqb-true (getD l i 0) 6 q))) w
@@ -192,8 +192,9 @@ module _ (z : Size) (mag : ℕ → ℕ) (neg : ℕ → Bool) (b : ℕ) where
     where
       step : Bool → Bool → Bool → Bool → Bool → LStep
       step d g c h k = cond {A = LStep} d (h ∷ [], cond h (open-desc-l z mag neg b l i) l, cond h i (i + 4))
-            (cond g (k ∷ [], cond k (open-grand-l z mag neg b l i) l, cond k i (i + 16))
-            (cond c (P.coded z mag neg b i, set l i (cond (P.bit z mag neg b i) 2 1), suc i) ([], l, i + cond (leb (getD l i 0) 3) 4 (C.skip (getD l i 0)))))
+          (cond g (k ∷ [], cond k (open-grand-l z mag neg b l i) l, cond k i (i + 16))
+          (cond c (P.coded z mag neg b i, set l i (cond (P.bit z mag neg b i) 2 1), suc i) ([], l, i + cond (leb (getD l i 0) 3) 4 (C.skip (getD l i 0)))))
+
       go : (d : Bool) → eqb (getD l i 0) 5 ≡ d → (g : Bool) → eqb (getD l i 0) 6 ≡ g → (c : Bool) → eqb (getD l i 0) 4 ≡ c → (h k : Bool)
           → rank ((step d g c h k) .1) ((step d g c h k) .2) < rank l i
       go true e g q c o true k =
@@ -208,8 +209,12 @@ module _ (z : Size) (mag : ℕ → ℕ) (neg : ℕ → Bool) (b : ℕ) where
       go false e true q c o h false = omega (arith, again-le (getD l (i + 16) 0))
       go false e false q true o h k = omega (arith, again-le (getD (set l i (cond (P.bit z mag neg b i) 2 1)) (suc i) 0))
       go false e false q false o h k =
-          omega (arith, again-le (getD l (i + cond (leb (getD l i 0) 3) 4 (C.skip (getD l i 0))) 0),
-          sskip-same (getD l i 0) (eqb-false (getD l i 0) 4 o), sskip-pos (getD l i 0))
+          omega (
+            arith,
+            again-le (getD l (i + cond (leb (getD l i 0) 3) 4 (C.skip (getD l i 0))) 0),
+            sskip-same (getD l i 0) (eqb-false (getD l i 0) 4 o),
+            sskip-pos (getD l i 0),
+          )
 
 -- THE VISITS
 pub leads-at : (N : ℕ) (A : Bits) (k : ℕ) (s : State) (o : List Bool) (l : ℕ) (p : Pass) (i i′ : ℕ) (m m′ : List ℕ) → i ≡ i′ → m ≡ m′ → Leads N A k s o (at l p i m) → Leads N A k s o (at l p i′ m′)
@@ -289,13 +294,15 @@ module _ (z : Size) (full : I z ≡ 4 ^ z .deep) (A : Arr) (b : ℕ) where
     where
       below : ltb i K ≡ true
       below = lt-ltb i K (omega (arith, u, full))
+
       s : State
       s = at (suc b) sets i l
+
       go : (d : Bool) → eqb (getD l i 0) 5 ≡ d → (g : Bool) → eqb (getD l i 0) 6 ≡ g → (c : Bool) → eqb (getD l i 0) 4 ≡ c
           → (h : Bool) → has-desc z (A .mag) b (i / 4) ≡ h → (k : Bool) → has-grand z (A .mag) b (i / 16) ≡ k → (a : Bool) → P.bit z (A .mag) (A .neg) b i ≡ a
           → Visit sets l i (cond {A = LStep} d (h ∷ [], cond h (open-desc-l z (A .mag) (A .neg) b l i) l, cond h i (i + 4))
-            (cond g (k ∷ [], cond k (open-grand-l z (A .mag) (A .neg) b l i) l, cond k i (i + 16))
-            (cond c (a ∷ cond a (A .neg i ∷ []) [], set l i (cond a 2 1), suc i) ([], l, i + cond (leb (getD l i 0) 3) 4 (C.skip (getD l i 0))))))
+          (cond g (k ∷ [], cond k (open-grand-l z (A .mag) (A .neg) b l i) l, cond k i (i + 16))
+          (cond c (a ∷ cond a (A .neg i ∷ []) [], set l i (cond a 2 1), suc i) ([], l, i + cond (leb (getD l i 0) 3) 4 (C.skip (getD l i 0))))))
       go true e g q c o h eh k ek a ea =
           let lk : look K s ≡ asks (inDesc (i / 4) b) = rw (below, e) in
           let x : Leads N B (suc b) s (h ∷ []) (tell K s h) = leads-asks N B (suc b) s (inDesc (i / 4) b) h refl lk (desc-answer z full A (i / 4) b ∙ eh) in

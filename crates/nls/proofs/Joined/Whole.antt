@@ -88,11 +88,13 @@ module _ (N L : ℕ) (b : 1 ≤ L) (c : L < N) where
     pub scan-ends : (u : List Bool) × (m : List ℕ) × Fit N (bits-of A) (begin N L P) u × (reach (4 ^ N) (begin N L P) u ≡ at 0 pixels 0 m)
     scan-ends =
         let l : List ℕ = start-l z (A .mag) (A .neg) in
-        let r = machine-list z (all-is N L b c) A P l (start-is-low z (all-is N L b c) A) in
-        ((scan-l z (A .mag) (A .neg) P l) .0, (scan-l z (A .mag) (A .neg) P l) .1,
-        subst (λ (s : State). Fit N (bits-of A) s ((scan-l z (A .mag) (A .neg) P l) .0)) (sym begin-is) (r .fits),
-        ap (λ (s : State). reach (4 ^ N) s ((scan-l z (A .mag) (A .neg) P l) .0)) begin-is
-        ∙ runs-ends N (bits-of A) (at P pixels 0 l) (at 0 pixels 0 ((scan-l z (A .mag) (A .neg) P l) .1)) ((scan-l z (A .mag) (A .neg) P l) .0) r refl)
+        let r = machine-list z (all-is N L b c) A P l (start-is-low z (all-is N L b c) A) in (
+          (scan-l z (A .mag) (A .neg) P l) .0,
+          (scan-l z (A .mag) (A .neg) P l) .1,
+          subst (λ (s : State). Fit N (bits-of A) s ((scan-l z (A .mag) (A .neg) P l) .0)) (sym begin-is) (r .fits),
+          ap (λ (s : State). reach (4 ^ N) s ((scan-l z (A .mag) (A .neg) P l) .0)) begin-is
+              ∙ runs-ends N (bits-of A) (at P pixels 0 l) (at 0 pixels 0 ((scan-l z (A .mag) (A .neg) P l) .1)) ((scan-l z (A .mag) (A .neg) P l) .0) r refl,
+        )
 
   module _ (P : ℕ) (A : Arr) (below : (i : ℕ) → i < 4 ^ N → A .mag i < 2 ^ P) where
     small : (i : ℕ) → i < I z → A .mag i < 2 ^ P
@@ -117,11 +119,12 @@ module _ (N L : ℕ) (b : 1 ≤ L) (c : L < N) where
 
     -- IT ENDS: after it the machine is over, and its marks are those of the parts that stand
     pub whole-ends : (m : List ℕ) × (reach (4 ^ N) (begin N L P) (whole N L P A) ≡ at 0 pixels 0 m) × Held z (A .mag) 0 m
-    whole-ends =
-        (run .0,
-        ap (λ (u : List Bool). reach (4 ^ N) (begin N L P) u) whole-is-body ∙ ap (λ (s : State). reach (4 ^ N) s (body z (A .mag) (A .neg) P)) (begin-is P A)
-        ∙ runs-ends N (bits-of A) (at P pixels 0 (start-l z (A .mag) (A .neg))) (at 0 pixels 0 (run .0)) (body z (A .mag) (A .neg) P) (run .1) refl,
-        run .2)
+    whole-ends = (
+      run .0,
+      ap (λ (u : List Bool). reach (4 ^ N) (begin N L P) u) whole-is-body ∙ ap (λ (s : State). reach (4 ^ N) s (body z (A .mag) (A .neg) P)) (begin-is P A)
+          ∙ runs-ends N (bits-of A) (at P pixels 0 (start-l z (A .mag) (A .neg))) (at 0 pixels 0 (run .0)) (body z (A .mag) (A .neg) P) (run .1) refl,
+      run .2,
+    )
 
     pub whole-over : look K (reach (4 ^ N) (begin N L P) (whole N L P A)) ≡ over
     whole-over = ap (λ (s : State). look K s) (whole-ends .1)
@@ -139,11 +142,13 @@ module _ (N L : ℕ) (b : 1 ≤ L) (c : L < N) where
         let w : Held z (A .mag) ((P - k) + k) (start-l z (A .mag) (A .neg)) = subst (λ (n : ℕ). Held z (A .mag) n (start-l z (A .mag) (A .neg))) e (start-held z (all-is N L b c) A P small) in
         let p = machine-planes z (all-is N L b c) A (P - k) k (start-l z (A .mag) (A .neg)) w in
         let q : Runs N (bits-of A) (at P pixels 0 (start-l z (A .mag) (A .neg))) (upto z (all-is N L b c) A (P - k) k) (at k pixels 0 (p .0)) =
-            subst (λ (n : ℕ). Runs N (bits-of A) (at n pixels 0 (start-l z (A .mag) (A .neg))) (upto z (all-is N L b c) A (P - k) k) (at k pixels 0 (p .0))) (sym e) (p .1) in
-        (upto z (all-is N L b c) A (P - k) k, p .0,
-        whole-is-body ∙ ap (λ (n : ℕ). body z (A .mag) (A .neg) n) e ∙ body-upto z (all-is N L b c) A (P - k) k,
-        ap (λ (s : State). reach (4 ^ N) s (upto z (all-is N L b c) A (P - k) k)) (begin-is P A) ∙ q .ends,
-        p .2)
+        subst (λ (n : ℕ). Runs N (bits-of A) (at n pixels 0 (start-l z (A .mag) (A .neg))) (upto z (all-is N L b c) A (P - k) k) (at k pixels 0 (p .0))) (sym e) (p .1) in (
+          upto z (all-is N L b c) A (P - k) k,
+          p .0,
+          whole-is-body ∙ ap (λ (n : ℕ). body z (A .mag) (A .neg) n) e ∙ body-upto z (all-is N L b c) A (P - k) k,
+          ap (λ (s : State). reach (4 ^ N) s (upto z (all-is N L b c) A (P - k) k)) (begin-is P A) ∙ q .ends,
+          p .2,
+        )
 
     -- the marks at the end are those of the scan over a list
     pub end-marks : reach (4 ^ N) (begin N L P) (whole N L P A) ≡ at 0 pixels 0 ((scan-l z (A .mag) (A .neg) P (start-l z (A .mag) (A .neg))) .1)
@@ -153,7 +158,6 @@ module _ (N L : ℕ) (b : 1 ≤ L) (c : L < N) where
         let e : (scan-l z (A .mag) (A .neg) P l) .0 ≡ whole N L P A = list-scan z (A .mag) (A .neg) P small ∙ sym whole-is-body in
         ap (λ (u : List Bool). reach (4 ^ N) (begin N L P) u) (sym e) ∙ ap (λ (s : State). reach (4 ^ N) s ((scan-l z (A .mag) (A .neg) P l) .0)) (begin-is P A)
         ∙ runs-ends N (bits-of A) (at P pixels 0 l) (at 0 pixels 0 ((scan-l z (A .mag) (A .neg) P l) .1)) ((scan-l z (A .mag) (A .neg) P l) .0) w refl
-
 
     -- UNDER A BUDGET: its first n bits, the smaller of n and all
     pub budget-bits : (n : ℕ) → answersOf N (bits-of A) n (begin N L P) ≡ take n (whole N L P A)
@@ -197,11 +201,13 @@ module _ (N L : ℕ) (b : 1 ≤ L) (c : L < N) where
     splits-fall : (k : ℕ) → splits z (A .mag) (suc k) ≤ splits z (A .mag) k
     unfolding splits
     splits-fall k =
-        omega (arith,
-        sum-le (z .e) (Q z - z .e) (λ i. ι (split-desc z (A .mag) (suc k) i)) (λ i. ι (split-desc z (A .mag) k i))
-          (λ i u v. ι-le (split-desc z (A .mag) (suc k) i) (split-desc z (A .mag) k i) (desc-shrinks z (A .mag) k i)),
-        sum-le (z .e) (z .j - z .e) (λ i. ι (split-grand z (A .mag) (suc k) i)) (λ i. ι (split-grand z (A .mag) k i))
-          (λ i u v. ι-le (split-grand z (A .mag) (suc k) i) (split-grand z (A .mag) k i) (grand-shrinks z (A .mag) k i)))
+        omega (
+          arith,
+          sum-le (z .e) (Q z - z .e) (λ i. ι (split-desc z (A .mag) (suc k) i)) (λ i. ι (split-desc z (A .mag) k i))
+              (λ i u v. ι-le (split-desc z (A .mag) (suc k) i) (split-desc z (A .mag) k i) (desc-shrinks z (A .mag) k i)),
+          sum-le (z .e) (z .j - z .e) (λ i. ι (split-grand z (A .mag) (suc k) i)) (λ i. ι (split-grand z (A .mag) k i))
+              (λ i u v. ι-le (split-grand z (A .mag) (suc k) i) (split-grand z (A .mag) k i) (grand-shrinks z (A .mag) k i)),
+        )
 
     bigs-fall : (k : ℕ) → bigs z (A .mag) (suc k) ≤ bigs z (A .mag) k
     unfolding bigs
@@ -231,17 +237,18 @@ module _ (N L : ℕ) (b : 1 ≤ L) (c : L < N) where
       let lower : (i : ℕ) → i < 4 ^ N → A .mag i < 2 ^ suc n = λ i u. rw (all i u) (pow-lt (le-refl _)) in
       ap (λ (u : List Bool). length u) (whole-is-body (suc n) A lower)
       ∙ bound-reached z (A .mag) n (λ i u. lower i (omega (arith, u, all-is N L b c)))
-        (λ i u. rw (all i (omega (arith, u, all-is N L b c))) (le-refl _)) (A .neg)
+      (λ i u. rw (all i (omega (arith, u, all-is N L b c))) (le-refl _)) (A .neg)
       ∙ worst-is N L (suc n) b c
 
   -- such an array has exactly P planes
   pub reached-planes : (n : ℕ) (A : Arr) → ((i : ℕ) → i < 4 ^ N → A .mag i ≡ 2 ^ n) → Planes (4 ^ N) (A .mag) (suc n)
   reached-planes n A all =
-      record
-      { below = λ i u. rw (all i u) (pow-lt (le-refl _))
-      ; least = λ R h. ⊎-elim (λ l. l)
-          (λ l. absurd (omega (arith, pow-mono {i = R} {j = n} (omega arith), all 0 (pow4-pos N), h 0 (pow4-pos N))))
-          (order (suc n) R) }
+      record {
+        below = λ i u. rw (all i u) (pow-lt (le-refl _));
+        least = λ R h. ⊎-elim (λ l. l)
+            (λ l. absurd (omega (arith, pow-mono {i = R} {j = n} (omega arith), all 0 (pow4-pos N), h 0 (pow4-pos N))))
+            (order (suc n) R);
+      }
 
   unfoldable pub flat : ℕ → Arr
   flat n = record { mag = λ i. 2 ^ n; neg = λ i. false }

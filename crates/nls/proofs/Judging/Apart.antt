@@ -47,6 +47,7 @@ module _ (N D P : ℕ) (D-big : 4 ≤ D) (D-4 : D % 4 ≡ 0) (I-16 : 4 ^ N % 16 
       at : (x : ℕ) → Under g x → c .sD x ≡ true → ⊥
       at x w d = true≢false (sym d ∙ subst (λ (y : ℕ). c .sD y ≡ false) {x = 4 * x / 4} {y = x} (omega arith)
           ((no-alone D I c (4 * x) (dead-D N D P D-big D-4 I-16 D-I c o g (4 * x) b ng (far {i = 4 * x} (subst (λ (y : ℕ). Under g y) {x = x} {y = 4 * x / 4} (omega arith) w)))) .1))
+
       go : (h : ℕ) → h / 4 ≡ q → Cmp h g → ⊥
       go h e (same z) = true≢false (sym sg ∙ stands-no D I c g (omega arith) (subst (λ (x : ℕ). c .sG x ≡ false) {x = q} {y = g / 4} (omega arith) nq))
       go h e (over w) = true≢false (sym sg ∙ not-first g (dead-G N D P D-big D-4 I-16 D-I c o q g a nq (grand-of q h g e w)))
@@ -60,6 +61,7 @@ module _ (N D P : ℕ) (D-big : 4 ≤ D) (D-4 : D % 4 ≡ 0) (I-16 : 4 ^ N % 16 
       at : (x y : ℕ) → D ≤ 4 * x → c .sG x ≡ false → Under x y → c .sD y ≡ true → ⊥
       at x y lo n w d = true≢false (sym d ∙ subst (λ (z : ℕ). c .sD z ≡ false) {x = 4 * y / 4} {y = y} (omega arith)
           ((no-alone D I c (4 * y) (dead-G N D P D-big D-4 I-16 D-I c o x (4 * y) lo n (subst (λ (z : ℕ). Under x z) {x = y} {y = 4 * y / 4} (omega arith) w))) .1))
+
       go : Cmp q p → q ≡ p
       go (same e) = e
       go (over w) = absurd (at q p a nq w dp)

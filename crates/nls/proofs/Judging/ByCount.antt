@@ -86,8 +86,10 @@ module _ (N D P : ℕ) (D-big : 4 ≤ D) (D-4 : D % 4 ≡ 0) (I-16 : 4 ^ N % 16 
         where
           c : Cfg
           c = z .1 .0
+
           hi : i < I
           hi = ltb-true i I ex
+
           past : suc b ≡ P → Dec (i < D) → D ≤ i
           past e (no h) = omega arith
           past e (yes h) = absurd (go (alone D I c i) refl)
@@ -97,6 +99,7 @@ module _ (N D P : ℕ) (D-big : 4 ≤ D) (D-4 : D % 4 ≡ 0) (I-16 : 4 ^ N % 16 
               kinds a (no q) (yes y) x = let r : (e : ℕ) × (b < e) × (k .has i e ≡ true) = z .1 .1 .fr .m3 i hi (z .1 .1 .g .core .tab .solo i hi a ∙ y) in omega (arith, r .1, kc i (r .0) (r .2))
               kinds a (no q) (no y) (yes x) = z .1 .1 .g .no4 i hi a x
               kinds a (no q) (no y) (no x) = eqb-false (getD m i 0) 1 ey (omega (arith, z .1 .1 .g .core .tab .solo i hi a, z .1 .1 .g .core .rng i hi a))
+
               go : (x : Bool) → alone D I c i ≡ x → ⊥
               go true a = kinds a (ℕ-discrete (c .al i) 2) (ℕ-discrete (c .al i) 3) (ℕ-discrete (c .al i) 4)
               go false a = omega (arith, (no-alone D I c i a) .0)
@@ -110,27 +113,33 @@ module _ (N D P : ℕ) (D-big : 4 ≤ D) (D-4 : D % 4 ≡ 0) (I-16 : 4 ^ N % 16 
         where
           c : Cfg
           c = z .1 .0
+
           hi : i < I
           hi = ltb-true i I ex
+
           kk : Core D I D-big D-4 I-16 (z .1 .0) m
           kk = z .1 .1 .g .core
+
           four : i % 4 ≡ 0
           four = go (ℕ-discrete (i % 4) 0)
             where
               go : Dec (i % 4 ≡ 0) → i % 4 ≡ 0
               go (yes h) = h
               go (no h) = let r : (i < I) × (alone D I (z .1 .0) i ≡ true) × ((z .1 .0) .al i ≡ 4) = z .1 .1 .g .ali h in absurd (eqb-false _ _ ec (kk .tab .solo i hi (r .1) ∙ r .2))
+
           low : i < D → getD m i 0 < 5
           low h = go (alone D I (z .1 .0) i) refl
             where
               go : (x : Bool) → alone D I (z .1 .0) i ≡ x → getD m i 0 < 5
               go true a = omega (arith, kk .tab .solo i hi a, kk .rng i hi a)
               go false a = absurd (omega (arith, (no-alone D I (z .1 .0) i a) .0))
+
           mid : suc b ≡ P → D ≤ i → i < 4 * D → (x : Bool) → (z .1 .0) .sD (i / 4) ≡ x → ⊥
           mid e lo h true s = pick (alone D I (z .1 .0) i) refl
             where
               a4 : (z .1 .0) .al i ≡ 4
               a4 = ap (λ (y : ℕ). (z .1 .0) .al y) {x = i} {y = 4 * (i / 4)} (omega (arith, four)) ∙ z .1 .1 .rs e (i / 4) (omega (arith, four)) (omega arith) (omega (arith, four)) s
+
               pick : (x : Bool) → alone D I (z .1 .0) i ≡ x → ⊥
               pick true a = eqb-false _ _ ec (kk .tab .solo i hi a ∙ a4)
               pick false a = true≢false (sym s ∙ (no-alone D I (z .1 .0) i a) .1)
@@ -139,6 +148,7 @@ module _ (N D P : ℕ) (D-big : 4 ≤ D) (D-4 : D % 4 ≡ 0) (I-16 : 4 ^ N % 16 
               st : (x : Bool) → stands D I (z .1 .0) (i / 4) ≡ x → stands D I (z .1 .0) (i / 4) ≡ true
               st true y = y
               st false y = absurd (omega (arith, (no-stands D I (z .1 .0) (i / 4) y) .0))
+
           step : suc b ≡ P → i + setSkip (getD m i 0) < 4 * D → Dec (i < D) → Tally n hit (D + ((i + setSkip (getD m i 0)) / 4 - D / 4))
           step e l (yes h) = same-tally n hit (D + (i / 4 - D / 4)) (D + ((i + setSkip (getD m i 0)) / 4 - D / 4)) (omega (arith, four, sskip-small (getD m i 0) (low h))) (j e (omega arith))
           step e l (no h) = absurd (mid e (omega arith) (omega arith) ((z .1 .0) .sD (i / 4)) refl)
@@ -190,8 +200,10 @@ module _ (N D P : ℕ) (D-big : 4 ≤ D) (D-4 : D % 4 ≡ 0) (I-16 : 4 ^ N % 16 
         where
           mk : getD m i 0 ≡ 1
           mk = eqb-true _ _ ey
+
           it : (alone D I (z .1 .0) i ≡ true) × ((z .1 .0) .al i ≡ getD m i 0)
           it = is-alone D I D-big D-4 I-16 (z .1 .0) m (z .1 .1 .g .core) i (ltb-true i I ex) (omega (arith, mk)) (omega (arith, mk))
+
           low : suc b ≡ P → Dec (i < D) → i < D
           low e (yes h) = h
           low e (no h) = absurd (true≢false (sym (it .0) ∙ alone-no D I (z .1 .0) i (omega arith) (z .1 .1 .np e (i / 4))))
@@ -203,7 +215,7 @@ module _ (N D P : ℕ) (D-big : 4 ≤ D) (D-4 : D % 4 ≡ 0) (I-16 : 4 ^ N % 16 
       jt-sets b i m true true g c true ex ed eg ec z f j t = λ e l. inr (or-t hit, over1 (D + (i / 4 - D / 4)) (j e l))
       jt-sets b i m true true g c false ex ed eg ec z f j t = λ e l.
           (let is : (i % 4 ≡ 0) × (stands D I (z .1 .0) (i / 4) ≡ true) × ((z .1 .0) .sD (i / 4) ≡ false) × (D ≤ i) = is-D D I D-big D-4 I-16 (z .1 .0) m (z .1 .1 .g .core) i (ltb-true i I ex) (eqb-true _ _ ed) in
-           on-0 (D + (i / 4 - D / 4)) (D + ((i + 4) / 4 - D / 4)) (omega (arith, is .0, is .3)) (j e (omega arith)))
+          on-0 (D + (i / 4 - D / 4)) (D + ((i + 4) / 4 - D / 4)) (omega (arith, is .0, is .3)) (j e (omega arith)))
       jt-sets b i m true false true c true ex ed eg ec z f j t = λ e l. absurd (far (is-G D I D-big D-4 I-16 (z .1 .0) m (z .1 .1 .g .core) i (ltb-true i I ex) (eqb-true _ _ eg)) l)
         where
           far : (i ≡ 16 * (i / 16)) × ((z .1 .0) .sD (i / 16) ≡ true) × ((z .1 .0) .sG (i / 16) ≡ false) × (D ≤ 4 * (i / 16)) × (alone D I (z .1 .0) i ≡ false) → i < 4 * D → ⊥
@@ -217,15 +229,20 @@ module _ (N D P : ℕ) (D-big : 4 ≤ D) (D-4 : D % 4 ≡ 0) (I-16 : 4 ^ N % 16 
         where
           mk : getD m i 0 ≡ 4
           mk = eqb-true _ _ ec
+
           hi : i < I
           hi = ltb-true i I ex
+
           lo : D ≤ i
           lo = (z .1 .1 .fr .c4 hi mk) .0
+
           it : (alone D I (f .1 .0) i ≡ true) × ((f .1 .0) .al i ≡ getD m i 0)
           it = is-alone D I D-big D-4 I-16 (f .1 .0) m (f .1 .1 .core) i hi (omega (arith, mk)) (omega (arith, mk))
+
           was : (x : Bool) → (f .1 .0) .sD (i / 4) ≡ x → fl
           was true s = f .1 .1 .more .qD (i / 4) s
           was false s = absurd (true≢false (sym (it .0) ∙ alone-no D I (f .1 .0) i lo s))
+
           go : Tally n hit (D + (i / 4 - D / 4)) → Tally (n + 1) (hit || false) (D + ((i + 1) / 4 - D / 4))
           go (inl r) = absurd (fn (r .0) (was ((f .1 .0) .sD (i / 4)) refl))
           go (inr r) = inr (t-or hit false (r .0), omega (arith, r .1))
@@ -252,8 +269,8 @@ module _ (N D P : ℕ) (D-big : 4 ≤ D) (D-4 : D % 4 ≡ 0) (I-16 : 4 ^ N % 16 
     unfolding next ask
     j-next k w O n hit fl fn s a l z f j t =
         j-settle A (knowO (ask I s) a k) (afterO N (ask I s) a w) (λ p. O p ⊎ ((a ≡ true) × (ask I s ≡ some p))) (capk (knowO (ask I s) a k) (belowO N State (ask I) (next I) A k (ask I s) a t l)) (n + 1) (hit || a) (tell I s a)
-          (all-tell N D P D-big D-4 I-16 D-I A false k w O (λ p. O p ⊎ ((a ≡ true) × (ask I s ≡ some p))) (s .left) (s .pass) (s .place) (s .pending) (s .marks) a z t (λ p x. x))
-          (jt A k w O (capk k l) n hit fl fn (s .left) (s .pass) (s .place) (s .pending) (s .marks) a z f j t)
+        (all-tell N D P D-big D-4 I-16 D-I A false k w O (λ p. O p ⊎ ((a ≡ true) × (ask I s ≡ some p))) (s .left) (s .pass) (s .place) (s .pending) (s .marks) a z t (λ p x. x))
+        (jt A k w O (capk k l) n hit fl fn (s .left) (s .pass) (s .place) (s .pending) (s .marks) a z f j t)
 
     good1 : (s : State) (a : Bool) (fl : Type 0) → Good D I D-big D-4 I-16 P (F1 fl) s → told N A (ask I s) a → Good D I D-big D-4 I-16 P (F1 (fl ⊎ (a ≡ true))) (next I s a)
     unfolding ask
@@ -271,9 +288,9 @@ module _ (N D P : ℕ) (D-big : 4 ≤ D) (D-4 : D % 4 ≡ 0) (I-16 : 4 ^ N % 16 
     j-run k w O n hit fl fn s [] l z g j f = subst (λ (x : Bool). J (n + 0) x s) (sym (or-nil hit)) (subst (λ (x : ℕ). J x hit s) {x = n} {y = n + 0} (omega arith) j)
     j-run k w O n hit fl fn s (a ∷ u) l z g j f =
         subst (λ (x : Bool). J (n + suc (length u)) x (reach (4 ^ N) (next I s a) u)) (or-step hit a (lit u))
-          (subst (λ (x : ℕ). J x ((hit || a) || lit u) (reach (4 ^ N) (next I s a) u)) {x = (n + 1) + length u} {y = n + suc (length u)} (omega arith)
-            (j-run (knowO (ask I s) a k) (afterO N (ask I s) a w) (λ p. O p ⊎ ((a ≡ true) × (ask I s ≡ some p))) (n + 1) (hit || a) (fl ⊎ (a ≡ true)) (fn-next hit a fl fn) (next I s a) u
-              (belowO N State (ask I) (next I) A k (ask I s) a (f .0) l) (all-next N D P D-big D-4 I-16 D-I A false k w O s a z (f .0)) (good1 s a fl g (f .0)) (j-next k w O n hit fl fn s a l z g j (f .0)) (f .1)))
+        (subst (λ (x : ℕ). J x ((hit || a) || lit u) (reach (4 ^ N) (next I s a) u)) {x = (n + 1) + length u} {y = n + suc (length u)} (omega arith)
+        (j-run (knowO (ask I s) a k) (afterO N (ask I s) a w) (λ p. O p ⊎ ((a ≡ true) × (ask I s ≡ some p))) (n + 1) (hit || a) (fl ⊎ (a ≡ true)) (fn-next hit a fl fn) (next I s a) u
+        (belowO N State (ask I) (next I) A k (ask I s) a (f .0) l) (all-next N D P D-big D-4 I-16 D-I A false k w O s a z (f .0)) (good1 s a fl g (f .0)) (j-next k w O n hit fl fn s a l z g j (f .0)) (f .1)))
 
     j-start : J 0 false (start I D P)
     unfolding start startMarks
@@ -287,7 +304,7 @@ module _ (N D P : ℕ) (D-big : 4 ≤ D) (D-4 : D % 4 ≡ 0) (I-16 : 4 ^ N % 16 
     unfolding _⊑_
     tally u f = subst (λ (x : ℕ). J x (lit u) (reach (4 ^ N) (start I D P) u)) {x = 0 + length u} {y = length u} (omega arith)
         (j-run nothing (record { has = λ i b. ltb b P; neg = λ i. false }) (λ p. ⊥) 0 false ⊥ (λ e y. y) (start I D P) u (λ i b h. absurd (false≢true h)) (all-start N D P D-big D-4 I-16 D-I A false)
-          (good-start D I D-big D-4 I-16 D-I P (F1 ⊥) (λ j y. y)) j-start f)
+        (good-start D I D-big D-4 I-16 D-I P (F1 ⊥) (λ j y. y)) j-start f)
 
 -- the clash, with the number of bits used
 abbrev pub count-st : ℕ → ℕ → ℕ → ℕ → ℕ → Pass → ℕ → Bool → List ℕ → Bool
@@ -330,9 +347,10 @@ module _ (N D P : ℕ) (D-big : 4 ≤ D) (D-4 : D % 4 ≡ 0) (I-16 : 4 ^ N % 16 
     both-at (suc b) pixels i s m z g j = ((λ e. false≢true e), λ e. absurd e)
     both-at (suc b) refining i s m z g j = ((λ e. false≢true e), λ e. absurd e)
     both-at (suc b) sets i true m z g j = ((λ e. false≢true e), λ e. absurd e)
-    both-at (suc b) sets i false m z g j =
-        ((λ e. clash-to D II P b i m (eqb (length u) (D + 3 * D / 4 - 1)) (ok b i m z g j) (ko b i m z j) e),
-         λ e. clash-from D II P b i m (eqb (length u) (D + 3 * D / 4 - 1)) (ok b i m z g j) (ko b i m z j) e)
+    both-at (suc b) sets i false m z g j = (
+      (λ e. clash-to D II P b i m (eqb (length u) (D + 3 * D / 4 - 1)) (ok b i m z g j) (ko b i m z j) e),
+      λ e. clash-from D II P b i m (eqb (length u) (D + 3 * D / 4 - 1)) (ok b i m z g j) (ko b i m z j) e,
+    )
 
   both-of : (u : List Bool) → (w : Some N D P D-big D-4 I-16 D-I u) → (count-st II D P (length u) ((reach (4 ^ N) S u) .left) ((reach (4 ^ N) S u) .pass) ((reach (4 ^ N) S u) .place) ((reach (4 ^ N) S u) .pending) ((reach (4 ^ N) S u) .marks) ≡ true → Clashes N D P D-big D-4 I-16 D-I (reach (4 ^ N) S u))
       × (Clashes N D P D-big D-4 I-16 D-I (reach (4 ^ N) S u) → count-st II D P (length u) ((reach (4 ^ N) S u) .left) ((reach (4 ^ N) S u) .pass) ((reach (4 ^ N) S u) .place) ((reach (4 ^ N) S u) .pending) ((reach (4 ^ N) S u) .marks) ≡ true)

@@ -79,6 +79,7 @@ module _ (N D P : ℕ) (D-big : 4 ≤ D) (D-4 : D % 4 ≡ 0) (I-16 : 4 ^ N % 16 
       where
         it : (alone D I c j ≡ true) × (c .al j ≡ getD m j 0)
         it = is-alone D I D-big D-4 I-16 c m kk j hj (omega arith) (omega arith)
+
         go : Dec (e ≡ b) → ⊥
         go (yes z) = omega (arith, it .1, known j hj (subst (λ (x : ℕ). A .has j x ≡ true) z a) (p .done j hj (it .0) (λ y. omega (arith, it .1)) (λ y. omega (arith, it .1))))
         go (no z) = omega (arith, it .1, old j e hj (omega arith) a)
@@ -129,18 +130,22 @@ module _ (N D P : ℕ) (D-big : 4 ≤ D) (D-4 : D % 4 ≡ 0) (I-16 : 4 ^ N % 16 
       where
         it : (alone D I c t ≡ true) × (c .al t ≡ getD m t 0)
         it = is-alone D I D-big D-4 I-16 c m kk t ti (omega arith) (omega arith)
+
         sd : c .sD (t / 4) ≡ true
         sd = pick (c .sD (t / 4)) refl
           where
             pick : (x : Bool) → c .sD (t / 4) ≡ x → c .sD (t / 4) ≡ true
             pick true e = e
             pick false e = absurd (true≢false (sym (it .0) ∙ alone-no D I c t (omega arith) e))
+
         me : (e : ℕ) → b ≤ e → A .has t e ≡ true → Dec (e ≡ b) → A .has t b ≡ true
         me e h a (yes z) = subst (λ (x : ℕ). A .has t x ≡ true) z a
         me e h a (no z) = absurd (omega (arith, it .1, old t e ti (omega arith) a))
+
         one-of : (j e : ℕ) → j < I → j / 4 ≡ t / 4 → b ≤ e → A .has j e ≡ true → Dec (j ≡ t) → A .has t b ≡ true
         one-of j e hj z h a (yes q) = me e h (subst (λ (x : ℕ). A .has x e ≡ true) q a) (ℕ-discrete e b)
         one-of j e hj z h a (no q) = absurd (mip j e hj (f j z (omega arith)) h a)
+
         go : (j e : ℕ) → j < I → Under (t / 4) j → b ≤ e → A .has j e ≡ true → A .has t b ≡ true
         go j e hj (kid z) h a = one-of j e hj z h a (ℕ-discrete j t)
         go j e hj (far u) h a = absurd (omega (arith, under-ge (t / 4) (j / 4) u))
@@ -153,12 +158,14 @@ module _ (N D P : ℕ) (D-big : 4 ≤ D) (D-4 : D % 4 ≡ 0) (I-16 : 4 ^ N % 16 
       where
         is : (t % 4 ≡ 0) × (stands D I c (t / 4) ≡ true) × (c .sD (t / 4) ≡ false) × (D ≤ t)
         is = is-D D I D-big D-4 I-16 c m kk t ti mk
+
         sg : c .sG (t / 4 / 4) ≡ true
         sg = pick (c .sG (t / 4 / 4)) refl
           where
             pick : (x : Bool) → c .sG (t / 4 / 4) ≡ x → c .sG (t / 4 / 4) ≡ true
             pick true e = e
             pick false e = absurd (true≢false (sym (is .1) ∙ stands-no D I c (t / 4) (omega arith) e))
+
         go : (j e h : ℕ) → j < I → h / 4 ≡ t / 4 / 4 → Under h j → b ≤ e → A .has j e ≡ true → Dec (h ≡ t / 4) → ans N A (inDesc (t / 4) b) ≡ true
         go j e h hj z u be a (yes q) =
             let u′ : Under (t / 4) j = subst (λ (x : ℕ). Under x j) q u in

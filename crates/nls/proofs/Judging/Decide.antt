@@ -59,9 +59,10 @@ None D t m = ((j : ℕ) → j < D → getD m j 0 ≡ 1) × ((h : ℕ) → D ≤ 
 
 pub marked-to : (D t : ℕ) (m : List ℕ) → t + 4 ≡ 4 * D → none-marked D t m ≡ true → None D t m
 unfolding none-marked
-marked-to D t m te e =
-    ((λ j h. eqb-true _ _ (every-at D (λ j. is m j 1) (and-l _ _ e) j h)),
-     λ h lo hi. pick h lo (or-cases (ltb (4 * h) D) (is m (4 * h) 5) (every-at (t / 4) (λ h. ltb (4 * h) D || is m (4 * h) 5) (and-r (every D (λ j. is m j 1)) _ e) h (omega arith))))
+marked-to D t m te e = (
+  (λ j h. eqb-true _ _ (every-at D (λ j. is m j 1) (and-l _ _ e) j h)),
+  λ h lo hi. pick h lo (or-cases (ltb (4 * h) D) (is m (4 * h) 5) (every-at (t / 4) (λ h. ltb (4 * h) D || is m (4 * h) 5) (and-r (every D (λ j. is m j 1)) _ e) h (omega arith))),
+)
   where
     pick : (h : ℕ) → D ≤ 4 * h → (ltb (4 * h) D ≡ true) ⊎ (is m (4 * h) 5 ≡ true) → getD m (4 * h) 0 ≡ 5
     pick h lo (inl z) = absurd (omega (arith, ltb-true (4 * h) D z))
@@ -85,7 +86,7 @@ module _ (D I P b t : ℕ) (m : List ℕ) where
       let e4 : (is m (t - 2) 1 && is m (t - 3) 1) ≡ true = and-r (is m (t - 1) 1) _ e3 in
       let t3 : t % 4 ≡ 3 = eqb-true _ _ (and-l (eqb (t % 4) 3) _ e1) in
       last-child (eqb-true _ _ (and-l (is m t 4) _ e)) t3 (leb-true _ _ (and-l (leb I (16 * (t / 4))) _ e2))
-        (λ j ej lj. at j t3 ej lj (eqb-true _ _ (and-l (is m (t - 1) 1) _ e3)) (eqb-true _ _ (and-l (is m (t - 2) 1) _ e4)) (eqb-true _ _ (and-r (is m (t - 2) 1) _ e4)) (ℕ-discrete j (t - 1)) (ℕ-discrete j (t - 2)))
+      (λ j ej lj. at j t3 ej lj (eqb-true _ _ (and-l (is m (t - 1) 1) _ e3)) (eqb-true _ _ (and-l (is m (t - 2) 1) _ e4)) (eqb-true _ _ (and-r (is m (t - 2) 1) _ e4)) (ℕ-discrete j (t - 1)) (ℕ-discrete j (t - 2)))
     where
       at : (j : ℕ) → t % 4 ≡ 3 → j / 4 ≡ t / 4 → j < t → getD m (t - 1) 0 ≡ 1 → getD m (t - 2) 0 ≡ 1 → getD m (t - 3) 0 ≡ 1 → Dec (j ≡ t - 1) → Dec (j ≡ t - 2) → getD m j 0 ≡ 1
       at j t3 ej lj a1 a2 a3 (yes z) y = ap (λ (x : ℕ). getD m x 0) z ∙ a1
@@ -99,8 +100,8 @@ module _ (D I P b t : ℕ) (m : List ℕ) where
       let e2 : (is m (4 * (t / 16) + 1) 1 && (is m (4 * (t / 16) + 2) 1 && is m (4 * (t / 16) + 3) 1)) ≡ true = and-r (is m (4 * (t / 16)) 1) _ e1 in
       let e3 : (is m (4 * (t / 16) + 2) 1 && is m (4 * (t / 16) + 3) 1) ≡ true = and-r (is m (4 * (t / 16) + 1) 1) _ e2 in
       last-grand (eqb-true _ _ (and-l (is m t 6) _ e))
-        (λ j ej. at j ej (eqb-true _ _ (and-l (is m (4 * (t / 16)) 1) _ e1)) (eqb-true _ _ (and-l (is m (4 * (t / 16) + 1) 1) _ e2)) (eqb-true _ _ (and-l (is m (4 * (t / 16) + 2) 1) _ e3)) (eqb-true _ _ (and-r (is m (4 * (t / 16) + 2) 1) _ e3))
-          (ℕ-discrete j (4 * (t / 16))) (ℕ-discrete j (4 * (t / 16) + 1)) (ℕ-discrete j (4 * (t / 16) + 2)))
+      (λ j ej. at j ej (eqb-true _ _ (and-l (is m (4 * (t / 16)) 1) _ e1)) (eqb-true _ _ (and-l (is m (4 * (t / 16) + 1) 1) _ e2)) (eqb-true _ _ (and-l (is m (4 * (t / 16) + 2) 1) _ e3)) (eqb-true _ _ (and-r (is m (4 * (t / 16) + 2) 1) _ e3))
+      (ℕ-discrete j (4 * (t / 16))) (ℕ-discrete j (4 * (t / 16) + 1)) (ℕ-discrete j (4 * (t / 16) + 2)))
     where
       at : (j : ℕ) → j / 4 ≡ t / 16 → getD m (4 * (t / 16)) 0 ≡ 1 → getD m (4 * (t / 16) + 1) 0 ≡ 1 → getD m (4 * (t / 16) + 2) 0 ≡ 1 → getD m (4 * (t / 16) + 3) 0 ≡ 1
           → Dec (j ≡ 4 * (t / 16)) → Dec (j ≡ 4 * (t / 16) + 1) → Dec (j ≡ 4 * (t / 16) + 2) → getD m j 0 ≡ 1
@@ -118,7 +119,7 @@ module _ (D I P b t : ℕ) (m : List ℕ) where
       let e4 : (is m (4 * (t / 4 - 2)) 5 && is m (4 * (t / 4 - 3)) 5) ≡ true = and-r (is m (4 * (t / 4 - 1)) 5) _ e3 in
       let t3 : t / 4 % 4 ≡ 3 = eqb-true _ _ (and-l (eqb (t / 4 % 4) 3) _ e2) in
       last-desc (eqb-true _ _ (and-l (is m t 5) _ e)) (leb-true _ _ (and-l (leb (4 * D) t) _ e1)) t3
-        (λ j ej lj. at j t3 ej lj (eqb-true _ _ (and-l (is m (4 * (t / 4 - 1)) 5) _ e3)) (eqb-true _ _ (and-l (is m (4 * (t / 4 - 2)) 5) _ e4)) (eqb-true _ _ (and-r (is m (4 * (t / 4 - 2)) 5) _ e4)) (ℕ-discrete j (t / 4 - 1)) (ℕ-discrete j (t / 4 - 2)))
+      (λ j ej lj. at j t3 ej lj (eqb-true _ _ (and-l (is m (4 * (t / 4 - 1)) 5) _ e3)) (eqb-true _ _ (and-l (is m (4 * (t / 4 - 2)) 5) _ e4)) (eqb-true _ _ (and-r (is m (4 * (t / 4 - 2)) 5) _ e4)) (ℕ-discrete j (t / 4 - 1)) (ℕ-discrete j (t / 4 - 2)))
     where
       at : (j : ℕ) → t / 4 % 4 ≡ 3 → j / 4 ≡ t / 4 / 4 → j < t / 4 → getD m (4 * (t / 4 - 1)) 0 ≡ 5 → getD m (4 * (t / 4 - 2)) 0 ≡ 5 → getD m (4 * (t / 4 - 3)) 0 ≡ 5 → Dec (j ≡ t / 4 - 1) → Dec (j ≡ t / 4 - 2) → getD m (4 * j) 0 ≡ 5
       at j t3 ej lj a1 a2 a3 (yes z) y = ap (λ (x : ℕ). getD m (4 * x) 0) z ∙ a1
@@ -145,9 +146,11 @@ module _ (D I P b t : ℕ) (m : List ℕ) where
         go3 : (cb-desc D t m ≡ true) ⊎ (cb-root D P b t m none ≡ true) → Clash D I P b t m
         go3 (inl z) = desc-to z
         go3 (inr z) = root-to z
+
         go2 : (cb-grand t m ≡ true) ⊎ ((cb-desc D t m || cb-root D P b t m none) ≡ true) → Clash D I P b t m
         go2 (inl z) = grand-to z
         go2 (inr z) = go3 (or-cases (cb-desc D t m) _ z)
+
         go : (cb-child I t m ≡ true) ⊎ ((cb-grand t m || (cb-desc D t m || cb-root D P b t m none)) ≡ true) → Clash D I P b t m
         go (inl z) = child-to z
         go (inr z) = go2 (or-cases (cb-grand t m) _ z)
@@ -156,12 +159,12 @@ module _ (D I P b t : ℕ) (m : List ℕ) where
     unfolding clash-by cb-child cb-grand cb-desc cb-root
     clash-from (last-child a t3 big f) =
         or-l (cb-child I t m) _ (and-i _ _ (eq-eqb _ _ a) (and-i _ _ (eq-eqb _ _ t3) (and-i _ _ (le-leb _ _ big) (and-i _ _ (eq-eqb _ _ (f (t - 1) (omega arith) (omega arith)))
-          (and-i _ _ (eq-eqb _ _ (f (t - 2) (omega arith) (omega arith))) (eq-eqb _ _ (f (t - 3) (omega arith) (omega arith))))))))
+        (and-i _ _ (eq-eqb _ _ (f (t - 2) (omega arith) (omega arith))) (eq-eqb _ _ (f (t - 3) (omega arith) (omega arith))))))))
     clash-from (last-grand a f) =
         or-r (cb-child I t m) _ (or-l (cb-grand t m) _ (and-i _ _ (eq-eqb _ _ a) (and-i _ _ (eq-eqb _ _ (f (4 * (t / 16)) (omega arith))) (and-i _ _ (eq-eqb _ _ (f (4 * (t / 16) + 1) (omega arith)))
-          (and-i _ _ (eq-eqb _ _ (f (4 * (t / 16) + 2) (omega arith))) (eq-eqb _ _ (f (4 * (t / 16) + 3) (omega arith))))))))
+        (and-i _ _ (eq-eqb _ _ (f (4 * (t / 16) + 2) (omega arith))) (eq-eqb _ _ (f (4 * (t / 16) + 3) (omega arith))))))))
     clash-from (last-desc a big t3 f) =
         or-r (cb-child I t m) _ (or-r (cb-grand t m) _ (or-l (cb-desc D t m) _ (and-i _ _ (eq-eqb _ _ a) (and-i _ _ (le-leb _ _ big) (and-i _ _ (eq-eqb _ _ t3) (and-i _ _ (eq-eqb _ _ (f (t / 4 - 1) (omega arith) (omega arith)))
-          (and-i _ _ (eq-eqb _ _ (f (t / 4 - 2) (omega arith) (omega arith))) (eq-eqb _ _ (f (t / 4 - 3) (omega arith) (omega arith))))))))))
+        (and-i _ _ (eq-eqb _ _ (f (t / 4 - 2) (omega arith) (omega arith))) (eq-eqb _ _ (f (t / 4 - 3) (omega arith) (omega arith))))))))))
     clash-from (last-root a te bp f1 f2) =
         or-r (cb-child I t m) _ (or-r (cb-grand t m) _ (or-r (cb-desc D t m) _ (and-i _ _ (eq-eqb _ _ a) (and-i _ _ (eq-eqb _ _ te) (and-i _ _ (eq-eqb _ _ bp) (ko a te bp (f1, f2)))))))

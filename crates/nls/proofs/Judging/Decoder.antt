@@ -32,8 +32,9 @@ pub data Out : Type 0 where
 unfoldable pub decode : ℕ → (ℕ → Bool → State → Bool) → ℕ → Bool → State → List Bool → Out
 decode I cl used hit s [] = here s
 decode I cl used hit s (a ∷ u) = elim (ask I s) [
-    none ↦ no13 used
-  | some q ↦ elim (not a && cl used hit s) [ true ↦ no12 used | false ↦ decode I cl (used + 1) (hit || a) (next I s a) u ] ]
+  | none ↦ no13 used
+  | some q ↦ elim (not a && cl used hit s) [ true ↦ no12 used | false ↦ decode I cl (used + 1) (hit || a) (next I s a) u ]
+]
 
 -- a 1 was read
 unfoldable pub lit : List Bool → Bool
@@ -120,8 +121,8 @@ module _ (N D P : ℕ) (D-big : 4 ≤ D) (D-4 : D % 4 ≡ 0) (I-16 : 4 ^ N % 16 
       let f : Starts (w .0) u = fit-prefix N (w .0) S u (false ∷ []) (w .2) in
       let r : State = reach (4 ^ N) S u in
       sound-at (w .0) (least N State (ask I) (next I) S u nothing) (w .1) (r .left) (r .pass) (r .place) (r .pending) (r .marks)
-        (run N D P D-big D-4 I-16 (w .0) nothing S u (good-start D I D-big D-4 I-16 D-I P (fam N D P D-big D-4 I-16 (w .0) nothing) (λ j z. false≢true (z .1))) f) n
-        ((fit-split (w .0) S u (false ∷ []) (w .2)) .0)
+      (run N D P D-big D-4 I-16 (w .0) nothing S u (good-start D I D-big D-4 I-16 D-I P (fam N D P D-big D-4 I-16 (w .0) nothing) (λ j z. false≢true (z .1))) f) n
+      ((fit-split (w .0) S u (false ∷ []) (w .2)) .0)
 
   -- THE TEST IS THE CLASH, after any bits that some array fits
   pub record Right (cl : ℕ → Bool → State → Bool) : Type 0 where
@@ -145,8 +146,9 @@ module _ (N D P : ℕ) (D-big : 4 ≤ D) (D-4 : D % 4 ≡ 0) (I-16 : 4 ^ N % 16 
   pub right-marks : Right (λ used hit s. clash I D P s)
   unfolding clash
   right-marks = record {
-      to = λ u w e. (let r : State = reach (4 ^ N) S u in to-st (r .left) (r .pass) (r .place) (r .pending) (r .marks) e);
-      of = λ u w e. (let r : State = reach (4 ^ N) S u in of-st (r .left) (r .pass) (r .place) (r .pending) (r .marks) e) }
+    to = λ u w e. (let r : State = reach (4 ^ N) S u in to-st (r .left) (r .pass) (r .place) (r .pending) (r .marks) e);
+    of = λ u w e. (let r : State = reach (4 ^ N) S u in of-st (r .left) (r .pass) (r .place) (r .pending) (r .marks) e);
+  }
 
   -- REFUSAL 12 for one bit: after bits that some array fits, with a question pending, a fits none exactly if it is 0 and the test says clash
   pub refused12 : (cl : ℕ → Bool → State → Bool) → Right cl → (u : List Bool) → Some u → (q : Question) → ask I (reach (4 ^ N) S u) ≡ some q → (a : Bool)
@@ -157,6 +159,7 @@ module _ (N D P : ℕ) (D-big : 4 ≤ D) (D-4 : D % 4 ≡ 0) (I-16 : 4 ^ N % 16 
       fwd false true ec n = (refl, ec)
       fwd false false ec n = absurd (n (accepts N D P D-big D-4 I-16 D-I (w .0) (w .1) u (w .2) q e false (λ z b. true≢false (sym (r .of u w b) ∙ ec))))
       fwd true c ec n = absurd (n (accepts N D P D-big D-4 I-16 D-I (w .0) (w .1) u (w .2) q e true (λ z b. true≢false z)))
+
       back : a ≡ false → cl (length u) (lit u) (reach (4 ^ N) S u) ≡ true → Some (u ++ (a ∷ [])) → ⊥
       back z h s = refuses u (r .to u w h) (subst (λ (x : Bool). Some (u ++ (x ∷ []))) z s)
 
@@ -177,8 +180,10 @@ module _ (N D P : ℕ) (D-big : 4 ≤ D) (D-4 : D % 4 ≡ 0) (I-16 : 4 ^ N % 16 
     where
       len : length (u ++ (a ∷ [])) ≡ length u + 1
       len = length-append {A = Bool} u (a ∷ [])
+
       step : reach (4 ^ N) S (u ++ (a ∷ [])) ≡ next I (reach (4 ^ N) S u) a
       step = reach-append N S u (a ∷ []) ∙ (unfold reach in refl)
+
       go : (o : Option Question) → ask I (reach (4 ^ N) S u) ≡ o → (Some (u ++ (a ∷ [])) → Means v (decode I cl (length (u ++ (a ∷ []))) (lit (u ++ (a ∷ []))) (reach (4 ^ N) S (u ++ (a ∷ []))) r))
           → Means v (elim o as (λ _. Out) [ none ↦ no13 (length u) | some q ↦ elim (not a && cl (length u) (lit u) (reach (4 ^ N) S u)) as (λ _. Out) [ true ↦ no12 (length u) | false ↦ decode I cl (length u + 1) (lit u || a) (next I (reach (4 ^ N) S u) a) r ] ])
       go none eo ih = (u, a, r, e, refl, w, eo)
@@ -186,6 +191,7 @@ module _ (N D P : ℕ) (D-big : 4 ≤ D) (D-4 : D % 4 ≡ 0) (I-16 : 4 ^ N % 16 
         where
           more : Some (u ++ (a ∷ [])) → Means v (decode I cl (length u + 1) (lit u || a) (next I (reach (4 ^ N) S u) a) r)
           more x = subst (λ (n : ℕ). Means v (decode I cl n (lit u || a) (next I (reach (4 ^ N) S u) a) r)) len (subst (λ (h : Bool). Means v (decode I cl (length (u ++ (a ∷ []))) h (next I (reach (4 ^ N) S u) a) r)) (lit-snoc u a) (subst (λ (s : State). Means v (decode I cl (length (u ++ (a ∷ []))) (lit (u ++ (a ∷ []))) s r)) step (ih x)))
+
           pick : (x y : Bool) → a ≡ x → cl (length u) (lit u) (reach (4 ^ N) S u) ≡ y → Means v (elim (not x && y) as (λ _. Out) [ true ↦ no12 (length u) | false ↦ decode I cl (length u + 1) (lit u || a) (next I (reach (4 ^ N) S u) a) r ])
           pick true y ea ey = more (accepts N D P D-big D-4 I-16 D-I (w .0) (w .1) u (w .2) q eo a (λ z b. true≢false (sym ea ∙ z)))
           pick false true ea ey = (u, a, r, e, refl, w, (refused12 cl rt u w q eo a) .1 (ea, ey), (q, eo))
@@ -212,8 +218,10 @@ module _ (N D P : ℕ) (D-big : 4 ≤ D) (D-4 : D % 4 ≡ 0) (I-16 : 4 ^ N % 16 
       go1 (here s) m t = m .1
       go1 (no12 n) m t = absurd t
       go1 (no13 n) m t = absurd t
+
       cut : (u : List Bool) (a : Bool) (r : List Bool) → v ≡ u ++ (a ∷ r) → Some v → Some (u ++ (a ∷ []))
       cut u a r e w = (w .0, w .1, fit-prefix N (w .0) S (u ++ (a ∷ [])) r (subst (λ (x : List Bool). Starts (w .0) x) (e ∙ sym (app-assoc u a r)) (w .2)))
+
       go2 : (o : Out) → Means v o → Some v → Taken o
       go2 (here s) m w = tt
       go2 (no12 n) m w = m .6 (cut (m .0) (m .1) (m .2) (m .3) w)

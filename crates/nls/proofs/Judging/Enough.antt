@@ -59,7 +59,6 @@ module _ (N D P : ℕ) (D-big : 4 ≤ D) (D-4 : D % 4 ≡ 0) (I-16 : 4 ^ N % 16 
 
   module _ (W k : Bits) (vv : Bool) (O : Question → Type 0) (k⊑W : (j e : ℕ) → k .has j e ≡ true → W .has j e ≡ true) (cap : (j e : ℕ) → W .has j e ≡ true → e < P)
       (b t : ℕ) (m : List ℕ) (c : Cfg) (ti : t < I) where
-
     -- the pixel pass
     module _ (p : InPix N D P D-big D-4 I-16 D-I W vv (preds (fam N D P D-big D-4 I-16 W k) b) k W O b t c m) (mk : getD m t 0 ≡ 1) where
       it-p : (alone D I c t ≡ true) × (c .al t ≡ getD m t 0)
@@ -67,10 +66,11 @@ module _ (N D P : ℕ) (D-big : 4 ≤ D) (D-4 : D % 4 ≡ 0) (I-16 : 4 ^ N % 16 
 
       pub enough-pix : Enough W O b (λ j. j ≡ t)
       enough-pix = record {
-          eO = λ j hj o e. omega (arith, it-p .1, mk, p .g .more .zs t ti (b, subst (λ (x : ℕ). k .has x b ≡ true) e ((p .de .oO j b o) .0)));
-          eD = λ h x o u e. absurd (omega (arith, (p .de .oD h b o) .1));
-          eG = λ h x o u e. absurd (omega (arith, (p .de .oG h b o) .1));
-          eT = λ e. (D, omega arith, p .fr .todo D (omega arith) (λ l u z. true≢false (sym ((is-alone D I D-big D-4 I-16 c m (p .g .core) D (omega arith) l (omega (arith, u))) .0) ∙ alone-no D I c D (omega arith) (p .np e (D / 4)))), λ q. low e q (alone D I c t) refl) }
+        eO = λ j hj o e. omega (arith, it-p .1, mk, p .g .more .zs t ti (b, subst (λ (x : ℕ). k .has x b ≡ true) e ((p .de .oO j b o) .0)));
+        eD = λ h x o u e. absurd (omega (arith, (p .de .oD h b o) .1));
+        eG = λ h x o u e. absurd (omega (arith, (p .de .oG h b o) .1));
+        eT = λ e. (D, omega arith, p .fr .todo D (omega arith) (λ l u z. true≢false (sym ((is-alone D I D-big D-4 I-16 c m (p .g .core) D (omega arith) l (omega (arith, u))) .0) ∙ alone-no D I c D (omega arith) (p .np e (D / 4)))), λ q. low e q (alone D I c t) refl);
+      }
         where
           low : suc b ≡ P → D ≡ t → (x : Bool) → alone D I c t ≡ x → ⊥
           low e q x z = true≢false (sym (it-p .0) ∙ alone-no D I c t (omega arith) (p .np e (t / 4)))
@@ -88,10 +88,11 @@ module _ (N D P : ℕ) (D-big : 4 ≤ D) (D-4 : D % 4 ≡ 0) (I-16 : 4 ^ N % 16 
 
       pub enough-fine : Enough W O b (λ j. j ≡ t)
       enough-fine = record {
-          eO = λ j hj o e. omega (arith, (p .de .oO j b o) .2 refl (ap (c .al) e ∙ it-f .1 ∙ mk));
-          eD = λ h x o u e. absurd (omega (arith, was .1, (p .de .oD h b o) .2 t (was .0) ti (subst (λ (y : ℕ). Under h y) e u) (was .2)));
-          eG = λ h x o u e. absurd (omega (arith, was .1, (p .de .oG h b o) .2 t (was .0) ti (subst (λ (y : ℕ). Under h (y / 4)) e u) (was .2)));
-          eT = λ e. absurd (omega (arith, was .1, cap t (was .0) (k⊑W t (was .0) (was .2)))) }
+        eO = λ j hj o e. omega (arith, (p .de .oO j b o) .2 refl (ap (c .al) e ∙ it-f .1 ∙ mk));
+        eD = λ h x o u e. absurd (omega (arith, was .1, (p .de .oD h b o) .2 t (was .0) ti (subst (λ (y : ℕ). Under h y) e u) (was .2)));
+        eG = λ h x o u e. absurd (omega (arith, was .1, (p .de .oG h b o) .2 t (was .0) ti (subst (λ (y : ℕ). Under h (y / 4)) e u) (was .2)));
+        eT = λ e. absurd (omega (arith, was .1, cap t (was .0) (k⊑W t (was .0) (was .2))));
+      }
 
       pub open-fine : Open1 W b (λ j. j ≡ t)
       open-fine = (t, ti, refl, p .ho .op t (it-f .0) (it-f .1 ∙ mk) (omega arith))
@@ -124,13 +125,15 @@ module _ (N D P : ℕ) (D-big : 4 ≤ D) (D-4 : D % 4 ≡ 0) (I-16 : 4 ^ N % 16 
 
         pub enough-C : (Clash D I P b t m → ⊥) → Enough W O b (λ j. j ≡ t)
         enough-C n = record {
-            eO = λ j hj o e. omega (arith, it-c .1, mk, p .g .more .zs t ti (b, subst (λ (x : ℕ). k .has x b ≡ true) e ((p .de .oO j b o) .0)));
-            eD = λ h x o u e. useD SpC (λ j. j ≡ t) sp (λ j s q. s .1 q) h o (λ j s. inD h j (subst (λ (y : ℕ). Under h y) e u) (s .0));
-            eG = λ h x o u e. useG SpC (λ j. j ≡ t) sp (λ j s q. s .1 q) h o (λ j s. trans-grand h (t / 4) j (subst (λ (y : ℕ). Under h (y / 4)) e u) (s .0));
-            eT = useT SpC (λ j. j ≡ t) sp (λ j s q. s .1 q) }
+          eO = λ j hj o e. omega (arith, it-c .1, mk, p .g .more .zs t ti (b, subst (λ (x : ℕ). k .has x b ≡ true) e ((p .de .oO j b o) .0)));
+          eD = λ h x o u e. useD SpC (λ j. j ≡ t) sp (λ j s q. s .1 q) h o (λ j s. inD h j (subst (λ (y : ℕ). Under h y) e u) (s .0));
+          eG = λ h x o u e. useG SpC (λ j. j ≡ t) sp (λ j s q. s .1 q) h o (λ j s. trans-grand h (t / 4) j (subst (λ (y : ℕ). Under h (y / 4)) e u) (s .0));
+          eT = useT SpC (λ j. j ≡ t) sp (λ j s q. s .1 q);
+        }
           where
             sp : Spare N D P D-big D-4 I-16 D-I W k b SpC
             sp = room-child N D P D-big D-4 I-16 D-I W k k⊑W cap b t m c ti above (p .g) fs mk n
+
             inD : (h j : ℕ) → Under h t → Under (t / 4) j → Under h j
             inD h j (kid z) v = subst (λ (y : ℕ). Under y j) z v
             inD h j (far u) v = under-trans h (t / 4) j u v
@@ -159,35 +162,43 @@ module _ (N D P : ℕ) (D-big : 4 ≤ D) (D-4 : D % 4 ≡ 0) (I-16 : 4 ^ N % 16 
 
         pub enough-D : (Clash D I P b t m → ⊥) → Enough W O b (λ j. Under (t / 4) j)
         enough-D n = record {
-            eO = λ j hj o u. known j o u hj;
-            eD = λ h x o u v. doD h x o u v (cmp h (t / 4) x u v);
-            eG = λ h x o u v. (let r : (g : ℕ) × (g / 4 ≡ h) × Under g x = via h x u in doG h x (r .0) o (r .1) (r .2) (cmp (r .0) (t / 4) x (r .2) v));
-            eT = λ e. doT e (decLt t (4 * D)) }
+          eO = λ j hj o u. known j o u hj;
+          eD = λ h x o u v. doD h x o u v (cmp h (t / 4) x u v);
+          eG = λ h x o u v. (let r : (g : ℕ) × (g / 4 ≡ h) × Under g x = via h x u in doG h x (r .0) o (r .1) (r .2) (cmp (r .0) (t / 4) x (r .2) v));
+          eT = λ e. doT e (decLt t (4 * D));
+        }
           where
             known : (j : ℕ) → O (bitOf j b) → Under (t / 4) j → j < I → ⊥
             known j o u hj = true≢false (sym ((p .g .more .zs j hj (b, (p .de .oO j b o) .0)) .0) ∙ dead-D N D P D-big D-4 I-16 D-I c (p .g .core .ok) (t / 4) j lo-d (is-d .2) u)
+
             sp : 4 * D ≤ t → Spare N D P D-big D-4 I-16 D-I W k b SpD
             sp h = room-desc N D P D-big D-4 I-16 D-I W k k⊑W cap b t m c ti above (p .g) fs mk h n
+
             doD : (h x : ℕ) → O (inDesc h b) → Under h x → Under (t / 4) x → Cmp h (t / 4) → (j : ℕ) × (j < I) × Under h j × (W .has j b ≡ true) × (Under (t / 4) j → ⊥) × (1 ≤ h)
             doD h x o u v (same e) = absurd (true≢false (sym ((p .de .oD h b o) .0) ∙ subst (λ (y : ℕ). c .sD y ≡ false) (sym e) (is-d .2)))
             doD h x o u v (below w) = absurd (whole-D c (p .g .core .ok) (t / 4) h lo-d (is-d .2) w ((p .de .oD h b o) .0))
             doD h x o u v (over w) = useD SpD (λ j. Under (t / 4) j) (sp (omega (arith, under-ge h (t / 4) w, p .g .core .ok .lo h ((p .de .oD h b o) .0)))) (out-d (omega (arith, under-ge h (t / 4) w, p .g .core .ok .lo h ((p .de .oD h b o) .0)))) h o
                 (λ j s. under-trans h (s .0) j (sibling h (t / 4) (s .0) (s .1) w) (s .3))
+
             doG : (h x g : ℕ) → O (inGrand h b) → g / 4 ≡ h → Under g x → Cmp g (t / 4) → (j : ℕ) × (j < I) × Under h (j / 4) × (W .has j b ≡ true) × (Under (t / 4) j → ⊥) × (1 ≤ h)
             doG h x g o e u w = at w
               where
                 sg : c .sG h ≡ true
                 sg = (p .de .oG h b o) .0
+
                 sd : c .sD h ≡ true
                 sd = p .g .core .ok .gd h sg
+
                 lo : D ≤ 4 * h
                 lo = p .g .core .ok .lo h sd
+
                 at : Cmp g (t / 4) → (j : ℕ) × (j < I) × Under h (j / 4) × (W .has j b ≡ true) × (Under (t / 4) j → ⊥) × (1 ≤ h)
                 at (same z) = useG SpD (λ j. Under (t / 4) j) (sp (omega (arith, lo))) (out-d (omega (arith, lo))) h o (λ j s. grand-of h (s .0) j (omega (arith, s .1)) (s .3))
                 at (over w) = useG SpD (λ j. Under (t / 4) j) (sp (omega (arith, lo, under-ge g (t / 4) w))) (out-d (omega (arith, lo, under-ge g (t / 4) w))) h o
                     (λ j s. grand-of h g j e (under-trans g (s .0) j (sibling g (t / 4) (s .0) (s .1) w) (s .3)))
                 at (below (kid z)) = absurd (true≢false (sym (subst (λ (y : ℕ). c .sD y ≡ true) (sym e ∙ z) sd) ∙ is-d .2))
                 at (below (far w)) = absurd (whole-D c (p .g .core .ok) (t / 4) h lo-d (is-d .2) (subst (λ (y : ℕ). Under (t / 4) y) e w) sd)
+
             doT : suc b ≡ P → Dec (t < 4 * D) → (j : ℕ) × (j < I) × (W .has j b ≡ true) × (Under (t / 4) j → ⊥)
             doT e (yes z) = room-root N D P D-big D-4 I-16 D-I W k k⊑W cap b t m c ti above (p .g) fs mk z e n
             doT e (no z) = useT SpD (λ j. Under (t / 4) j) (sp (omega arith)) (out-d (omega arith)) e
@@ -208,15 +219,18 @@ module _ (N D P : ℕ) (D-big : 4 ≤ D) (D-4 : D % 4 ≡ 0) (I-16 : 4 ^ N % 16 
 
         pub enough-G : (Clash D I P b t m → ⊥) → Enough W O b (λ j. Under (t / 16) (j / 4))
         enough-G n = record {
-            eO = λ j hj o u. known j o u hj;
-            eD = λ h x o u v. doD h x o u v;
-            eG = λ h x o u v. doG h x o (cmp h (t / 16) (x / 4) u v);
-            eT = useT SpG (λ j. Under (t / 16) (j / 4)) sp out-g }
+          eO = λ j hj o u. known j o u hj;
+          eD = λ h x o u v. doD h x o u v;
+          eG = λ h x o u v. doG h x o (cmp h (t / 16) (x / 4) u v);
+          eT = useT SpG (λ j. Under (t / 16) (j / 4)) sp out-g;
+        }
           where
             known : (j : ℕ) → O (bitOf j b) → Under (t / 16) (j / 4) → j < I → ⊥
             known j o u hj = true≢false (sym ((p .g .more .zs j hj (b, (p .de .oO j b o) .0)) .0) ∙ dead-G N D P D-big D-4 I-16 D-I c (p .g .core .ok) (t / 16) j (is-g .3) (is-g .2) u)
+
             sp : Spare N D P D-big D-4 I-16 D-I W k b SpG
             sp = room-grand N D P D-big D-4 I-16 D-I W k k⊑W cap b t m c ti above (p .g) fs mk n
+
             doD : (h x : ℕ) → O (inDesc h b) → Under h x → Under (t / 16) (x / 4) → (j : ℕ) × (j < I) × Under h j × (W .has j b ≡ true) × (Under (t / 16) (j / 4) → ⊥) × (1 ≤ h)
             doD h x o (kid z) v = absurd (whole-G c (p .g .core .ok) (t / 16) h (is-g .3) (is-g .2) (subst (λ (y : ℕ). Under (t / 16) y) z v) ((p .de .oD h b o) .0))
             doD h x o (far u) v = at (cmp h (t / 16) (x / 4) u v)
@@ -225,6 +239,7 @@ module _ (N D P : ℕ) (D-big : 4 ≤ D) (D-4 : D % 4 ≡ 0) (I-16 : 4 ^ N % 16 
                 at (same e) = useD SpG (λ j. Under (t / 16) (j / 4)) sp out-g h o (λ j s. kid (s ∙ sym e))
                 at (over w) = useD SpG (λ j. Under (t / 16) (j / 4)) sp out-g h o (λ j s. far (subst (λ (y : ℕ). Under h y) (sym s) w))
                 at (below w) = absurd (whole-G c (p .g .core .ok) (t / 16) h (is-g .3) (is-g .2) w ((p .de .oD h b o) .0))
+
             doG : (h x : ℕ) → O (inGrand h b) → Cmp h (t / 16) → (j : ℕ) × (j < I) × Under h (j / 4) × (W .has j b ≡ true) × (Under (t / 16) (j / 4) → ⊥) × (1 ≤ h)
             doG h x o (same e) = absurd (true≢false (sym ((p .de .oG h b o) .0) ∙ subst (λ (y : ℕ). c .sG y ≡ false) (sym e) (is-g .2)))
             doG h x o (over w) = useG SpG (λ j. Under (t / 16) (j / 4)) sp out-g h o (λ j s. subst (λ (y : ℕ). Under h y) (sym s) w)

@@ -57,19 +57,19 @@ module _ (N L : ℕ) (N-2 : 2 ≤ N) (L-1 : 1 ≤ L) (L-N : L < N) where
     -- DEMAND 2 (iii): the decoder takes v exactly if some array of numbers with P planes has a stream that begins with v
     pub taken-iff : 1 ≤ P → (v : List Bool)
         → (Taken N D P D-big D-4 I-16 D-I (decode I (λ used hit s. clash-count I D P used s) 0 false (start I D P) v) → (A : Arr) × Planes I P A × Begin A v)
-          × ((A : Arr) × Planes I P A × Begin A v → Taken N D P D-big D-4 I-16 D-I (decode I (λ used hit s. clash-count I D P used s) 0 false (start I D P) v))
+        × ((A : Arr) × Planes I P A × Begin A v → Taken N D P D-big D-4 I-16 D-I (decode I (λ used hit s. clash-count I D P used s) 0 false (start I D P) v))
     taken-iff h v =
         let r : (Taken N D P D-big D-4 I-16 D-I (decode I (λ used hit s. clash-count I D P used s) 0 false (start I D P) v) → Some N D P D-big D-4 I-16 D-I v) × (Some N D P D-big D-4 I-16 D-I v → Taken N D P D-big D-4 I-16 D-I (decode I (λ used hit s. clash-count I D P used s) 0 false (start I D P) v))
-            = accepted-iff N D P D-big D-4 I-16 D-I (λ used hit s. clash-count I D P used s) (right-count N D P D-big D-4 I-16 D-I) h v in
+        = accepted-iff N D P D-big D-4 I-16 D-I (λ used hit s. clash-count I D P used s) (right-count N D P D-big D-4 I-16 D-I) h v in
         ((λ t. to-numbers N D P D-big D-4 I-16 D-I v (r .0 t)), λ w. r .1 (to-bits N D P D-big D-4 I-16 D-I v w))
 
     -- the same for lists of I numbers
     pub taken-lists : 1 ≤ P → (v : List Bool)
         → (Taken N D P D-big D-4 I-16 D-I (decode I (λ used hit s. clash-count I D P used s) 0 false (start I D P) v) → (A : Arr) × Planes I P A × Begin A v × ((j : ℕ) → I ≤ j → A .mag j ≡ 0))
-          × ((A : Arr) × Planes I P A × Begin A v × ((j : ℕ) → I ≤ j → A .mag j ≡ 0) → Taken N D P D-big D-4 I-16 D-I (decode I (λ used hit s. clash-count I D P used s) 0 false (start I D P) v))
+        × ((A : Arr) × Planes I P A × Begin A v × ((j : ℕ) → I ≤ j → A .mag j ≡ 0) → Taken N D P D-big D-4 I-16 D-I (decode I (λ used hit s. clash-count I D P used s) 0 false (start I D P) v))
     taken-lists h v =
         let r : (Taken N D P D-big D-4 I-16 D-I (decode I (λ used hit s. clash-count I D P used s) 0 false (start I D P) v) → Some N D P D-big D-4 I-16 D-I v) × (Some N D P D-big D-4 I-16 D-I v → Taken N D P D-big D-4 I-16 D-I (decode I (λ used hit s. clash-count I D P used s) 0 false (start I D P) v))
-            = accepted-iff N D P D-big D-4 I-16 D-I (λ used hit s. clash-count I D P used s) (right-count N D P D-big D-4 I-16 D-I) h v in
+        = accepted-iff N D P D-big D-4 I-16 D-I (λ used hit s. clash-count I D P used s) (right-count N D P D-big D-4 I-16 D-I) h v in
         ((λ t. to-list N D P v (r .0 t)), λ w. r .1 (to-bits N D P D-big D-4 I-16 D-I v (w .0, w .1, w .2)))
 
     -- and which bit it refuses, with which number

@@ -91,7 +91,7 @@ module _ (N D P : ℕ) (D-big : 4 ≤ D) (D-4 : D % 4 ≡ 0) (I-16 : 4 ^ N % 16 
   run1 A fl s [] g f = g
   run1 A fl s (a ∷ u) g f = run1 A (fl ⊎ (a ≡ true)) (next I s a) u
       (good-next D I D-big D-4 I-16 P (F1 (fl ⊎ (a ≡ true))) (λ j. ⊥) s a
-        (good-mono D I D-big D-4 I-16 P (F1 fl) (F1 (fl ⊎ (a ≡ true))) (λ b j x. x) (λ j x. x) (λ b j x. inl x) (λ b j x. inl x) (λ j z. z) s g) (on-ask1 A fl a (look I s) (f .0))) (f .1)
+      (good-mono D I D-big D-4 I-16 P (F1 fl) (F1 (fl ⊎ (a ≡ true))) (λ b j x. x) (λ j x. x) (λ b j x. inl x) (λ b j x. inl x) (λ j z. z) s g) (on-ask1 A fl a (look I s) (f .0))) (f .1)
 
   -- nothing is known without a 1
   abbrev pub Blank : Bits → Type 0
@@ -278,7 +278,8 @@ module _ (N D P : ℕ) (D-big : 4 ≤ D) (D-4 : D % 4 ≡ 0) (I-16 : 4 ^ N % 16 
   pub right-flag : Right N D P D-big D-4 I-16 D-I (λ used hit s. clash-flag I D P hit s)
   unfolding clash-flag
   right-flag = record {
-      to = λ u w e. (let r : State = reach (4 ^ N) S u in to-at (w .0) u (w .2) (k (w .0) u (w .2)) (most N State (ask I) (next I) S u (record { has = λ i b. ltb b P; neg = λ i. false })) (Owing N D P D-big D-4 I-16 D-I (w .0) false S u (λ p. ⊥))
+    to = λ u w e. (let r : State = reach (4 ^ N) S u in to-at (w .0) u (w .2) (k (w .0) u (w .2)) (most N State (ask I) (next I) S u (record { has = λ i b. ltb b P; neg = λ i. false })) (Owing N D P D-big D-4 I-16 D-I (w .0) false S u (λ p. ⊥))
         (λ h. blank-run S u nothing h (λ j e y. false≢true y)) (λ p o. owing N D P D-big D-4 I-16 D-I (w .0) false S u (λ p. ⊥) p o) (r .left) (r .pass) (r .place) (r .pending) (r .marks) (z (w .0) u (w .2)) (g1 (w .0) u (w .2)) e);
-      of = λ u w e. (let r : State = reach (4 ^ N) S u in of-at (w .0) u (w .2) (k (w .0) u (w .2)) (most N State (ask I) (next I) S u (record { has = λ i b. ltb b P; neg = λ i. false })) (Owing N D P D-big D-4 I-16 D-I (w .0) false S u (λ p. ⊥))
-        (λ h. blank-run S u nothing h (λ j e y. false≢true y)) (λ p o. owing N D P D-big D-4 I-16 D-I (w .0) false S u (λ p. ⊥) p o) (r .left) (r .pass) (r .place) (r .pending) (r .marks) (z (w .0) u (w .2)) (g1 (w .0) u (w .2)) e) }
+    of = λ u w e. (let r : State = reach (4 ^ N) S u in of-at (w .0) u (w .2) (k (w .0) u (w .2)) (most N State (ask I) (next I) S u (record { has = λ i b. ltb b P; neg = λ i. false })) (Owing N D P D-big D-4 I-16 D-I (w .0) false S u (λ p. ⊥))
+        (λ h. blank-run S u nothing h (λ j e y. false≢true y)) (λ p o. owing N D P D-big D-4 I-16 D-I (w .0) false S u (λ p. ⊥) p o) (r .left) (r .pass) (r .place) (r .pending) (r .marks) (z (w .0) u (w .2)) (g1 (w .0) u (w .2)) e);
+  }

@@ -245,9 +245,10 @@ module _ (N : ℕ) where
     pub most-fits : (A : Bits) (s : S) (u : List Bool) (w : Bits) → Fits A s u → A ⊑ w → Fits (most s u w) s u
     most-fits A s [] w f l = tt
     most-fits A s (a ∷ u) w f l =
-        let l′ : A ⊑ afterO (ask s) a w = keepsO A w (ask s) a (f .0) l in
-        (answersO A (most (next s a) u (afterO (ask s) a w)) w (ask s) a (f .0)
-          (most-keeps A (next s a) u (afterO (ask s) a w) (f .1) l′)
-          (most-below (next s a) u (afterO (ask s) a w))
-          (most-neg A (next s a) u (afterO (ask s) a w) (f .1)),
-         most-fits A (next s a) u (afterO (ask s) a w) (f .1) l′)
+        let l′ : A ⊑ afterO (ask s) a w = keepsO A w (ask s) a (f .0) l in (
+          answersO A (most (next s a) u (afterO (ask s) a w)) w (ask s) a (f .0)
+              (most-keeps A (next s a) u (afterO (ask s) a w) (f .1) l′)
+              (most-below (next s a) u (afterO (ask s) a w))
+              (most-neg A (next s a) u (afterO (ask s) a w) (f .1)),
+          most-fits A (next s a) u (afterO (ask s) a w) (f .1) l′,
+        )

@@ -75,8 +75,11 @@ low-eq x y e = go (ℕ-discrete (x % 2) 1) (ℕ-discrete (y % 2) 1)
 pub eq-bits : (n x y : ℕ) → x < 2 ^ n → y < 2 ^ n → ((b : ℕ) → b < n → bit x b ≡ bit y b) → x ≡ y
 eq-bits zero x y h k f = omega (arith, h, k)
 eq-bits (suc n) x y h k f =
-    omega (arith, low-eq x y (sym (bit-0 x) ∙ f 0 (omega arith) ∙ bit-0 y),
-      eq-bits n (x / 2) (y / 2) (omega (arith, h, pow-suc 2 n)) (omega (arith, k, pow-suc 2 n)) (λ b l. sym (bit-suc x b) ∙ f (suc b) (omega arith) ∙ bit-suc y b))
+    omega (
+      arith,
+      low-eq x y (sym (bit-0 x) ∙ f 0 (omega arith) ∙ bit-0 y),
+      eq-bits n (x / 2) (y / 2) (omega (arith, h, pow-suc 2 n)) (omega (arith, k, pow-suc 2 n)) (λ b l. sym (bit-suc x b) ∙ f (suc b) (omega arith) ∙ bit-suc y b),
+    )
 
 -- equal bits from k on, equal high parts
 pub eq-high : (k n x y : ℕ) → x < 2 ^ n → y < 2 ^ n → ((b : ℕ) → k ≤ b → b < n → bit x b ≡ bit y b) → x / 2 ^ k ≡ y / 2 ^ k
@@ -99,6 +102,7 @@ valid-of I P A p = record { cap = λ j e h. cap′ j e h (decLt e P); top = (p .
     cap′ : (j e : ℕ) → bit (A .mag j) e ≡ true → Dec (e < P) → e < P
     cap′ j e h (yes z) = z
     cap′ j e h (no z) = absurd (true≢false (sym h ∙ bit-hi P (A .mag j) e (p .under j) (omega arith)))
+
     top′ : (b x : ℕ) → 2 ^ b ≤ x → x < 2 ^ suc b → bit x b ≡ true
     top′ b x h k = unfold bit in ap (λ (y : ℕ). eqb (y % 2) 1) (div-eq-of-lt-le {k = 1} (2 ^ b) {m = x} (omega (arith, h)) (omega (arith, k, pow-suc 2 b)))
 

@@ -97,13 +97,17 @@ module _ (N : ℕ) where
       go (asks q) i t = sym (only-ans B q i) ∙ t
 
   pub only-valid : (P : ℕ) (B : Bits) → Valid (4 ^ N) P B → Valid (4 ^ N) P (only (4 ^ N) B)
-  only-valid P B v = record { cap = λ j e h. v .cap j e (and-r (ltb j (4 ^ N)) (B .has j e) h);
-      top = (v .top .0, v .top .1, v .top .2, v .top .3, and-i (ltb (v .top .0) (4 ^ N)) (B .has (v .top .0) (v .top .1)) (lt-ltb (v .top .0) (4 ^ N) (v .top .2)) (v .top .4)) }
+  only-valid P B v = record {
+    cap = λ j e h. v .cap j e (and-r (ltb j (4 ^ N)) (B .has j e) h);
+    top = (v .top .0, v .top .1, v .top .2, v .top .3, and-i (ltb (v .top .0) (4 ^ N)) (B .has (v .top .0) (v .top .1)) (lt-ltb (v .top .0) (4 ^ N) (v .top .2)) (v .top .4));
+  }
 
   -- SOME ARRAY OF BITS IS SOME LIST OF NUMBERS: 0 from I on
   pub to-list : (D P : ℕ) (u : List Bool) → (B : Bits) × Valid (4 ^ N) P B × Fits N State (ask (4 ^ N)) (next (4 ^ N)) B (start (4 ^ N) D P) u
       → (A : Arr) × Planes (4 ^ N) P A × Fits N State (ask (4 ^ N)) (next (4 ^ N)) (bits-of A) (start (4 ^ N) D P) u × ((j : ℕ) → 4 ^ N ≤ j → A .mag j ≡ 0)
-  to-list D P u w =
-      (arr-of P (only (4 ^ N) (w .0)), planes-of (4 ^ N) P (only (4 ^ N) (w .0)) (only-valid P (w .0) (w .1)),
-       fits-ext N State (ask (4 ^ N)) (next (4 ^ N)) (only (4 ^ N) (w .0)) (bits-of (arr-of P (only (4 ^ N) (w .0)))) (λ j e. sym (arr-has (4 ^ N) P (only (4 ^ N) (w .0)) (only-valid P (w .0) (w .1)) j e)) (λ j. refl) (start (4 ^ N) D P) u (only-fits (w .0) (start (4 ^ N) D P) u (w .2)),
-       λ j h. num-0 P (λ e. ltb j (4 ^ N) && (w .0) .has j e) (λ b. drop (ltb j (4 ^ N)) ((w .0) .has j b) (le-ltb j (4 ^ N) h)))
+  to-list D P u w = (
+    arr-of P (only (4 ^ N) (w .0)),
+    planes-of (4 ^ N) P (only (4 ^ N) (w .0)) (only-valid P (w .0) (w .1)),
+    fits-ext N State (ask (4 ^ N)) (next (4 ^ N)) (only (4 ^ N) (w .0)) (bits-of (arr-of P (only (4 ^ N) (w .0)))) (λ j e. sym (arr-has (4 ^ N) P (only (4 ^ N) (w .0)) (only-valid P (w .0) (w .1)) j e)) (λ j. refl) (start (4 ^ N) D P) u (only-fits (w .0) (start (4 ^ N) D P) u (w .2)),
+    λ j h. num-0 P (λ e. ltb j (4 ^ N) && (w .0) .has j e) (λ b. drop (ltb j (4 ^ N)) ((w .0) .has j b) (le-ltb j (4 ^ N) h)),
+  )

@@ -213,9 +213,10 @@ module _ (N D P : ℕ) (D-big : 4 ≤ D) (D-4 : D % 4 ≡ 0) (I-16 : 4 ^ N % 16 
     can-pix b i m false y ex ey z = (tt, tt)
     can-pix b i m true false ex ey z = (tt, tt)
     can-pix b i m true true ex ey z =
-        let r : Open1 N D P D-big D-4 I-16 D-I W b (λ j. j ≡ i) = open-pix N D P D-big D-4 I-16 D-I W k vv O k⊑W cap b i m (z .1 .0) (ltb-true i I ex) (z .1 .1) (eqb-true _ _ ey) in
-        ((ltb-true i I ex, enough-pix N D P D-big D-4 I-16 D-I W k vv O k⊑W cap b i m (z .1 .0) (ltb-true i I ex) (z .1 .1) (eqb-true _ _ ey)),
-         yes-one N W i b (subst (λ (x : ℕ). W .has x b ≡ true) (r .2) (r .3)))
+        let r : Open1 N D P D-big D-4 I-16 D-I W b (λ j. j ≡ i) = open-pix N D P D-big D-4 I-16 D-I W k vv O k⊑W cap b i m (z .1 .0) (ltb-true i I ex) (z .1 .1) (eqb-true _ _ ey) in (
+          (ltb-true i I ex, enough-pix N D P D-big D-4 I-16 D-I W k vv O k⊑W cap b i m (z .1 .0) (ltb-true i I ex) (z .1 .1) (eqb-true _ _ ey)),
+          yes-one N W i b (subst (λ (x : ℕ). W .has x b ≡ true) (r .2) (r .3)),
+        )
 
     can-sets : (b i : ℕ) (m : List ℕ) (x d g c : Bool) → ltb i I ≡ x → eqb (getD m i 0) 5 ≡ d → eqb (getD m i 0) 6 ≡ g → eqb (getD m i 0) 4 ≡ c → Here (suc b) sets i false m
         → (Clash D I P b i m → ⊥) → CanL (lookSets b i m x d g c)
@@ -245,9 +246,10 @@ module _ (N D P : ℕ) (D-big : 4 ≤ D) (D-4 : D % 4 ≡ 0) (I-16 : 4 ^ N % 16 
     can-fine b i m true false true ex es z = (tt, tt)
     can-fine b i m true false false ex es z = (tt, tt)
     can-fine b i m true true n ex es z =
-        let r : Open1 N D P D-big D-4 I-16 D-I W b (λ j. j ≡ i) = open-fine N D P D-big D-4 I-16 D-I W k vv O k⊑W cap b i m (z .1 .0) (ltb-true i I ex) (z .1 .1) (eqb-true _ _ es) in
-        ((ltb-true i I ex, enough-fine N D P D-big D-4 I-16 D-I W k vv O k⊑W cap b i m (z .1 .0) (ltb-true i I ex) (z .1 .1) (eqb-true _ _ es)),
-         yes-one N W i b (subst (λ (x : ℕ). W .has x b ≡ true) (r .2) (r .3)))
+        let r : Open1 N D P D-big D-4 I-16 D-I W b (λ j. j ≡ i) = open-fine N D P D-big D-4 I-16 D-I W k vv O k⊑W cap b i m (z .1 .0) (ltb-true i I ex) (z .1 .1) (eqb-true _ _ es) in (
+          (ltb-true i I ex, enough-fine N D P D-big D-4 I-16 D-I W k vv O k⊑W cap b i m (z .1 .0) (ltb-true i I ex) (z .1 .1) (eqb-true _ _ es)),
+          yes-one N W i b (subst (λ (x : ℕ). W .has x b ≡ true) (r .2) (r .3)),
+        )
 
     sign-pix : (b i : ℕ) (m : List ℕ) → Here (suc b) pixels i true m → W .neg i ≡ vv
     sign-pix b i m z =
@@ -288,28 +290,40 @@ module _ (N D P : ℕ) (D-big : 4 ≤ D) (D-4 : D % 4 ≡ 0) (I-16 : 4 ^ N % 16 
     where
       s : State
       s = reach (4 ^ N) S0 u
+
       W : Bits
       W = most N State (ask I) (next I) S0 u (all-of a)
+
       k : Bits
       k = least N State (ask I) (next I) S0 u nothing
+
       A⊑ : A ⊑ all-of a
       A⊑ j e h = lt-ltb e P (va .cap j e h)
+
       fW : Begins W u
       fW = most-fits N State (ask I) (next I) A S0 u (all-of a) f A⊑
+
       O : Question → Type 0
       O = Owing N D P D-big D-4 I-16 D-I W a S0 u (λ p. ⊥)
+
       z : All N D P D-big D-4 I-16 D-I W a k W O s
       z = all-run N D P D-big D-4 I-16 D-I W a nothing (all-of a) (λ p. ⊥) S0 u (all-start N D P D-big D-4 I-16 D-I W a) fW
+
       cap : (j e : ℕ) → W .has j e ≡ true → e < P
       cap j e h = ltb-true e P (most-below N State (ask I) (next I) S0 u (all-of a) j e h)
+
       k⊑W : (j e : ℕ) → k .has j e ≡ true → W .has j e ≡ true
       k⊑W j e h = least-below N State (ask I) (next I) W S0 u nothing fW (λ i b y. absurd (false≢true y)) j e h
+
       vW : Valid I P W
       vW = record { cap = cap; top = (va .top .0, va .top .1, va .top .2, va .top .3, most-keeps N State (ask I) (next I) A S0 u (all-of a) f A⊑ (va .top .0) (va .top .1) (va .top .4)) }
+
       ow : (p : Question) → Owed N State (ask I) (next I) S0 u p → O p
       ow p o = owing W a S0 u (λ p. ⊥) p o
+
       add : (B : Bits) (p : Question) (c : Bool) → look I s ≡ asks p → Begins B u → ans N B p ≡ c → Begins B (u ++ (c ∷ []))
       add B p c e g h = fit-append N B S0 u (c ∷ []) g (subst (λ (L : Look). told N B (asked I L) c) (sym e) h, tt)
+
       fin : (x : Bool) → a ≡ x → (L : Look) → look I s ≡ L → (a ≡ false → CanL W k a O k⊑W cap L) → YesL W k a O k⊑W cap L → (B : Bits) × Valid I P B × Begins B (u ++ (x ∷ []))
       fin x ex over e c y = absurd (let bad : none ≡ some q = subst (λ (L : Look). asked I L ≡ some q) e eq in let b : _≡_ {A = ℕ} 0 1 = cc in omega arith)
       fin x ex (silent r) e c y = absurd (let bad : none ≡ some q = subst (λ (L : Look). asked I L ≡ some q) e eq in let b : _≡_ {A = ℕ} 0 1 = cc in omega arith)
@@ -317,13 +331,18 @@ module _ (N D P : ℕ) (D-big : 4 ≤ D) (D-4 : D % 4 ≡ 0) (I-16 : 4 ^ N % 16 
       fin true ex (asks (bitOf i b)) e c y = (W, vW, add W (bitOf i b) true e fW y)
       fin true ex (asks (inDesc g b)) e c y = (W, vW, add W (inDesc g b) true e fW y)
       fin true ex (asks (inGrand g b)) e c y = (W, vW, add W (inGrand g b) true e fW y)
-      fin false ex (asks (bitOf i b)) e c y =
-          (clear N (bitOf i b) b W,
-           still-valid W O u vW fW ow (bitOf i b) b (λ j. j ≡ i) (λ j h. (one-in N i b j h, subst (λ (r : ℕ). r < I) (sym (one-in N i b j h)) ((c ex) .0))) ((c ex) .1),
-           add (clear N (bitOf i b) b W) (bitOf i b) false e (still-begins W O u vW fW ow (bitOf i b) b (λ j. j ≡ i) (λ j h. (one-in N i b j h, subst (λ (r : ℕ). r < I) (sym (one-in N i b j h)) ((c ex) .0))) ((c ex) .1)) (cleared-one N i b W))
-      fin false ex (asks (inDesc g b)) e c y =
-          (clear N (inDesc g b) b W, still-valid W O u vW fW ow (inDesc g b) b (λ j. Under g j) (desc-in N g b) (c ex),
-           add (clear N (inDesc g b) b W) (inDesc g b) false e (still-begins W O u vW fW ow (inDesc g b) b (λ j. Under g j) (desc-in N g b) (c ex)) (cleared-desc N g b W))
-      fin false ex (asks (inGrand g b)) e c y =
-          (clear N (inGrand g b) b W, still-valid W O u vW fW ow (inGrand g b) b (λ j. Under g (j / 4)) (grand-in N g b) (c ex),
-           add (clear N (inGrand g b) b W) (inGrand g b) false e (still-begins W O u vW fW ow (inGrand g b) b (λ j. Under g (j / 4)) (grand-in N g b) (c ex)) (cleared-grand N g b W))
+      fin false ex (asks (bitOf i b)) e c y = (
+        clear N (bitOf i b) b W,
+        still-valid W O u vW fW ow (bitOf i b) b (λ j. j ≡ i) (λ j h. (one-in N i b j h, subst (λ (r : ℕ). r < I) (sym (one-in N i b j h)) ((c ex) .0))) ((c ex) .1),
+        add (clear N (bitOf i b) b W) (bitOf i b) false e (still-begins W O u vW fW ow (bitOf i b) b (λ j. j ≡ i) (λ j h. (one-in N i b j h, subst (λ (r : ℕ). r < I) (sym (one-in N i b j h)) ((c ex) .0))) ((c ex) .1)) (cleared-one N i b W),
+      )
+      fin false ex (asks (inDesc g b)) e c y = (
+        clear N (inDesc g b) b W,
+        still-valid W O u vW fW ow (inDesc g b) b (λ j. Under g j) (desc-in N g b) (c ex),
+        add (clear N (inDesc g b) b W) (inDesc g b) false e (still-begins W O u vW fW ow (inDesc g b) b (λ j. Under g j) (desc-in N g b) (c ex)) (cleared-desc N g b W),
+      )
+      fin false ex (asks (inGrand g b)) e c y = (
+        clear N (inGrand g b) b W,
+        still-valid W O u vW fW ow (inGrand g b) b (λ j. Under g (j / 4)) (grand-in N g b) (c ex),
+        add (clear N (inGrand g b) b W) (inGrand g b) false e (still-begins W O u vW fW ow (inGrand g b) b (λ j. Under g (j / 4)) (grand-in N g b) (c ex)) (cleared-grand N g b W),
+      )

@@ -49,20 +49,24 @@ module _ (N D P : ℕ) (D-big : 4 ≤ D) (D-4 : D % 4 ≡ 0) (I-16 : 4 ^ N % 16 
       where
         it : (alone D I c t ≡ true) × (c .al t ≡ getD m t 0)
         it = is-alone D I D-big D-4 I-16 c m kk t ti (omega arith) (omega arith)
+
         c4 : (D ≤ t) × (16 * (t / 4) < I → c .sG (t / 4) ≡ false) × ((j : ℕ) → j / 4 ≡ t / 4 → j < t → (c .al j ≡ 1) ⊎ (c .al j ≡ 2))
         c4 = f .c4 (it .0) (it .1 ∙ mk)
+
         sd : c .sD (t / 4) ≡ true
         sd = pick (c .sD (t / 4)) refl
           where
             pick : (x : Bool) → c .sD (t / 4) ≡ x → c .sD (t / 4) ≡ true
             pick true e = e
             pick false e = absurd (true≢false (sym (it .0) ∙ alone-no D I c t (c4 .0) e))
+
         sib : (j : ℕ) → j / 4 ≡ t / 4 → alone D I c j ≡ true
         sib j e = pick (alone D I c j) refl
           where
             pick : (x : Bool) → alone D I c j ≡ x → alone D I c j ≡ true
             pick true z = z
             pick false z = absurd (true≢false (sym (subst (λ (x : ℕ). c .sD x ≡ true) (sym e) sd) ∙ (no-alone D I c j z) .1))
+
         -- look at the three before t
         three : (r : ℕ) → r ≤ 3 → ((j : ℕ) → j / 4 ≡ t / 4 → j < 4 * (t / 4) + r → getD m j 0 ≡ 1) ⊎ ((j : ℕ) × (j / 4 ≡ t / 4) × (j < 4 * (t / 4) + r) × (getD m j 0 ≡ 1 → ⊥))
         three zero h = inl (λ j e z. absurd (omega arith))
@@ -77,6 +81,7 @@ module _ (N D P : ℕ) (D-big : 4 ≤ D) (D-4 : D % 4 ≡ 0) (I-16 : 4 ^ N % 16 
                 all : (j : ℕ) → j / 4 ≡ t / 4 → j < 4 * (t / 4) + suc r → Dec (j ≡ 4 * (t / 4) + r) → getD m j 0 ≡ 1
                 all j e y (yes q) = ap (λ (x : ℕ). getD m x 0) q ∙ z
                 all j e y (no q) = w j e (omega arith)
+
         found : t % 4 ≡ 3 → I ≤ 16 * (t / 4) → ((j : ℕ) → j / 4 ≡ t / 4 → j < 4 * (t / 4) + 3 → getD m j 0 ≡ 1) ⊎ ((j : ℕ) × (j / 4 ≡ t / 4) × (j < 4 * (t / 4) + 3) × (getD m j 0 ≡ 1 → ⊥)) → Spare W k b (λ j. Under (t / 4) j × (j ≡ t → ⊥))
         found t3 big (inl w) = absurd (n (last-child mk t3 big (λ j e y. w j e (omega arith))))
         found t3 big (inr w) = two (w .0) (w .1) (omega arith) (w .3) (c4 .2 (w .0) (w .1) (omega arith))
@@ -84,13 +89,14 @@ module _ (N D P : ℕ) (D-big : 4 ≤ D) (D-4 : D % 4 ≡ 0) (I-16 : 4 ^ N % 16 
             two : (j : ℕ) → j / 4 ≡ t / 4 → j < t → (getD m j 0 ≡ 1 → ⊥) → (c .al j ≡ 1) ⊎ (c .al j ≡ 2) → Spare W k b (λ j. Under (t / 4) j × (j ≡ t → ⊥))
             two j e y z (inl a) = absurd (z (kk .tab .solo j (omega arith) (sib j e) ∙ a))
             two j e y z (inr a) = now j (omega arith) (kid e, λ q. omega arith) (k⊑W j b (f .m2 j (omega arith) (sib j e) a))
+
         go : Dec (t % 4 ≡ 3) → Dec (16 * (t / 4) < I) → Spare W k b (λ j. Under (t / 4) j × (j ≡ t → ⊥))
         go (no z) y =
             let r : (alone D I c (t + 1) ≡ true) × (c .al (t + 1) ≡ 4) = p .grp ti (it .0) (it .1 ∙ mk) (t + 1) (omega arith) (omega arith) in
             now (t + 1) (omega arith) (kid {i = t + 1} (omega arith), λ q. omega arith) (f .f4 (t + 1) (omega arith) (r .0) (r .1))
         go (yes z) (yes y) =
             now (16 * (t / 4)) y (far {i = 16 * (t / 4)} (kid {i = 16 * (t / 4) / 4} (omega arith)), λ q. omega (arith, c4 .0))
-              (f .fG (t / 4) (omega (arith, c4 .0)) y (omega (arith, c4 .0)) sd (c4 .1 y) (16 * (t / 4)) y (kid {i = 16 * (t / 4) / 4} (omega arith)))
+            (f .fG (t / 4) (omega (arith, c4 .0)) y (omega (arith, c4 .0)) sd (c4 .1 y) (16 * (t / 4)) y (kid {i = 16 * (t / 4) / 4} (omega arith)))
         go (yes z) (no y) = found z (omega arith) (three 3 (lit≤ tt))
 
     -- MD below the roots: there is a member of GRAND(g / 4) outside DESC(g)
@@ -99,6 +105,7 @@ module _ (N D P : ℕ) (D-big : 4 ≤ D) (D-4 : D % 4 ≡ 0) (I-16 : 4 ^ N % 16 
       where
         is : (t % 4 ≡ 0) × (stands D I c (t / 4) ≡ true) × (c .sD (t / 4) ≡ false) × (D ≤ t)
         is = is-D D I D-big D-4 I-16 c m kk t ti mk
+
         split : (h : ℕ) → h / 4 ≡ t / 4 / 4 → (h ≡ t / 4 → ⊥) → c .sD h ≡ true → Spare W k b (λ j. (h : ℕ) × (h / 4 ≡ t / 4 / 4) × (h ≡ t / 4 → ⊥) × Under h j)
         split h e ne s =
             let r : (j : ℕ) × (e : ℕ) × (j < I) × Under h j × (b ≤ e) × (W .has j e ≡ true) = p .more .qD h s in
@@ -107,20 +114,24 @@ module _ (N D P : ℕ) (D-big : 4 ≤ D) (D-4 : D % 4 ≡ 0) (I-16 : 4 ^ N % 16 
             at : (j x : ℕ) → j < I → Under h j → b ≤ x → W .has j x ≡ true → Dec (x ≡ b) → Spare W k b (λ j. (h : ℕ) × (h / 4 ≡ t / 4 / 4) × (h ≡ t / 4 → ⊥) × Under h j)
             at j x hj u le w (yes q) = now j hj (h, e, ne, u) (subst (λ (y : ℕ). W .has j y ≡ true) q w)
             at j x hj u le w (no q) = past j x hj (h, e, ne, u) (omega arith) (above x (omega arith) (cap j x w) j hj w)
+
         sg : (h : ℕ) → h / 4 ≡ t / 4 / 4 → stands D I c h ≡ true
         sg h e = pick (stands D I c h) refl
           where
             pick : (x : Bool) → stands D I c h ≡ x → stands D I c h ≡ true
             pick true z = z
             pick false z = absurd (true≢false (sym (is .1) ∙ stands-no D I c (t / 4) (omega arith) (subst (λ (x : ℕ). c .sG x ≡ false) e ((no-stands D I c h z) .1))))
+
         later : (t / 4 % 4 ≡ 3 → ⊥) → (x : Bool) → c .sD (t / 4 + 1) ≡ x → Spare W k b (λ j. (h : ℕ) × (h / 4 ≡ t / 4 / 4) × (h ≡ t / 4 → ⊥) × Under h j)
         later z true e = split (t / 4 + 1) (omega arith) (λ q. omega arith) e
         later z false e =
             now (4 * (t / 4 + 1)) (omega (arith, is .0)) (t / 4 + 1, omega arith, (λ q. omega arith), kid {i = 4 * (t / 4 + 1)} (omega arith))
-              (f .fD (t / 4 + 1) (omega arith) (omega (arith, is .0)) (omega arith) (sg (t / 4 + 1) (omega arith)) e (4 * (t / 4 + 1)) (omega (arith, is .0)) (kid {i = 4 * (t / 4 + 1)} (omega arith)))
+            (f .fD (t / 4 + 1) (omega arith) (omega (arith, is .0)) (omega arith) (sg (t / 4 + 1) (omega arith)) e (4 * (t / 4 + 1)) (omega (arith, is .0)) (kid {i = 4 * (t / 4 + 1)} (omega arith)))
+
         -- look at the three before t
         base : ℕ
         base = 4 * (t / 4 / 4)
+
         three : (r : ℕ) → r ≤ 3 → ((h : ℕ) → h / 4 ≡ t / 4 / 4 → h < base + r → getD m (4 * h) 0 ≡ 5) ⊎ ((h : ℕ) × (h / 4 ≡ t / 4 / 4) × (h < base + r) × (c .sD h ≡ true))
         three zero h = inl (λ j e z. absurd (omega arith))
         three (suc r) h = step (c .sD (base + r)) refl (three r (omega arith))
@@ -134,9 +145,11 @@ module _ (N D P : ℕ) (D-big : 4 ≤ D) (D-4 : D % 4 ≡ 0) (I-16 : 4 ^ N % 16 
                 all : (j : ℕ) → j / 4 ≡ t / 4 / 4 → j < base + suc r → Dec (j ≡ base + r) → getD m (4 * j) 0 ≡ 5
                 all j e y (yes q) = mark-D D I D-big D-4 I-16 c m kk j (omega arith) (omega (arith, is .0)) (sg j e) (subst (λ (x : ℕ). c .sD x ≡ false) (sym q) z)
                 all j e y (no q) = w j e (omega arith)
+
         earlier : t / 4 % 4 ≡ 3 → ((h : ℕ) → h / 4 ≡ t / 4 / 4 → h < base + 3 → getD m (4 * h) 0 ≡ 5) ⊎ ((h : ℕ) × (h / 4 ≡ t / 4 / 4) × (h < base + 3) × (c .sD h ≡ true)) → Spare W k b (λ j. (h : ℕ) × (h / 4 ≡ t / 4 / 4) × (h ≡ t / 4 → ⊥) × Under h j)
         earlier z (inl w) = absurd (n (last-desc mk big z (λ h e y. w h e (omega arith))))
         earlier z (inr w) = split (w .0) (w .1) (λ q. omega arith) (w .3)
+
         go : Dec (t / 4 % 4 ≡ 3) → Spare W k b (λ j. (h : ℕ) × (h / 4 ≡ t / 4 / 4) × (h ≡ t / 4 → ⊥) × Under h j)
         go (no z) = later z (c .sD (t / 4 + 1)) refl
         go (yes z) = earlier z (three 3 (lit≤ tt))
@@ -147,12 +160,14 @@ module _ (N D P : ℕ) (D-big : 4 ≤ D) (D-4 : D % 4 ≡ 0) (I-16 : 4 ^ N % 16 
       where
         is : (t ≡ 16 * (t / 16)) × (c .sD (t / 16) ≡ true) × (c .sG (t / 16) ≡ false) × (D ≤ 4 * (t / 16)) × (alone D I c t ≡ false)
         is = is-G D I D-big D-4 I-16 c m kk t ti mk
+
         kid-alone : (j : ℕ) → j / 4 ≡ t / 16 → alone D I c j ≡ true
         kid-alone j e = pick (alone D I c j) refl
           where
             pick : (x : Bool) → alone D I c j ≡ x → alone D I c j ≡ true
             pick true z = z
             pick false z = absurd (true≢false (sym (subst (λ (x : ℕ). c .sD x ≡ true) (sym e) (is .1)) ∙ (no-alone D I c j z) .1))
+
         four : (r : ℕ) → r ≤ 4 → ((j : ℕ) → j / 4 ≡ t / 16 → j < 4 * (t / 16) + r → getD m j 0 ≡ 1) ⊎ ((j : ℕ) × (j / 4 ≡ t / 16) × (getD m j 0 ≡ 1 → ⊥))
         four zero h = inl (λ j e z. absurd (omega arith))
         four (suc r) h = step (ℕ-discrete (getD m (4 * (t / 16) + r) 0) 1) (four r (omega arith))
@@ -166,6 +181,7 @@ module _ (N D P : ℕ) (D-big : 4 ≤ D) (D-4 : D % 4 ≡ 0) (I-16 : 4 ^ N % 16 
                 all : (j : ℕ) → j / 4 ≡ t / 16 → j < 4 * (t / 16) + suc r → Dec (j ≡ 4 * (t / 16) + r) → getD m j 0 ≡ 1
                 all j e y (yes q) = ap (λ (x : ℕ). getD m x 0) q ∙ z
                 all j e y (no q) = w j e (omega arith)
+
         kinds : (j : ℕ) → j / 4 ≡ t / 16 → (getD m j 0 ≡ 1 → ⊥) → j < I → Dec (c .al j ≡ 2) → Dec (c .al j ≡ 3) → Spare W k b (λ j. j / 4 ≡ t / 16)
         kinds j e z hj (yes a) y = now j hj e (k⊑W j b (f .m2 j hj (kid-alone j e) a))
         kinds j e z hj (no a) (yes y) = let r : (x : ℕ) × (b < x) × (k .has j x ≡ true) = f .m3 j hj (kid-alone j e) y in past j (r .0) hj e (r .1) (r .2)
@@ -174,6 +190,7 @@ module _ (N D P : ℕ) (D-big : 4 ≤ D) (D-4 : D % 4 ≡ 0) (I-16 : 4 ^ N % 16 
             last4 : Dec (c .al j ≡ 4) → ⊥
             last4 (yes x) = omega (arith, p .four j hj (kid-alone j e) x, is .0, is .3)
             last4 (no x) = z (omega (arith, kk .tab .solo j hj (kid-alone j e), kk .rng j hj (kid-alone j e)))
+
         found : ((j : ℕ) → j / 4 ≡ t / 16 → j < 4 * (t / 16) + 4 → getD m j 0 ≡ 1) ⊎ ((j : ℕ) × (j / 4 ≡ t / 16) × (getD m j 0 ≡ 1 → ⊥)) → Spare W k b (λ j. j / 4 ≡ t / 16)
         found (inl w) = absurd (n (last-grand mk (λ j e. w j e (omega arith))))
         found (inr w) = kinds (w .0) (w .1) (w .2) (omega (arith, is .0, is .3)) (ℕ-discrete (c .al (w .0)) 2) (ℕ-discrete (c .al (w .0)) 3)
@@ -192,18 +209,22 @@ module _ (N D P : ℕ) (D-big : 4 ≤ D) (D-4 : D % 4 ≡ 0) (I-16 : 4 ^ N % 16 
       where
         is : (t % 4 ≡ 0) × (stands D I c (t / 4) ≡ true) × (c .sD (t / 4) ≡ false) × (D ≤ t)
         is = is-D D I D-big D-4 I-16 c m kk t ti mk
+
         st : (h : ℕ) → h < D → stands D I c h ≡ true
         st h e = pick (stands D I c h) refl
           where
             pick : (x : Bool) → stands D I c h ≡ x → stands D I c h ≡ true
             pick true z = z
             pick false z = absurd (omega (arith, (no-stands D I c h z) .0))
+
         top : (j e : ℕ) → b ≤ e → W .has j e ≡ true → W .has j b ≡ true
         top j e h w = subst (λ (x : ℕ). W .has j x ≡ true) {x = e} {y = b} (omega (arith, cap j e w)) w
+
         split : (h : ℕ) → D ≤ 4 * h → h < D → (t / 4 ≡ h → ⊥) → c .sD h ≡ true → (j : ℕ) × (j < I) × (W .has j b ≡ true) × (Under (t / 4) j → ⊥)
         split h h1 h2 ne s =
             let r : (j : ℕ) × (e : ℕ) × (j < I) × Under h j × (b ≤ e) × (W .has j e ≡ true) = p .more .qD h s in
             (r .0, r .2, top (r .0) (r .1) (r .4) (r .5), λ u. root-apart (t / 4) h (r .0) (omega (arith, is .0, is .3)) (omega arith) h1 h2 ne u (r .3))
+
         all-or : (x : ℕ) (f : ℕ → Bool) → ((j : ℕ) → j < x → f j ≡ true) ⊎ ((j : ℕ) × (j < x) × (f j ≡ false))
         all-or zero f = inl (λ j h. absurd (omega arith))
         all-or (suc x) f = step (f x) refl (all-or x f)
@@ -216,18 +237,22 @@ module _ (N D P : ℕ) (D-big : 4 ≤ D) (D-4 : D % 4 ≡ 0) (I-16 : 4 ^ N % 16 
                 at : (j : ℕ) → j < suc x → Dec (j ≡ x) → f j ≡ true
                 at j h (yes q) = ap f q ∙ e
                 at j h (no q) = r j (omega arith)
+
         or-no : (x y : Bool) → (x || y) ≡ false → (x ≡ false) × (y ≡ false)
         or-no true y e = absurd (true≢false e)
         or-no false y e = (refl, e)
+
         or-yes : (x y : Bool) → (x || y) ≡ true → (y ≡ true → ⊥) → x ≡ true
         or-yes true y e h = refl
         or-yes false y e h = absurd (h e)
+
         al-D : (j : ℕ) → j < D → alone D I c j ≡ true
         al-D j h = pick (alone D I c j) refl
           where
             pick : (x : Bool) → alone D I c j ≡ x → alone D I c j ≡ true
             pick true z = z
             pick false z = absurd (omega (arith, (no-alone D I c j z) .0))
+
         low-one : (j : ℕ) → j < D → (getD m j 0 ≡ 1 → ⊥) → Dec (c .al j ≡ 2) → Dec (c .al j ≡ 3) → (j : ℕ) × (j < I) × (W .has j b ≡ true) × (Under (t / 4) j → ⊥)
         low-one j h z (yes a) y = (j, omega arith, k⊑W j b (f .m2 j (omega arith) (al-D j h) a), λ u. omega (arith, under-ge (t / 4) j u, is .0, is .3))
         low-one j h z (no a) (yes y) = let r : (x : ℕ) × (b < x) × (k .has j x ≡ true) = f .m3 j (omega arith) (al-D j h) y in absurd (omega (arith, r .1, cap j (r .0) (k⊑W j (r .0) (r .2))))
@@ -236,6 +261,7 @@ module _ (N D P : ℕ) (D-big : 4 ≤ D) (D-4 : D % 4 ≡ 0) (I-16 : 4 ^ N % 16 
             last4 : Dec (c .al j ≡ 4) → ⊥
             last4 (yes x) = omega (arith, p .four j (omega arith) (al-D j h) x, is .3)
             last4 (no x) = z (omega (arith, kk .tab .solo j (omega arith) (al-D j h), kk .rng j (omega arith) (al-D j h)))
+
         last : t + 4 ≡ 4 * D → ((j : ℕ) → j < D → eqb (getD m j 0) 1 ≡ true) ⊎ ((j : ℕ) × (j < D) × (eqb (getD m j 0) 1 ≡ false))
             → ((h : ℕ) → h < t / 4 → (eqb (getD m (4 * h) 0) 5 || ltb (4 * h) D) ≡ true) ⊎ ((h : ℕ) × (h < t / 4) × ((eqb (getD m (4 * h) 0) 5 || ltb (4 * h) D) ≡ false))
             → (j : ℕ) × (j < I) × (W .has j b ≡ true) × (Under (t / 4) j → ⊥)
@@ -246,12 +272,16 @@ module _ (N D P : ℕ) (D-big : 4 ≤ D) (D-4 : D % 4 ≡ 0) (I-16 : 4 ^ N % 16 
             bad : (h : ℕ) → h < t / 4 → (eqb (getD m (4 * h) 0) 5 ≡ false) × (ltb (4 * h) D ≡ false) → (x : Bool) → c .sD h ≡ x → (j : ℕ) × (j < I) × (W .has j b ≡ true) × (Under (t / 4) j → ⊥)
             bad h ht q true s = split h (ltb-false (4 * h) D (q .1)) (omega arith) (λ z. omega arith) s
             bad h ht q false s = absurd (eqb-false _ _ (q .0) (mark-D D I D-big D-4 I-16 c m kk h (ltb-false (4 * h) D (q .1)) (omega arith) (st h (omega arith)) s))
+
         later : (t + 4 ≡ 4 * D → ⊥) → (x : Bool) → c .sD (t / 4 + 1) ≡ x → (j : ℕ) × (j < I) × (W .has j b ≡ true) × (Under (t / 4) j → ⊥)
         later z true s = split (t / 4 + 1) (omega (arith, is .3)) (omega (arith, is .0)) (λ q. omega arith) s
-        later z false s =
-            (4 * (t / 4 + 1), omega (arith, is .0),
-             f .fD (t / 4 + 1) (omega (arith, is .3)) (omega (arith, is .0)) (omega arith) (st (t / 4 + 1) (omega (arith, is .0))) s (4 * (t / 4 + 1)) (omega (arith, is .0)) (kid {i = 4 * (t / 4 + 1)} (omega arith)),
-             λ u. root-apart (t / 4) (t / 4 + 1) (4 * (t / 4 + 1)) (omega (arith, is .0, is .3)) (omega arith) (omega (arith, is .3)) (omega (arith, is .0)) (λ q. omega arith) u (kid {i = 4 * (t / 4 + 1)} (omega arith)))
+        later z false s = (
+          4 * (t / 4 + 1),
+          omega (arith, is .0),
+          f .fD (t / 4 + 1) (omega (arith, is .3)) (omega (arith, is .0)) (omega arith) (st (t / 4 + 1) (omega (arith, is .0))) s (4 * (t / 4 + 1)) (omega (arith, is .0)) (kid {i = 4 * (t / 4 + 1)} (omega arith)),
+          λ u. root-apart (t / 4) (t / 4 + 1) (4 * (t / 4 + 1)) (omega (arith, is .0, is .3)) (omega arith) (omega (arith, is .3)) (omega (arith, is .0)) (λ q. omega arith) u (kid {i = 4 * (t / 4 + 1)} (omega arith)),
+        )
+
         go : Dec (t + 4 ≡ 4 * D) → (j : ℕ) × (j < I) × (W .has j b ≡ true) × (Under (t / 4) j → ⊥)
         go (no z) = later z (c .sD (t / 4 + 1)) refl
         go (yes z) = last z (all-or D (λ j. eqb (getD m j 0) 1)) (all-or (t / 4) (λ h. eqb (getD m (4 * h) 0) 5 || ltb (4 * h) D))
@@ -259,12 +289,13 @@ module _ (N D P : ℕ) (D-big : 4 ≤ D) (D-4 : D % 4 ≡ 0) (I-16 : 4 ^ N % 16 
   -- from the marks
   pub fresh-of : (W k : Bits) (b t : ℕ) (c : Cfg) (m : List ℕ) → t < I → Core D I D-big D-4 I-16 c m → SetFr N D P D-big D-4 I-16 D-I (λ b j. W .has j b ≡ true) (λ e j. k .has j e ≡ true) b t m → Fresh W k b t c
   fresh-of W k b t c m ti kk p = record {
-      f4 = λ j hj a e. p .f4 j hj (kk .tab .solo j hj a ∙ e);
-      fD = λ h lo hi z s n j hj u. p .fD (4 * h) hi z (mark-D D I D-big D-4 I-16 c m kk h lo hi s n) j hj (subst (λ (x : ℕ). Under x j) {x = h} {y = 4 * h / 4} (omega arith) u);
-      fG = λ q lo hi z s n j hj u. p .fG (16 * q) hi z (mark-G D I D-big D-4 I-16 c m kk q lo hi s n) j hj (subst (λ (x : ℕ). Under x (j / 4)) {x = q} {y = 16 * q / 16} (omega arith) u);
-      m2 = λ j hj a e. p .m2 j hj (kk .tab .solo j hj a ∙ e);
-      m3 = λ j hj a e. p .m3 j hj (kk .tab .solo j hj a ∙ e);
-      c4 = λ a e. c4′ (p .c4 ti (kk .tab .solo t ti a ∙ e)) }
+    f4 = λ j hj a e. p .f4 j hj (kk .tab .solo j hj a ∙ e);
+    fD = λ h lo hi z s n j hj u. p .fD (4 * h) hi z (mark-D D I D-big D-4 I-16 c m kk h lo hi s n) j hj (subst (λ (x : ℕ). Under x j) {x = h} {y = 4 * h / 4} (omega arith) u);
+    fG = λ q lo hi z s n j hj u. p .fG (16 * q) hi z (mark-G D I D-big D-4 I-16 c m kk q lo hi s n) j hj (subst (λ (x : ℕ). Under x (j / 4)) {x = q} {y = 16 * q / 16} (omega arith) u);
+    m2 = λ j hj a e. p .m2 j hj (kk .tab .solo j hj a ∙ e);
+    m3 = λ j hj a e. p .m3 j hj (kk .tab .solo j hj a ∙ e);
+    c4 = λ a e. c4′ (p .c4 ti (kk .tab .solo t ti a ∙ e));
+  }
     where
       c4′ : (D ≤ t) × (16 * (t / 4) < I → getD m (16 * (t / 4)) 0 ≡ 6) × ((j : ℕ) → j / 4 ≡ t / 4 → j < t → (1 ≤ getD m j 0) × (getD m j 0 ≤ 2))
           → (D ≤ t) × (16 * (t / 4) < I → c .sG (t / 4) ≡ false) × ((j : ℕ) → j / 4 ≡ t / 4 → j < t → (c .al j ≡ 1) ⊎ (c .al j ≡ 2))

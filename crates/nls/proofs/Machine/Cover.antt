@@ -64,16 +64,22 @@ four-in I i v l k h a b = go (ℕ-discrete k (i + 3)) (ℕ-discrete k (i + 2)) (
   where
     l1 : List ℕ
     l1 = set l i v
+
     l2 : List ℕ
     l2 = set l1 (i + 1) v
+
     l3 : List ℕ
     l3 = set l2 (i + 2) v
+
     e1 : length l1 ≡ length l
     e1 = length-set l i v
+
     e2 : length l2 ≡ length l
     e2 = length-set l1 (i + 1) v ∙ e1
+
     e3 : length l3 ≡ length l
     e3 = length-set l2 (i + 2) v ∙ e2
+
     go : Dec (k ≡ i + 3) → Dec (k ≡ i + 2) → Dec (k ≡ i + 1) → getD (set l3 (i + 3) v) k 0 ≡ v
     go (yes z) y x = ap (λ (j : ℕ). getD (set l3 (i + 3) v) j 0) z ∙ getD-set-same l3 (i + 3) v 0 (omega (arith, e3))
     go (no z) (yes y) x = getD-set-other l3 (i + 3) k v 0 z ∙ ap (λ (j : ℕ). getD l3 j 0) y ∙ getD-set-same l2 (i + 2) v 0 (omega (arith, e2))
@@ -130,14 +136,16 @@ module _ (D I : ℕ) (D-big : 4 ≤ D) (D-4 : D % 4 ≡ 0) (I-16 : I % 16 ≡ 0)
 
   pub more-A : (R : Preds) (i v : ℕ) (c : Cfg) → More (hide i R) c → alone D I c i ≡ true → (2 ≤ v → v ≤ 3 → R .Y i) → (R .Z i → (2 ≤ v) × (v ≤ 3)) → More R (withA i v c)
   more-A R i v c k a y z = record {
-      sg = λ j hj b l u. sg′ j hj (sym (alone-A D I i v c j) ∙ b) l u (ℕ-discrete j i);
-      qD = λ h e. k .qD h (sym (same-D i v c h) ∙ e);
-      qG = λ q e. k .qG q (sym (same-G i v c q) ∙ e);
-      zs = λ j hj e. zs′ j hj e (ℕ-discrete j i) }
+    sg = λ j hj b l u. sg′ j hj (sym (alone-A D I i v c j) ∙ b) l u (ℕ-discrete j i);
+    qD = λ h e. k .qD h (sym (same-D i v c h) ∙ e);
+    qG = λ q e. k .qG q (sym (same-G i v c q) ∙ e);
+    zs = λ j hj e. zs′ j hj e (ℕ-discrete j i);
+  }
     where
       sg′ : (j : ℕ) → j < I → alone D I c j ≡ true → 2 ≤ (withA i v c) .al j → (withA i v c) .al j ≤ 3 → Dec (j ≡ i) → R .Y j
       sg′ j hj b l u (yes e) = subst (R .Y) (sym e) (y (omega (arith, al-at i v c j e)) (omega (arith, al-at i v c j e)))
       sg′ j hj b l u (no e) = k .sg j hj b (omega (arith, al-else i v c j e)) (omega (arith, al-else i v c j e))
+
       zs′ : (j : ℕ) → j < I → R .Z j → Dec (j ≡ i) → (alone D I (withA i v c) j ≡ true) × (2 ≤ (withA i v c) .al j) × ((withA i v c) .al j ≤ 3)
       zs′ j hj e (yes q) =
           let r : (2 ≤ v) × (v ≤ 3) = z (subst (R .Z) q e) in
@@ -151,31 +159,36 @@ module _ (D I : ℕ) (D-big : 4 ≤ D) (D-4 : D % 4 ≡ 0) (I-16 : I % 16 ≡ 0)
 
   pub more-D : (R : Preds) (g : ℕ) (c : Cfg) → More R c → D ≤ 4 * g → c .sD g ≡ false → R .QD g → More R (withD g c)
   more-D R g c k lo n y = record {
-      sg = λ j hj b l u. sg′ j hj b l u (ℕ-discrete (j / 4) g);
-      qD = λ h e. qD′ h e (ℕ-discrete h g);
-      qG = λ q e. k .qG q (sym (sG-D g c q) ∙ e);
-      zs = λ j hj e. zs′ j (k .zs j hj e) (ℕ-discrete (j / 4) g) }
+    sg = λ j hj b l u. sg′ j hj b l u (ℕ-discrete (j / 4) g);
+    qD = λ h e. qD′ h e (ℕ-discrete h g);
+    qG = λ q e. k .qG q (sym (sG-D g c q) ∙ e);
+    zs = λ j hj e. zs′ j (k .zs j hj e) (ℕ-discrete (j / 4) g);
+  }
     where
       sg′ : (j : ℕ) → j < I → alone D I (withD g c) j ≡ true → 2 ≤ (withD g c) .al j → (withD g c) .al j ≤ 3 → Dec (j / 4 ≡ g) → R .Y j
       sg′ j hj b l u (yes e) = absurd (omega (arith, al-D-on g c j e))
       sg′ j hj b l u (no e) = k .sg j hj (sym (alone-off D I g c j e) ∙ b) (omega (arith, al-D-off g c j e)) (omega (arith, al-D-off g c j e))
+
       qD′ : (h : ℕ) → (withD g c) .sD h ≡ true → Dec (h ≡ g) → R .QD h
       qD′ h e (yes z) = subst (R .QD) (sym z) y
       qD′ h e (no z) = k .qD h (sym (sD-off g c h z) ∙ e)
+
       zs′ : (j : ℕ) → (alone D I c j ≡ true) × (2 ≤ c .al j) × (c .al j ≤ 3) → Dec (j / 4 ≡ g) → (alone D I (withD g c) j ≡ true) × (2 ≤ (withD g c) .al j) × ((withD g c) .al j ≤ 3)
       zs′ j r (yes e) = absurd (true≢false (sym (r .0) ∙ alone-no D I c j (omega arith) (subst (λ (x : ℕ). c .sD x ≡ false) (sym e) n)))
       zs′ j r (no e) = (alone-off D I g c j e ∙ r .0, omega (arith, al-D-off g c j e), omega (arith, al-D-off g c j e))
 
   pub more-G : (R : Preds) (q : ℕ) (c : Cfg) → More R c → R .QG q → More R (withG q c)
   more-G R q c k y = record {
-      sg = λ j hj b l u. k .sg j hj (sym (alone-G D I q c j) ∙ b) (omega (arith, al-G q c j)) (omega (arith, al-G q c j));
-      qD = λ h e. k .qD h (sym (sD-G q c h) ∙ e);
-      qG = λ h e. qG′ h e (ℕ-discrete h q);
-      zs = λ j hj e. zs′ j (k .zs j hj e) }
+    sg = λ j hj b l u. k .sg j hj (sym (alone-G D I q c j) ∙ b) (omega (arith, al-G q c j)) (omega (arith, al-G q c j));
+    qD = λ h e. k .qD h (sym (sD-G q c h) ∙ e);
+    qG = λ h e. qG′ h e (ℕ-discrete h q);
+    zs = λ j hj e. zs′ j (k .zs j hj e);
+  }
     where
       qG′ : (h : ℕ) → (withG q c) .sG h ≡ true → Dec (h ≡ q) → R .QG h
       qG′ h e (yes z) = subst (R .QG) (sym z) y
       qG′ h e (no z) = k .qG h (sym (sG-G-off q c h z) ∙ e)
+
       zs′ : (j : ℕ) → (alone D I c j ≡ true) × (2 ≤ c .al j) × (c .al j ≤ 3) → (alone D I (withG q c) j ≡ true) × (2 ≤ (withG q c) .al j) × ((withG q c) .al j ≤ 3)
       zs′ j r = (alone-G D I q c j ∙ r .0, omega (arith, al-G q c j), omega (arith, al-G q c j))
 
@@ -202,6 +215,7 @@ module _ (D I : ℕ) (D-big : 4 ≤ D) (D-4 : D % 4 ≡ 0) (I-16 : I % 16 ≡ 0)
       no-way : (getD l j 0 ≡ 0) ⊎ (5 ≤ getD l j 0) → ⊥
       no-way (inl e) = omega arith
       no-way (inr e) = omega arith
+
       go : (x : Bool) → alone D I c j ≡ x → (alone D I c j ≡ true) × (c .al j ≡ getD l j 0)
       go true e = (e, sym (k .tab .solo j h e))
       go false e = absurd (no-way (kind-no D I D-big c (k .ok) (λ i. getD l i 0) (k .tab) j h e))
@@ -227,6 +241,7 @@ module _ (D I : ℕ) (D-big : 4 ≤ D) (D-4 : D % 4 ≡ 0) (I-16 : I % 16 ≡ 0)
         where
           big : 5 ≤ getD l t 0
           big = omega arith
+
           hit : Dec (j ≡ t) → ⊥
           hit (yes q) = true≢false (sym (subst (λ (i : ℕ). alone D I c i ≡ true) q e) ∙ not-alone c l k t h big)
           hit (no q) = true≢false (sym e ∙ (gap D I D-big c (λ i. getD l i 0) (k .ok) (k .tab) t h (not-alone c l k t h big) big j (omega arith) b ji) .0)
@@ -235,11 +250,12 @@ module _ (D I : ℕ) (D-big : 4 ≤ D) (D-4 : D % 4 ≡ 0) (I-16 : I % 16 ≡ 0)
   pub core-A : (c : Cfg) (l : List ℕ) (i v : ℕ) → Core c l → i < I → alone D I c i ≡ true → 1 ≤ v → v ≤ 4 → Core (withA i v c) (set l i v)
   unfolding withA alone
   core-A c l i v k h a v1 v4 = record {
-      len = length-set l i v ∙ k .len;
-      ok = ok-A D I D-big c (k .ok) (λ j. getD l j 0) (k .tab) i v;
-      tab = table-A D I D-big c (k .ok) (λ j. getD l j 0) (k .tab) i v a (λ j. getD (set l i v) j 0)
-          (getD-set-same l i v 0 (omega (arith, k .len))) (λ j hj n. getD-set-other l i j v 0 n);
-      rng = λ j hj e. rng′ j hj e (ℕ-discrete j i) }
+    len = length-set l i v ∙ k .len;
+    ok = ok-A D I D-big c (k .ok) (λ j. getD l j 0) (k .tab) i v;
+    tab = table-A D I D-big c (k .ok) (λ j. getD l j 0) (k .tab) i v a (λ j. getD (set l i v) j 0)
+        (getD-set-same l i v 0 (omega (arith, k .len))) (λ j hj n. getD-set-other l i j v 0 n);
+    rng = λ j hj e. rng′ j hj e (ℕ-discrete j i);
+  }
     where
       rng′ : (j : ℕ) → j < I → alone D I c j ≡ true → Dec (j ≡ i) → (1 ≤ (withA i v c) .al j) × ((withA i v c) .al j ≤ 4)
       rng′ j hj e (yes q) = subst (λ (x : ℕ). (1 ≤ x) × (x ≤ 4)) (sym (al-at i v c j q)) (v1, v4)
@@ -248,10 +264,12 @@ module _ (D I : ℕ) (D-big : 4 ≤ D) (D-4 : D % 4 ≡ 0) (I-16 : I % 16 ≡ 0)
   -- The pixel pass, one visit: a skip
   pub pix-hush : (R : Preds) (X : ℕ → Type 0) (t : ℕ) (c : Cfg) (l : List ℕ) → Pix R X t c l → t < I → (getD l t 0 ≡ 1 → ⊥) → Pix R X (t + skip (getD l t 0)) c l
   pix-hush R X t c l p h n = record {
-      core = p .core; more = p .more;
-      two = λ j hj a e. omega (arith, p .two j hj a e);
-      no4 = p .no4;
-      done = λ j hj a b e. go j hj a b e (decLt j t) }
+    core = p .core;
+    more = p .more;
+    two = λ j hj a e. omega (arith, p .two j hj a e);
+    no4 = p .no4;
+    done = λ j hj a b e. go j hj a b e (decLt j t);
+  }
     where
       go : (j : ℕ) → j < I → alone D I c j ≡ true → j < t + skip (getD l t 0) → (c .al j ≡ 3 → ⊥) → Dec (j < t) → X j
       go j hj a b e (yes z) = p .done j hj a z e
@@ -269,10 +287,12 @@ module _ (D I : ℕ) (D-big : 4 ≤ D) (D-4 : D % 4 ≡ 0) (I-16 : I % 16 ≡ 0)
   -- MIP answered 0: t is settled
   pub pix-zero : (R : Preds) (X : ℕ → Type 0) (t : ℕ) (c : Cfg) (l : List ℕ) → Pix R X t c l → X t → Pix R X (t + 1) c l
   pix-zero R X t c l p x = record {
-      core = p .core; more = p .more;
-      two = λ j hj a e. omega (arith, p .two j hj a e);
-      no4 = p .no4;
-      done = λ j hj a b e. go j hj a b e (ℕ-discrete j t) }
+    core = p .core;
+    more = p .more;
+    two = λ j hj a e. omega (arith, p .two j hj a e);
+    no4 = p .no4;
+    done = λ j hj a b e. go j hj a b e (ℕ-discrete j t);
+  }
     where
       go : (j : ℕ) → j < I → alone D I c j ≡ true → j < t + 1 → (c .al j ≡ 3 → ⊥) → Dec (j ≡ t) → X j
       go j hj a b e (yes z) = subst X (sym z) x
@@ -281,22 +301,27 @@ module _ (D I : ℕ) (D-big : 4 ≤ D) (D-4 : D % 4 ≡ 0) (I-16 : I % 16 ≡ 0)
   -- MIP answered 1, with its sign
   pub pix-one : (R : Preds) (X : ℕ → Type 0) (t : ℕ) (c : Cfg) (l : List ℕ) → Pix (hide t R) X t c l → t < I → getD l t 0 ≡ 1 → X t → R .Y t → Pix R X (t + 1) (withA t 2 c) (set l t 2)
   pix-one R X t c l p h e x y = record {
-      core = core-A c l t 2 (p .core) h (it .0) (lit≤ tt) (lit≤ tt);
-      more = more-A R t 2 c (p .more) (it .0) (λ a b. y) (λ z. (lit≤ tt, lit≤ tt));
-      two = λ j hj a z. two′ j hj (was j a) z (ℕ-discrete j t);
-      no4 = λ j hj a z. no4′ j hj (was j a) z (ℕ-discrete j t);
-      done = λ j hj a b z. done′ j hj (was j a) b z (ℕ-discrete j t) }
+    core = core-A c l t 2 (p .core) h (it .0) (lit≤ tt) (lit≤ tt);
+    more = more-A R t 2 c (p .more) (it .0) (λ a b. y) (λ z. (lit≤ tt, lit≤ tt));
+    two = λ j hj a z. two′ j hj (was j a) z (ℕ-discrete j t);
+    no4 = λ j hj a z. no4′ j hj (was j a) z (ℕ-discrete j t);
+    done = λ j hj a b z. done′ j hj (was j a) b z (ℕ-discrete j t);
+  }
     where
       it : (alone D I c t ≡ true) × (c .al t ≡ getD l t 0)
       it = is-alone c l (p .core) t h (omega arith) (omega arith)
+
       was : (j : ℕ) → alone D I (withA t 2 c) j ≡ true → alone D I c j ≡ true
       was j a = sym (alone-A D I t 2 c j) ∙ a
+
       two′ : (j : ℕ) → j < I → alone D I c j ≡ true → (withA t 2 c) .al j ≡ 2 → Dec (j ≡ t) → j < t + 1
       two′ j hj a z (yes q) = omega arith
       two′ j hj a z (no q) = omega (arith, p .two j hj a (sym (al-else t 2 c j q) ∙ z))
+
       no4′ : (j : ℕ) → j < I → alone D I c j ≡ true → (withA t 2 c) .al j ≡ 4 → Dec (j ≡ t) → ⊥
       no4′ j hj a z (yes q) = omega (arith, al-at t 2 c j q)
       no4′ j hj a z (no q) = p .no4 j hj a (sym (al-else t 2 c j q) ∙ z)
+
       done′ : (j : ℕ) → j < I → alone D I c j ≡ true → j < t + 1 → ((withA t 2 c) .al j ≡ 3 → ⊥) → Dec (j ≡ t) → X j
       done′ j hj a b z (yes q) = subst X (sym q) x
       done′ j hj a b z (no q) = p .done j hj a (omega arith) (λ y. z (al-else t 2 c j q ∙ y))
@@ -304,16 +329,19 @@ module _ (D I : ℕ) (D-big : 4 ≤ D) (D-4 : D % 4 ≡ 0) (I-16 : I % 16 ≡ 0)
   -- The refinement pass: a skip
   pub fine-hush : (R : Preds) (X : ℕ → Type 0) (t : ℕ) (c : Cfg) (l : List ℕ) → Fine R X t c l → t < I → (getD l t 0 ≡ 3 → ⊥) → (getD l t 0 ≡ 2 → ⊥) → Fine R X (t + skip (getD l t 0)) c l
   fine-hush R X t c l p h n n2 = record {
-      core = p .core; more = p .more;
-      two = λ j hj a e. two′ j hj a e (decLt j (t + skip (getD l t 0)));
-      no4 = p .no4;
-      done = λ j hj e. p .done j hj (λ a z b. done′ j hj e a z b (decLt j (t + skip (getD l t 0)))) }
+    core = p .core;
+    more = p .more;
+    two = λ j hj a e. two′ j hj a e (decLt j (t + skip (getD l t 0)));
+    no4 = p .no4;
+    done = λ j hj e. p .done j hj (λ a z b. done′ j hj e a z b (decLt j (t + skip (getD l t 0))));
+  }
     where
       two′ : (j : ℕ) → j < I → alone D I c j ≡ true → c .al j ≡ 2 → Dec (j < t + skip (getD l t 0)) → t + skip (getD l t 0) ≤ j
       two′ j hj a e (yes z) =
           let r : (j ≡ t) × (getD l t 0 ≡ c .al t) = jump c l (p .core) t h j (p .two j hj a e) z hj a in
           absurd (n2 (r .1 ∙ ap (c .al) (sym (r .0)) ∙ e))
       two′ j hj a e (no z) = omega arith
+
       done′ : (j : ℕ) → j < I → (alone D I c j ≡ true → c .al j ≡ 3 → t + skip (getD l t 0) ≤ j → ⊥) → alone D I c j ≡ true → c .al j ≡ 3 → t ≤ j → Dec (j < t + skip (getD l t 0)) → ⊥
       done′ j hj e a z b (yes y) =
           let r : (j ≡ t) × (getD l t 0 ≡ c .al t) = jump c l (p .core) t h j b y hj a in
@@ -323,16 +351,20 @@ module _ (D I : ℕ) (D-big : 4 ≤ D) (D-4 : D % 4 ≡ 0) (I-16 : I % 16 ≡ 0)
   -- MSP is refined
   pub fine-ask : (R : Preds) (X : ℕ → Type 0) (t : ℕ) (c : Cfg) (l : List ℕ) → Fine R X t c l → t < I → getD l t 0 ≡ 3 → X t → Fine R X (t + 1) c l
   fine-ask R X t c l p h m x = record {
-      core = p .core; more = p .more;
-      two = λ j hj a e. two′ j hj a e (ℕ-discrete j t);
-      no4 = p .no4;
-      done = λ j hj e. done′ j hj e (ℕ-discrete j t) }
+    core = p .core;
+    more = p .more;
+    two = λ j hj a e. two′ j hj a e (ℕ-discrete j t);
+    no4 = p .no4;
+    done = λ j hj e. done′ j hj e (ℕ-discrete j t);
+  }
     where
       it : (alone D I c t ≡ true) × (c .al t ≡ getD l t 0)
       it = is-alone c l (p .core) t h (omega arith) (omega arith)
+
       two′ : (j : ℕ) → j < I → alone D I c j ≡ true → c .al j ≡ 2 → Dec (j ≡ t) → t + 1 ≤ j
       two′ j hj a e (yes q) = absurd (omega (arith, it .1, ap (c .al) q))
       two′ j hj a e (no q) = omega (arith, p .two j hj a e)
+
       done′ : (j : ℕ) → j < I → (alone D I c j ≡ true → c .al j ≡ 3 → t + 1 ≤ j → ⊥) → Dec (j ≡ t) → X j
       done′ j hj e (yes q) = subst X (sym q) x
       done′ j hj e (no q) = p .done j hj (λ a z b. e a z (omega arith))
@@ -340,31 +372,37 @@ module _ (D I : ℕ) (D-big : 4 ≤ D) (D-4 : D % 4 ≡ 0) (I-16 : I % 16 ≡ 0)
   -- MNP becomes MSP, in silence: it was settled when it was found
   pub fine-np : (R : Preds) (X : ℕ → Type 0) (t : ℕ) (c : Cfg) (l : List ℕ) → Fine R X t c l → t < I → getD l t 0 ≡ 2 → Fine R X (t + 1) (withA t 3 c) (set l t 3)
   fine-np R X t c l p h m = record {
-      core = core-A c l t 3 (p .core) h (it .0) (lit≤ tt) (lit≤ tt);
-      more = more-A R t 3 c (more-hide R t c (p .more)) (it .0) (λ a b. p .more .sg t h (it .0) (omega (arith, it .1)) (omega (arith, it .1))) (λ z. (lit≤ tt, lit≤ tt));
-      two = λ j hj a e. two′ j hj (was j a) e (ℕ-discrete j t);
-      no4 = λ j hj a z. no4′ j hj (was j a) z (ℕ-discrete j t);
-      done = λ j hj e. done′ j hj (λ a. e (alone-A D I t 3 c j ∙ a)) (ℕ-discrete j t) }
+    core = core-A c l t 3 (p .core) h (it .0) (lit≤ tt) (lit≤ tt);
+    more = more-A R t 3 c (more-hide R t c (p .more)) (it .0) (λ a b. p .more .sg t h (it .0) (omega (arith, it .1)) (omega (arith, it .1))) (λ z. (lit≤ tt, lit≤ tt));
+    two = λ j hj a e. two′ j hj (was j a) e (ℕ-discrete j t);
+    no4 = λ j hj a z. no4′ j hj (was j a) z (ℕ-discrete j t);
+    done = λ j hj e. done′ j hj (λ a. e (alone-A D I t 3 c j ∙ a)) (ℕ-discrete j t);
+  }
     where
       it : (alone D I c t ≡ true) × (c .al t ≡ getD l t 0)
       it = is-alone c l (p .core) t h (omega arith) (omega arith)
+
       was : (j : ℕ) → alone D I (withA t 3 c) j ≡ true → alone D I c j ≡ true
       was j a = sym (alone-A D I t 3 c j) ∙ a
+
       two′ : (j : ℕ) → j < I → alone D I c j ≡ true → (withA t 3 c) .al j ≡ 2 → Dec (j ≡ t) → t + 1 ≤ j
       two′ j hj a z (yes q) = absurd (omega (arith, al-at t 3 c j q))
       two′ j hj a z (no q) = omega (arith, p .two j hj a (sym (al-else t 3 c j q) ∙ z))
+
       no4′ : (j : ℕ) → j < I → alone D I c j ≡ true → (withA t 3 c) .al j ≡ 4 → Dec (j ≡ t) → ⊥
       no4′ j hj a z (yes q) = omega (arith, al-at t 3 c j q)
       no4′ j hj a z (no q) = p .no4 j hj a (sym (al-else t 3 c j q) ∙ z)
+
       done′ : (j : ℕ) → j < I → (alone D I c j ≡ true → (withA t 3 c) .al j ≡ 3 → t + 1 ≤ j → ⊥) → Dec (j ≡ t) → X j
       done′ j hj e (yes q) = p .done j hj (λ a z b. omega (arith, it .1, ap (c .al) q))
       done′ j hj e (no q) = p .done j hj (λ a z b. e a (al-else t 3 c j q ∙ z) (omega arith))
 
   -- The end of the refinement pass: every coefficient is settled, and the pixel pass of the next plane begins with nothing settled
   pub fine-end : (R : Preds) (X Y : ℕ → Type 0) (t : ℕ) (c : Cfg) (l : List ℕ) → Fine R X t c l → I ≤ t → ((j : ℕ) → j < I → X j) × Pix R Y 0 c l
-  fine-end R X Y t c l p h =
-      ((λ j hj. p .done j hj (λ a z b. omega arith)),
-       record { core = p .core; more = p .more; two = λ j hj a e. absurd (omega (arith, p .two j hj a e)); no4 = p .no4; done = λ j hj a b e. absurd (omega arith) })
+  fine-end R X Y t c l p h = (
+    (λ j hj. p .done j hj (λ a z b. omega arith)),
+    record { core = p .core; more = p .more; two = λ j hj a e. absurd (omega (arith, p .two j hj a e)); no4 = p .no4; done = λ j hj a b e. absurd (omega arith) },
+  )
 
   -- THE SET PASS at place t
   pub record Sets (R : Preds) (X : ℕ → Type 0) (t : ℕ) (c : Cfg) (l : List ℕ) : Type 0 where
@@ -386,8 +424,8 @@ module _ (D I : ℕ) (D-big : 4 ≤ D) (D-4 : D % 4 ≡ 0) (I-16 : I % 16 ≡ 0)
   mark-G c l k q a b s n =
       let st : stands D I c (4 * q) ≡ false = stands-no D I c (4 * q) a (subst (λ (x : ℕ). c .sG x ≡ false) {x = q} {y = 4 * q / 4} (omega arith) n) in
       k .tab .mid (16 * q) b (alone-no D I c (16 * q) (omega arith) (subst (λ (x : ℕ). c .sD x ≡ false) {x = 4 * q} {y = 16 * q / 4} (omega arith) (no-dg D I c (k .ok) (4 * q) st))) (omega arith)
-        (subst (λ (x : ℕ). stands D I c x ≡ false) {x = 4 * q} {y = 16 * q / 4} (omega arith) st) (omega arith)
-        (subst (λ (x : ℕ). c .sD x ≡ true) {x = q} {y = 16 * q / 4 / 4} (omega arith) s)
+      (subst (λ (x : ℕ). stands D I c x ≡ false) {x = 4 * q} {y = 16 * q / 4} (omega arith) st) (omega arith)
+      (subst (λ (x : ℕ). c .sD x ≡ true) {x = q} {y = 16 * q / 4 / 4} (omega arith) s)
 
   -- EVERY PLACE THAT IS NOT ALONE LIES IN A SET THAT STANDS
   pub data Home (c : Cfg) (j : ℕ) : Type 0 where
@@ -400,9 +438,11 @@ module _ (D I : ℕ) (D-big : 4 ≤ D) (D-4 : D % 4 ≡ 0) (I-16 : I % 16 ≡ 0)
     where
       dj : D ≤ j
       dj = (no-alone D I c j e) .0
+
       up-one : Home c (j / 4) → Home c j
       up-one (in-D h a1 a2 a3 a4 u) = in-D h a1 a2 a3 a4 (far u)
       up-one (in-G q a1 a2 a3 a4 u) = in-G q a1 a2 a3 a4 (far u)
+
       go : (x : Bool) → stands D I c (j / 4) ≡ x → (y : Bool) → c .sD (j / 4 / 4) ≡ y → (j / 4 ≤ n → j / 4 < I → alone D I c (j / 4) ≡ false → Home c (j / 4)) → Home c j
       go true ex y ey ih = in-D (j / 4) (omega (arith, dj)) (omega arith) ex ((no-alone D I c j e) .1) (kid refl)
       go false ex true ey ih = in-G (j / 4 / 4) (o .lo (j / 4 / 4) ey) (omega arith) ey ((no-stands D I c (j / 4) ex) .1) (kid refl)
@@ -414,24 +454,29 @@ module _ (D I : ℕ) (D-big : 4 ≤ D) (D-4 : D % 4 ≡ 0) (I-16 : I % 16 ≡ 0)
   -- from the pixel pass, and to the refinement pass
   pub pix-end : (R : Preds) (X : ℕ → Type 0) (t : ℕ) (c : Cfg) (l : List ℕ) → Pix R X t c l → I ≤ t → Sets R X 0 c l
   pix-end R X t c l p h = record {
-      core = p .core; more = p .more;
-      four = λ j hj a e. absurd (p .no4 j hj a e);
-      grp = λ z a e j. absurd (p .no4 0 z a e);
-      ali = λ z. absurd (z refl);
-      done = λ j hj a e3 e4. p .done j hj a (omega arith) e3;
-      dD = λ h a b z. absurd (omega arith);
-      dG = λ q a b z. absurd (omega arith) }
+    core = p .core;
+    more = p .more;
+    four = λ j hj a e. absurd (p .no4 j hj a e);
+    grp = λ z a e j. absurd (p .no4 0 z a e);
+    ali = λ z. absurd (z refl);
+    done = λ j hj a e3 e4. p .done j hj a (omega arith) e3;
+    dD = λ h a b z. absurd (omega arith);
+    dG = λ q a b z. absurd (omega arith);
+  }
 
   pub sets-end : (R : Preds) (X : ℕ → Type 0) (t : ℕ) (c : Cfg) (l : List ℕ) → Sets R X t c l → I ≤ t → Fine R X 0 c l
   sets-end R X t c l p h = record {
-      core = p .core; more = p .more;
-      two = λ j hj a e. omega arith;
-      no4 = λ j hj a e. omega (arith, p .four j hj a e);
-      done = λ j hj e. go j hj e (alone D I c j) refl }
+    core = p .core;
+    more = p .more;
+    two = λ j hj a e. omega arith;
+    no4 = λ j hj a e. omega (arith, p .four j hj a e);
+    done = λ j hj e. go j hj e (alone D I c j) refl;
+  }
     where
       settled : (j : ℕ) → j < I → Home c j → X j
       settled j hj (in-D k a b s n u) = p .dD k a b (omega arith) s n j hj u
       settled j hj (in-G k a b s n u) = p .dG k a b (omega arith) s n j hj u
+
       go : (j : ℕ) → j < I → (alone D I c j ≡ true → c .al j ≡ 3 → 0 ≤ j → ⊥) → (x : Bool) → alone D I c j ≡ x → X j
       go j hj e true a = p .done j hj a (λ z. e a z (omega arith)) (λ z. omega (arith, p .four j hj a z))
       go j hj e false a = settled j hj (home c (p .core .ok) j hj a)
@@ -453,25 +498,30 @@ module _ (D I : ℕ) (D-big : 4 ≤ D) (D-4 : D % 4 ≡ 0) (I-16 : I % 16 ≡ 0)
       → ((q : ℕ) → D ≤ 4 * q → 16 * q < I → t ≤ 16 * q → 16 * q < t + w → c .sD q ≡ true → c .sG q ≡ false → (i : ℕ) → i < I → Under q (i / 4) → X i)
       → Sets R X (t + w) c l
   sets-on R X t w c l p ti n w4 fD fG = record {
-      core = p .core; more = p .more;
-      four = λ j hj a e. absurd (no-four ((p .four j hj a e) .2) ((p .four j hj a e) .3));
-      grp = λ z a e. absurd (no-four ((p .four (t + w) z a e) .2) ((p .four (t + w) z a e) .3));
-      ali = λ z. absurd (z (omega (arith, even)));
-      done = p .done;
-      dD = λ h a b z s d. dD′ h a b z s d (decLt (4 * h) t);
-      dG = λ q a b z s d. dG′ q a b z s d (decLt (16 * q) t) }
+    core = p .core;
+    more = p .more;
+    four = λ j hj a e. absurd (no-four ((p .four j hj a e) .2) ((p .four j hj a e) .3));
+    grp = λ z a e. absurd (no-four ((p .four (t + w) z a e) .2) ((p .four (t + w) z a e) .3));
+    ali = λ z. absurd (z (omega (arith, even)));
+    done = p .done;
+    dD = λ h a b z s d. dD′ h a b z s d (decLt (4 * h) t);
+    dG = λ q a b z s d. dG′ q a b z s d (decLt (16 * q) t);
+  }
     where
       no-four : alone D I c t ≡ true → c .al t ≡ 4 → ⊥
       no-four a e = n (p .core .tab .solo t ti a ∙ e)
+
       even : t % 4 ≡ 0
       even = go (ℕ-discrete (t % 4) 0)
         where
           go : Dec (t % 4 ≡ 0) → t % 4 ≡ 0
           go (yes z) = z
           go (no z) = absurd (no-four ((p .ali z) .1) ((p .ali z) .2))
+
       dD′ : (h : ℕ) → D ≤ 4 * h → 4 * h < I → 4 * h < t + w → stands D I c h ≡ true → c .sD h ≡ false → Dec (4 * h < t) → (i : ℕ) → i < I → Under h i → X i
       dD′ h a b z s d (yes y) = p .dD h a b y s d
       dD′ h a b z s d (no y) = fD h a b (omega arith) z s d
+
       dG′ : (q : ℕ) → D ≤ 4 * q → 16 * q < I → 16 * q < t + w → c .sD q ≡ true → c .sG q ≡ false → Dec (16 * q < t) → (i : ℕ) → i < I → Under q (i / 4) → X i
       dG′ q a b z s d (yes y) = p .dG q a b y s d
       dG′ q a b z s d (no y) = fG q a b (omega arith) z s d
@@ -483,32 +533,37 @@ module _ (D I : ℕ) (D-big : 4 ≤ D) (D-4 : D % 4 ≡ 0) (I-16 : I % 16 ≡ 0)
     where
       k : Core c l
       k = p .core
+
       here-D : (h : ℕ) → D ≤ 4 * h → 4 * h < I → stands D I c h ≡ true → c .sD h ≡ false → 4 * h ≡ t → ⊥
       here-D h a b s d e = n5 (ap (λ (i : ℕ). getD l i 0) (sym e) ∙ mark-D c l k h a b s d)
+
       here-G : (q : ℕ) → D ≤ 4 * q → 16 * q < I → c .sD q ≡ true → c .sG q ≡ false → 16 * q ≡ t → ⊥
       here-G q a b s d e = n6 (ap (λ (i : ℕ). getD l i 0) (sym e) ∙ mark-G c l k q a b s d)
+
       even : t % 4 ≡ 0
       even = ev (ℕ-discrete (t % 4) 0)
         where
           ev : Dec (t % 4 ≡ 0) → t % 4 ≡ 0
           ev (yes z) = z
           ev (no z) = absurd (n4 (k .tab .solo t ti ((p .ali z) .1) ∙ (p .ali z) .2))
+
       go : Dec (getD l t 0 < 5) → Sets R X (t + setSkip (getD l t 0)) c l
       go (yes z) =
           let e : setSkip (getD l t 0) ≡ 4 = sskip-small (getD l t 0) z in
           sets-on R X t (setSkip (getD l t 0)) c l p ti n4 (omega arith)
-            (λ h a b x y s d. absurd (here-D h a b s d (omega (arith, even))))
-            (λ q a b x y s d. absurd (here-G q a b s d (omega (arith, even))))
+          (λ h a b x y s d. absurd (here-D h a b s d (omega (arith, even))))
+          (λ q a b x y s d. absurd (here-G q a b s d (omega (arith, even))))
       go (no z) =
           let big : 5 ≤ getD l t 0 = omega arith in
           let e : setSkip (getD l t 0) ≡ skip (getD l t 0) = sskip-big (getD l t 0) big in
           sets-on R X t (setSkip (getD l t 0)) c l p ti n4 (ap (λ (x : ℕ). x % 4) e ∙ skip-mod (getD l t 0) big)
-            (λ h a b x y s d. absurd (two-D h a b x y s d big e (ℕ-discrete (4 * h) t)))
-            (λ q a b x y s d. absurd (two-G q a b x y s d big e (ℕ-discrete (16 * q) t)))
+          (λ h a b x y s d. absurd (two-D h a b x y s d big e (ℕ-discrete (4 * h) t)))
+          (λ q a b x y s d. absurd (two-G q a b x y s d big e (ℕ-discrete (16 * q) t)))
         where
           two-D : (h : ℕ) → D ≤ 4 * h → 4 * h < I → t ≤ 4 * h → 4 * h < t + setSkip (getD l t 0) → stands D I c h ≡ true → c .sD h ≡ false → 5 ≤ getD l t 0 → setSkip (getD l t 0) ≡ skip (getD l t 0) → Dec (4 * h ≡ t) → ⊥
           two-D h a b x y s d big e (yes q) = here-D h a b s d q
           two-D h a b x y s d big e (no q) = quiet-D c l k t ti big h a b (omega arith) (omega arith) s d
+
           two-G : (q : ℕ) → D ≤ 4 * q → 16 * q < I → t ≤ 16 * q → 16 * q < t + setSkip (getD l t 0) → c .sD q ≡ true → c .sG q ≡ false → 5 ≤ getD l t 0 → setSkip (getD l t 0) ≡ skip (getD l t 0) → Dec (16 * q ≡ t) → ⊥
           two-G q a b x y s d big e (yes r) = here-G q a b s d r
           two-G q a b x y s d big e (no r) = quiet-G c l k t ti big q a b (omega arith) (omega arith) s d
@@ -521,9 +576,11 @@ module _ (D I : ℕ) (D-big : 4 ≤ D) (D-4 : D % 4 ≡ 0) (I-16 : I % 16 ≡ 0)
     where
       sz : skip (getD l t 0) ≡ 4
       sz = ap skip m ∙ skip-5 5 (lit≤ tt) (lit< tt)
+
       two-D : (h : ℕ) → D ≤ 4 * h → 4 * h < I → t ≤ 4 * h → 4 * h < t + 4 → stands D I c h ≡ true → c .sD h ≡ false → Dec (4 * h ≡ t) → (i : ℕ) → i < I → Under h i → X i
       two-D h a b u v s d (yes e) i hi z = x i hi (subst (λ (k : ℕ). Under k i) {x = h} {y = t / 4} (omega arith) z)
       two-D h a b u v s d (no e) i hi z = absurd (quiet-D c l (p .core) t ti (omega arith) h a b (omega arith) (omega (arith, sz)) s d)
+
       two-G : (q : ℕ) → D ≤ 4 * q → 16 * q < I → t ≤ 16 * q → 16 * q < t + 4 → c .sD q ≡ true → c .sG q ≡ false → Dec (16 * q ≡ t) → ⊥
       two-G q a b u v s d (yes e) = omega (arith, mark-G c l (p .core) q a b s d, ap (λ (i : ℕ). getD l i 0) e)
       two-G q a b u v s d (no e) = quiet-G c l (p .core) t ti (omega arith) q a b (omega arith) (omega (arith, sz)) s d
@@ -536,9 +593,11 @@ module _ (D I : ℕ) (D-big : 4 ≤ D) (D-4 : D % 4 ≡ 0) (I-16 : I % 16 ≡ 0)
     where
       sz : skip (getD l t 0) ≡ 16
       sz = ap skip m ∙ skip-5 6 (lit≤ tt) (lit< tt)
+
       two-D : (h : ℕ) → D ≤ 4 * h → 4 * h < I → t ≤ 4 * h → 4 * h < t + 16 → stands D I c h ≡ true → c .sD h ≡ false → Dec (4 * h ≡ t) → ⊥
       two-D h a b u v s d (yes e) = omega (arith, mark-D c l (p .core) h a b s d, ap (λ (i : ℕ). getD l i 0) e)
       two-D h a b u v s d (no e) = quiet-D c l (p .core) t ti (omega arith) h a b (omega arith) (omega (arith, sz)) s d
+
       two-G : (q : ℕ) → D ≤ 4 * q → 16 * q < I → t ≤ 16 * q → 16 * q < t + 16 → c .sD q ≡ true → c .sG q ≡ false → Dec (16 * q ≡ t) → (i : ℕ) → i < I → Under q (i / 4) → X i
       two-G q a b u v s d (yes e) i hi z = x i hi (subst (λ (k : ℕ). Under k (i / 4)) {x = q} {y = t / 16} (omega arith) z)
       two-G q a b u v s d (no e) i hi z = absurd (quiet-G c l (p .core) t ti (omega arith) q a b (omega arith) (omega (arith, sz)) s d)
@@ -546,21 +605,25 @@ module _ (D I : ℕ) (D-big : 4 ≤ D) (D-4 : D % 4 ≡ 0) (I-16 : I % 16 ≡ 0)
   -- MCP answered: t is settled, and has the mark v, MIP or MNP
   pub sets-C : (R : Preds) (X : ℕ → Type 0) (t v : ℕ) (c : Cfg) (l : List ℕ) → Sets (hide t R) X t c l → t < I → getD l t 0 ≡ 4 → 1 ≤ v → v < 3 → X t → (2 ≤ v → R .Y t) → (R .Z t → 2 ≤ v) → Sets R X (t + 1) (withA t v c) (set l t v)
   sets-C R X t v c l p ti m v1 v3 x y zz = record {
-      core = core-A c l t v (p .core) ti (it .0) v1 (omega arith);
-      more = more-A R t v c (p .more) (it .0) (λ a b. y a) (λ z. (zz z, omega arith));
-      four = λ j hj a e. four′ j hj (was j a) e (ℕ-discrete j t);
-      grp = λ z a e j. grp′ z (was (t + 1) a) e j;
-      ali = λ z. ali′ z;
-      done = λ j hj a e3 e4. done′ j hj (was j a) e3 e4 (ℕ-discrete j t);
-      dD = λ h a b z s d. dD′ h a b z (sym (stands-A D I t v c h) ∙ s) d (ℕ-discrete (4 * h) t);
-      dG = λ q a b z s d. dG′ q a b z s d (ℕ-discrete (16 * q) t) }
+    core = core-A c l t v (p .core) ti (it .0) v1 (omega arith);
+    more = more-A R t v c (p .more) (it .0) (λ a b. y a) (λ z. (zz z, omega arith));
+    four = λ j hj a e. four′ j hj (was j a) e (ℕ-discrete j t);
+    grp = λ z a e j. grp′ z (was (t + 1) a) e j;
+    ali = λ z. ali′ z;
+    done = λ j hj a e3 e4. done′ j hj (was j a) e3 e4 (ℕ-discrete j t);
+    dD = λ h a b z s d. dD′ h a b z (sym (stands-A D I t v c h) ∙ s) d (ℕ-discrete (4 * h) t);
+    dG = λ q a b z s d. dG′ q a b z s d (ℕ-discrete (16 * q) t);
+  }
     where
       it : (alone D I c t ≡ true) × (c .al t ≡ getD l t 0)
       it = is-alone c l (p .core) t ti (omega arith) (omega arith)
+
       t4 : c .al t ≡ 4
       t4 = it .1 ∙ m
+
       was : (j : ℕ) → alone D I (withA t v c) j ≡ true → alone D I c j ≡ true
       was j a = sym (alone-A D I t v c j) ∙ a
+
       four′ : (j : ℕ) → j < I → alone D I c j ≡ true → (withA t v c) .al j ≡ 4 → Dec (j ≡ t)
           → (t + 1 ≤ j) × (j / 4 ≡ (t + 1) / 4) × (alone D I (withA t v c) (t + 1) ≡ true) × ((withA t v c) .al (t + 1) ≡ 4)
       four′ j hj a e (yes q) = absurd (omega (arith, al-at t v c j q))
@@ -568,24 +631,29 @@ module _ (D I : ℕ) (D-big : 4 ≤ D) (D-4 : D % 4 ≡ 0) (I-16 : I % 16 ≡ 0)
           let f : (t ≤ j) × (j / 4 ≡ t / 4) × (alone D I c t ≡ true) × (c .al t ≡ 4) = p .four j hj a (sym (al-else t v c j q) ∙ e) in
           let r : (alone D I c (t + 1) ≡ true) × (c .al (t + 1) ≡ 4) = p .grp ti (it .0) t4 (t + 1) (omega arith) (omega arith) in
           (omega arith, omega arith, alone-A D I t v c (t + 1) ∙ r .0, al-else t v c (t + 1) (λ z. omega arith) ∙ r .1)
+
       grp′ : t + 1 < I → alone D I c (t + 1) ≡ true → (withA t v c) .al (t + 1) ≡ 4 → (j : ℕ) → t + 1 ≤ j → j / 4 ≡ (t + 1) / 4 → (alone D I (withA t v c) j ≡ true) × ((withA t v c) .al j ≡ 4)
       grp′ z a e j h1 h2 =
           let f : (t ≤ t + 1) × ((t + 1) / 4 ≡ t / 4) × (alone D I c t ≡ true) × (c .al t ≡ 4) = p .four (t + 1) z a (sym (al-else t v c (t + 1) (λ y. omega arith)) ∙ e) in
           let r : (alone D I c j ≡ true) × (c .al j ≡ 4) = p .grp ti (it .0) t4 j (omega arith) (omega arith) in
           (alone-A D I t v c j ∙ r .0, al-else t v c j (λ y. omega arith) ∙ r .1)
+
       ali′ : ((t + 1) % 4 ≡ 0 → ⊥) → (t + 1 < I) × (alone D I (withA t v c) (t + 1) ≡ true) × ((withA t v c) .al (t + 1) ≡ 4)
       ali′ z =
           let r : (alone D I c (t + 1) ≡ true) × (c .al (t + 1) ≡ 4) = p .grp ti (it .0) t4 (t + 1) (omega arith) (omega arith) in
           (omega arith, alone-A D I t v c (t + 1) ∙ r .0, al-else t v c (t + 1) (λ y. omega arith) ∙ r .1)
+
       done′ : (j : ℕ) → j < I → alone D I c j ≡ true → ((withA t v c) .al j ≡ 3 → ⊥) → ((withA t v c) .al j ≡ 4 → ⊥) → Dec (j ≡ t) → X j
       done′ j hj a e3 e4 (yes q) = subst X (sym q) x
       done′ j hj a e3 e4 (no q) = p .done j hj a (λ y. e3 (al-else t v c j q ∙ y)) (λ y. e4 (al-else t v c j q ∙ y))
+
       dD′ : (h : ℕ) → D ≤ 4 * h → 4 * h < I → 4 * h < t + 1 → stands D I c h ≡ true → (withA t v c) .sD h ≡ false → Dec (4 * h ≡ t) → (i : ℕ) → i < I → Under h i → X i
       dD′ h a b z s d (yes e) = absurd (omega (arith, mark-D c l (p .core) h a b s (sD-A d), ap (λ (i : ℕ). getD l i 0) e))
         where
           sD-A : (withA t v c) .sD h ≡ false → c .sD h ≡ false
           sD-A y = sym (same-D t v c h) ∙ y
       dD′ h a b z s d (no e) = p .dD h a b (omega arith) s (sym (same-D t v c h) ∙ d)
+
       dG′ : (q : ℕ) → D ≤ 4 * q → 16 * q < I → 16 * q < t + 1 → (withA t v c) .sD q ≡ true → (withA t v c) .sG q ≡ false → Dec (16 * q ≡ t) → (i : ℕ) → i < I → Under q (i / 4) → X i
       dG′ q a b z s d (yes e) = absurd (omega (arith, mark-G c l (p .core) q a b (sym (same-D t v c q) ∙ s) (sym (same-G t v c q) ∙ d), ap (λ (i : ℕ). getD l i 0) e))
       dG′ q a b z s d (no e) = p .dG q a b (omega arith) (sym (same-D t v c q) ∙ s) (sym (same-G t v c q) ∙ d)
@@ -596,8 +664,10 @@ module _ (D I : ℕ) (D-big : 4 ≤ D) (D-4 : D % 4 ≡ 0) (I-16 : I % 16 ≡ 0)
     where
       a : alone D I c t ≡ false
       a = not-alone c l k t ti (omega arith)
+
       b : (D ≤ t) × (c .sD (t / 4) ≡ false)
       b = no-alone D I c t a
+
       go : Dec (t % 4 ≡ 0) → (x : Bool) → stands D I c (t / 4) ≡ x → Dec (t / 4 % 4 ≡ 0) → (y : Bool) → c .sD (t / 4 / 4) ≡ y
           → (t % 4 ≡ 0) × (stands D I c (t / 4) ≡ true) × (c .sD (t / 4) ≡ false) × (D ≤ t)
       go (no z) x ex w y ey = absurd (omega (arith, k .tab .odd t ti a z))
@@ -612,60 +682,79 @@ module _ (D I : ℕ) (D-big : 4 ≤ D) (D-4 : D % 4 ≡ 0) (I-16 : I % 16 ≡ 0)
   -- MD answered 1
   pub sets-D1 : (R : Preds) (X : ℕ → Type 0) (t : ℕ) (c : Cfg) (l : List ℕ) → Sets R X t c l → t < I → getD l t 0 ≡ 5 → R .QD (t / 4) → Sets R X t (withD (t / 4) c) (splitDesc I t l (ltb (4 * t) I))
   sets-D1 R X t c l p ti m y = record {
-      core = record {
-        len = length-split I t l (ltb (4 * t) I) ∙ k .len;
-        ok = ok-D D I D-big c (k .ok) (λ j. getD l j 0) (k .tab) g glo ghi (is .1) (is .2) m′ kids low′ rest;
-        tab = table-D D I D-big c (k .ok) (λ j. getD l j 0) (k .tab) g glo ghi (is .1) (is .2) m′ kids low′ rest;
-        rng = λ j hj a. rng′ j hj a (ℕ-discrete (j / 4) g) };
-      more = more-D R g c (p .more) glo (is .2) y;
-      four = λ j hj a e. four′ j hj a e (ℕ-discrete (j / 4) g);
-      grp = λ z a e j h1 h2. (alone-on D I g c j h2, al-D-on g c j h2);
-      ali = λ z. absurd (z (is .0));
-      done = λ j hj a e3 e4. done′ j hj a e3 e4 (ℕ-discrete (j / 4) g);
-      dD = λ h a b z s d. dD′ h a b z s d (ℕ-discrete h g);
-      dG = λ q a b z s d. p .dG q a b z (dG′ q a b z s (ℕ-discrete q g)) (sym (sG-D g c q) ∙ d) }
+    core = record {
+      len = length-split I t l (ltb (4 * t) I) ∙ k .len;
+      ok = ok-D D I D-big c (k .ok) (λ j. getD l j 0) (k .tab) g glo ghi (is .1) (is .2) m′ kids low′ rest;
+      tab = table-D D I D-big c (k .ok) (λ j. getD l j 0) (k .tab) g glo ghi (is .1) (is .2) m′ kids low′ rest;
+      rng = λ j hj a. rng′ j hj a (ℕ-discrete (j / 4) g);
+    };
+    more = more-D R g c (p .more) glo (is .2) y;
+    four = λ j hj a e. four′ j hj a e (ℕ-discrete (j / 4) g);
+    grp = λ z a e j h1 h2. (alone-on D I g c j h2, al-D-on g c j h2);
+    ali = λ z. absurd (z (is .0));
+    done = λ j hj a e3 e4. done′ j hj a e3 e4 (ℕ-discrete (j / 4) g);
+    dD = λ h a b z s d. dD′ h a b z s d (ℕ-discrete h g);
+    dG = λ q a b z s d. p .dG q a b z (dG′ q a b z s (ℕ-discrete q g)) (sym (sG-D g c q) ∙ d);
+  }
     where
       k : Core c l
       k = p .core
+
       g : ℕ
       g = t / 4
+
       is : (t % 4 ≡ 0) × (stands D I c g ≡ true) × (c .sD g ≡ false) × (D ≤ t)
       is = is-D c l k t ti m
+
       m′ : ℕ → ℕ
       m′ j = getD (splitDesc I t l (ltb (4 * t) I)) j 0
+
       t4 : t ≡ 4 * g
       t4 = omega (arith, is .0)
+
       glo : D ≤ 4 * g
       glo = omega (arith, is .3, is .0)
+
       ghi : 4 * g < I
       ghi = omega (arith, is .0)
+
       fits : t + 3 < I
       fits = omega (arith, is .0)
+
       t1 : 4 ≤ t
       t1 = omega (arith, is .3)
+
       kids : (j : ℕ) → j < I → j / 4 ≡ g → m′ j ≡ 4
       kids j hj e = split-kids I t l (k .len) fits t1 (ltb (4 * t) I) j (omega (arith, is .0)) (omega (arith, is .0))
+
       low′ : 16 * g < I → m′ (16 * g) ≡ 6
       low′ h = ap m′ {x = 16 * g} {y = 4 * t} (omega (arith, is .0)) ∙ split-below I t l (k .len) fits t1 (ltb (4 * t) I) refl (omega (arith, is .0))
+
       rest : (j : ℕ) → j < I → (j / 4 ≡ g → ⊥) → (j ≡ 16 * g → ⊥) → m′ j ≡ getD l j 0
       rest j hj n n2 = split-rest I t l (k .len) fits t1 (ltb (4 * t) I) j (λ x y. n (omega (arith, is .0))) (λ x. n2 (omega (arith, is .0)))
+
       not-t : alone D I c t ≡ false
       not-t = not-alone c l k t ti (omega arith)
+
       rng′ : (j : ℕ) → j < I → alone D I (withD g c) j ≡ true → Dec (j / 4 ≡ g) → (1 ≤ (withD g c) .al j) × ((withD g c) .al j ≤ 4)
       rng′ j hj a (yes e) = subst (λ (x : ℕ). (1 ≤ x) × (x ≤ 4)) (sym (al-D-on g c j e)) (lit≤ tt, lit≤ tt)
       rng′ j hj a (no e) = subst (λ (x : ℕ). (1 ≤ x) × (x ≤ 4)) (sym (al-D-off g c j e)) (k .rng j hj (sym (alone-off D I g c j e) ∙ a))
+
       four′ : (j : ℕ) → j < I → alone D I (withD g c) j ≡ true → (withD g c) .al j ≡ 4 → Dec (j / 4 ≡ g)
           → (t ≤ j) × (j / 4 ≡ t / 4) × (alone D I (withD g c) t ≡ true) × ((withD g c) .al t ≡ 4)
       four′ j hj a z (yes e) = (omega (arith, is .0), e, alone-on D I g c t refl, al-D-on g c t refl)
       four′ j hj a z (no e) =
           let f : (t ≤ j) × (j / 4 ≡ t / 4) × (alone D I c t ≡ true) × (c .al t ≡ 4) = p .four j hj (sym (alone-off D I g c j e) ∙ a) (sym (al-D-off g c j e) ∙ z) in
           absurd (true≢false (sym (f .2) ∙ not-t))
+
       done′ : (j : ℕ) → j < I → alone D I (withD g c) j ≡ true → ((withD g c) .al j ≡ 3 → ⊥) → ((withD g c) .al j ≡ 4 → ⊥) → Dec (j / 4 ≡ g) → X j
       done′ j hj a e3 e4 (yes e) = absurd (e4 (al-D-on g c j e))
       done′ j hj a e3 e4 (no e) = p .done j hj (sym (alone-off D I g c j e) ∙ a) (λ z. e3 (al-D-off g c j e ∙ z)) (λ z. e4 (al-D-off g c j e ∙ z))
+
       dD′ : (h : ℕ) → D ≤ 4 * h → 4 * h < I → 4 * h < t → stands D I (withD g c) h ≡ true → (withD g c) .sD h ≡ false → Dec (h ≡ g) → (i : ℕ) → i < I → Under h i → X i
       dD′ h a b z s d (yes e) = absurd (omega (arith, t4, e))
       dD′ h a b z s d (no e) = p .dD h a b z (sym (stands-D D I g c h) ∙ s) (sym (sD-off g c h e) ∙ d)
+
       dG′ : (q : ℕ) → D ≤ 4 * q → 16 * q < I → 16 * q < t → (withD g c) .sD q ≡ true → Dec (q ≡ g) → c .sD q ≡ true
       dG′ q a b z s (yes e) = absurd (omega (arith, t4, e))
       dG′ q a b z s (no e) = sym (sD-off g c q e) ∙ s
@@ -677,6 +766,7 @@ module _ (D I : ℕ) (D-big : 4 ≤ D) (D-4 : D % 4 ≡ 0) (I-16 : I % 16 ≡ 0)
     where
       a : alone D I c t ≡ false
       a = not-alone c l k t ti (omega arith)
+
       go : Dec (t % 4 ≡ 0) → (x : Bool) → stands D I c (t / 4) ≡ x → Dec (t / 4 % 4 ≡ 0) → (y : Bool) → c .sD (t / 4 / 4) ≡ y
           → (t ≡ 16 * (t / 16)) × (c .sD (t / 16) ≡ true) × (c .sG (t / 16) ≡ false) × (D ≤ 4 * (t / 16)) × (alone D I c t ≡ false)
       go (no z) x ex w y ey = absurd (omega (arith, k .tab .odd t ti a z))
@@ -690,34 +780,43 @@ module _ (D I : ℕ) (D-big : 4 ≤ D) (D-4 : D % 4 ≡ 0) (I-16 : I % 16 ≡ 0)
   -- MG answered 1
   pub sets-G1 : (R : Preds) (X : ℕ → Type 0) (t : ℕ) (c : Cfg) (l : List ℕ) → Sets R X t c l → t < I → getD l t 0 ≡ 6 → R .QG (t / 16) → Sets R X t (withG (t / 16) c) (splitGrand I t l)
   sets-G1 R X t c l p ti m y = record {
-      core = record {
-        len = subst (λ (x : ℕ). length (splitGrand I x l) ≡ I) (sym (is .0)) (len-G D I D-big I-16 c (k .ok) l (k .len) (k .tab) q (is .3) q-hi (is .1) (is .2));
-        ok = ok-G D I D-big I-16 c (k .ok) l (k .len) (k .tab) q (is .3) q-hi (is .1) (is .2);
-        tab = subst (λ (x : ℕ). Table D I (withG q c) (λ j. getD (splitGrand I x l) j 0)) (sym (is .0)) (table-G D I D-big I-16 c (k .ok) l (k .len) (k .tab) q (is .3) q-hi (is .1) (is .2));
-        rng = λ j hj a. subst (λ (x : ℕ). (1 ≤ x) × (x ≤ 4)) (sym (al-G q c j)) (k .rng j hj (was j a)) };
-      more = more-G R q c (p .more) y;
-      four = λ j hj a e. absurd (no-four ((p .four j hj (was j a) (sym (al-G q c j) ∙ e)) .2));
-      grp = λ z a e. absurd (no-four (was t a));
-      ali = λ z. absurd (z (omega (arith, is .0)));
-      done = λ j hj a e3 e4. p .done j hj (was j a) (λ y. e3 (al-G q c j ∙ y)) (λ y. e4 (al-G q c j ∙ y));
-      dD = λ h a b z s d. p .dD h a b z (old h z s (ℕ-discrete (h / 4) q)) (sym (sD-G q c h) ∙ d);
-      dG = λ h a b z s d. p .dG h a b z (sym (sD-G q c h) ∙ s) (oldG h z d (ℕ-discrete h q)) }
+    core = record {
+      len = subst (λ (x : ℕ). length (splitGrand I x l) ≡ I) (sym (is .0)) (len-G D I D-big I-16 c (k .ok) l (k .len) (k .tab) q (is .3) q-hi (is .1) (is .2));
+      ok = ok-G D I D-big I-16 c (k .ok) l (k .len) (k .tab) q (is .3) q-hi (is .1) (is .2);
+      tab = subst (λ (x : ℕ). Table D I (withG q c) (λ j. getD (splitGrand I x l) j 0)) (sym (is .0)) (table-G D I D-big I-16 c (k .ok) l (k .len) (k .tab) q (is .3) q-hi (is .1) (is .2));
+      rng = λ j hj a. subst (λ (x : ℕ). (1 ≤ x) × (x ≤ 4)) (sym (al-G q c j)) (k .rng j hj (was j a));
+    };
+    more = more-G R q c (p .more) y;
+    four = λ j hj a e. absurd (no-four ((p .four j hj (was j a) (sym (al-G q c j) ∙ e)) .2));
+    grp = λ z a e. absurd (no-four (was t a));
+    ali = λ z. absurd (z (omega (arith, is .0)));
+    done = λ j hj a e3 e4. p .done j hj (was j a) (λ y. e3 (al-G q c j ∙ y)) (λ y. e4 (al-G q c j ∙ y));
+    dD = λ h a b z s d. p .dD h a b z (old h z s (ℕ-discrete (h / 4) q)) (sym (sD-G q c h) ∙ d);
+    dG = λ h a b z s d. p .dG h a b z (sym (sD-G q c h) ∙ s) (oldG h z d (ℕ-discrete h q));
+  }
     where
       k : Core c l
       k = p .core
+
       q : ℕ
       q = t / 16
+
       is : (t ≡ 16 * (t / 16)) × (c .sD (t / 16) ≡ true) × (c .sG (t / 16) ≡ false) × (D ≤ 4 * (t / 16)) × (alone D I c t ≡ false)
       is = is-G c l k t ti m
+
       q-hi : 16 * q < I
       q-hi = omega (arith, is .0)
+
       was : (j : ℕ) → alone D I (withG q c) j ≡ true → alone D I c j ≡ true
       was j a = sym (alone-G D I q c j) ∙ a
+
       no-four : alone D I c t ≡ true → ⊥
       no-four a = true≢false (sym a ∙ is .4)
+
       old : (h : ℕ) → 4 * h < t → stands D I (withG q c) h ≡ true → Dec (h / 4 ≡ q) → stands D I c h ≡ true
       old h z s (yes e) = absurd (omega (arith, is .0, e))
       old h z s (no e) = sym (stands-G-off D I q c h e) ∙ s
+
       oldG : (h : ℕ) → 16 * h < t → (withG q c) .sG h ≡ false → Dec (h ≡ q) → c .sG h ≡ false
       oldG h z s (yes e) = absurd (true≢false (sym (sG-G-on q c h e) ∙ s))
       oldG h z s (no e) = sym (sG-G-off q c h e) ∙ s

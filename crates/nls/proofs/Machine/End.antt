@@ -103,12 +103,16 @@ module _ (D I : ℕ) (D-big : 4 ≤ D) (D-4 : D % 4 ≡ 0) (I-16 : I % 16 ≡ 0)
     where
       cf : Cfg
       cf = z .1 .0
+
       hi : i < I
       hi = ltb-true i I ex
+
       is : (i ≡ 16 * (i / 16)) × (cf .sD (i / 16) ≡ true) × (cf .sG (i / 16) ≡ false) × (D ≤ 4 * (i / 16)) × (alone D I cf i ≡ false)
       is = is-G D I D-big D-4 I-16 cf m (z .1 .1 .core) i hi (eqb-true _ _ eg)
+
       tab : Table D I (withG (i / 16) cf) (λ j. getD (splitGrand I i m) j 0)
       tab = subst (λ (x : ℕ). Table D I (withG (i / 16) cf) (λ j. getD (splitGrand I x m) j 0)) (sym (is .0)) (table-G D I D-big I-16 cf (z .1 .1 .core .ok) m (z .1 .1 .core .len) (z .1 .1 .core .tab) (i / 16) (is .3) (omega (arith, is .0, hi)) (is .1) (is .2))
+
       m5 : getD (splitGrand I i m) i 0 ≡ 5
       m5 = tab .head i hi (alone-G D I (i / 16) cf i ∙ is .4) (omega (arith, is .0)) (stands-G-on D I (i / 16) cf (i / 4) (omega arith))
 
@@ -171,7 +175,7 @@ module _ (N D P : ℕ) (D-big : 4 ≤ D) (D-4 : D % 4 ≡ 0) (I-16 : 4 ^ N % 16 
           let a : Bool = ans N A q in
           let t : told N A (ask I s) a = (unfold ask in subst (λ (L : Look). told N A (asked I L) a) (sym e) refl) in
           let r : (u : List Bool) × Fits N State (ask I) (next I) A (next I s a) u × Is-over (look I (reach (4 ^ N) (next I s a) u)) =
-              ih (knowO (ask I s) a k) (next I s a) (omega (arith, h, rank-next D I D-big D-4 I-16 P (fam N D P D-big D-4 I-16 A k) s a g (subst (Asks D I D-big D-4 I-16 P) (sym e) tt))) (settled-next s a) (one-bit N D P D-big D-4 I-16 A k s a g t) in
+          ih (knowO (ask I s) a k) (next I s a) (omega (arith, h, rank-next D I D-big D-4 I-16 P (fam N D P D-big D-4 I-16 A k) s a g (subst (Asks D I D-big D-4 I-16 P) (sym e) tt))) (settled-next s a) (one-bit N D P D-big D-4 I-16 A k s a g t) in
           (a ∷ r .0, (t, r .1), over-cons s a (r .0) (r .2))
 
   pub has-whole : (A : Bits) → (u : List Bool) × Fits N State (ask I) (next I) A (start I D P) u × Is-over (look I (reach (4 ^ N) (start I D P) u))

@@ -88,8 +88,10 @@ module _ (I : ℕ) where
     where
       ji : j < I
       ji = omega (arith, line-ge j k z)
+
       e′ : length (set l j v) ≡ I
       e′ = length-set l j v ∙ e
+
       go : (k ≡ j) ⊎ Line (4 * j) k → Dec (k ≡ 4 * j) → (Line (4 * j) k → (k ≡ 4 * j → ⊥) → getD (pushFrom I n (4 * j) (v + 1) (set l j v)) k 0 ≡ getD (pushFrom I n (4 * j) (v + 1) (set l j v)) (k / 4) 0 + 1)
           → getD (pushFrom I n (4 * j) (v + 1) (set l j v)) k 0 ≡ getD (pushFrom I n (4 * j) (v + 1) (set l j v)) (k / 4) 0 + 1
       go (inl q) d ih = absurd (w q)
@@ -154,26 +156,34 @@ module _ (I i : ℕ) (i-4 : i % 4 ≡ 0) (i-pos : 1 ≤ i) where
 
   pub done-suc : (n : ℕ) (l r : List ℕ) → i + 4 * (n + 1) ≤ I → i + 4 * (n + 1) ≤ 4 * i → Done n l r → Done (n + 1) l (Mark I (i + 4 * n) r)
   done-suc n l r nI n4 d = record {
-      len = mark-len I x r (d .len) x1 xI;
-      off = λ k f. mark-off I x r (d .len) x1 xI k (f x me) ∙ d .off k (λ h a. f h (omega arith, omega arith, a .2));
-      top = λ h a. top′ h a (ℕ-discrete h x);
-      line = λ h k a z w ki. line′ h k a z w ki (ℕ-discrete h x) }
+    len = mark-len I x r (d .len) x1 xI;
+    off = λ k f. mark-off I x r (d .len) x1 xI k (f x me) ∙ d .off k (λ h a. f h (omega arith, omega arith, a .2));
+    top = λ h a. top′ h a (ℕ-discrete h x);
+    line = λ h k a z w ki. line′ h k a z w ki (ℕ-discrete h x);
+  }
     where
       x : ℕ
       x = i + 4 * n
+
       x1 : 1 ≤ x
       x1 = omega arith
+
       xI : x < I
       xI = omega arith
+
       me : Head i (n + 1) x
       me = (omega arith, omega arith, omega arith)
+
       older : (h : ℕ) → Head i (n + 1) h → (h ≡ x → ⊥) → Head i n h
       older h a e = (a .0, omega arith, a .2)
+
       clear : (h k : ℕ) → Head i (n + 1) h → (h ≡ x → ⊥) → Line h k → Line x k → ⊥
       clear h k a e z y = e (line-meet h x k (omega arith) (omega arith) z y)
+
       top′ : (h : ℕ) → Head i (n + 1) h → Dec (h ≡ x) → getD (Mark I x r) h 0 ≡ 5
       top′ h a (yes e) = ap (λ (k : ℕ). getD (Mark I x r) k 0) e ∙ mark-head I x r (d .len) x1 xI
       top′ h a (no e) = mark-off I x r (d .len) x1 xI h (clear h h a e (here refl)) ∙ d .top h (older h a e)
+
       line′ : (h k : ℕ) → Head i (n + 1) h → Line h k → (k ≡ h → ⊥) → k < I → Dec (h ≡ x) → getD (Mark I x r) k 0 ≡ up (getD (Mark I x r) (k / 4) 0)
       line′ h k a z w ki (yes e) = mark-line I x r (d .len) x1 xI k ki (subst (λ (y : ℕ). Line y k) e z) (λ q. w (q ∙ sym e))
       line′ h k a z w ki (no e) =
@@ -190,8 +200,8 @@ module _ (I i : ℕ) (i-4 : i % 4 ≡ 0) (i-pos : 1 ≤ i) where
   done-roots zero k l r a b d = subst (λ (x : ℕ). Done x l r) {x = k} {y = k + 0} (omega arith) d
   done-roots (suc n) k l r a b d =
       subst (λ (x : ℕ). Done x l (pushRoots I n (i + 4 * k + 4) (Mark I (i + 4 * k) r))) {x = k + 1 + n} {y = k + suc n} (omega arith)
-        (subst (λ (x : ℕ). Done (k + 1 + n) l (pushRoots I n x (Mark I (i + 4 * k) r))) {x = i + 4 * (k + 1)} {y = i + 4 * k + 4} (omega arith)
-          (done-roots n (k + 1) l (Mark I (i + 4 * k) r) (omega arith) (omega arith) (done-suc k l r (omega arith) (omega arith) d)))
+      (subst (λ (x : ℕ). Done (k + 1 + n) l (pushRoots I n x (Mark I (i + 4 * k) r))) {x = i + 4 * (k + 1)} {y = i + 4 * k + 4} (omega arith)
+      (done-roots n (k + 1) l (Mark I (i + 4 * k) r) (omega arith) (omega arith) (done-suc k l r (omega arith) (omega arith) d)))
 
   -- k is on a line of one of the n heads
   abbrev pub On : ℕ → ℕ → Type 0
@@ -203,11 +213,14 @@ module _ (I i : ℕ) (i-4 : i % 4 ≡ 0) (i-pos : 1 ≤ i) where
     where
       strict : (z : On n k) → ((k ≡ z .0) → ⊥) → (k % 4 ≡ 0) × On n (k / 4)
       strict z w = let u : (k % 4 ≡ 0) × Line (z .0) (k / 4) = line-up (z .0) k (z .2) w in (u .0, (z .0, z .1, u .1))
+
       back : (k % 4 ≡ 0) → ((i ≤ k) → (k < i + 4 * n) → ⊥) → (On n (k / 4) → ⊥) → On n k → ⊥
       back e a g z = g ((strict z (λ q. a (omega (arith, z .1)) (omega (arith, z .1)))) .1)
+
       next : k % 4 ≡ 0 → ((i ≤ k) → (k < i + 4 * n) → ⊥) → Dec (On n (k / 4)) → Dec (On n k)
       next e a (yes z) = yes (z .0, z .1, down e (z .2))
       next e a (no z) = no (back e a z)
+
       go : Dec (i ≤ k) → Dec (k < i + 4 * n) → Dec (k ≡ 0) → Dec (k % 4 ≡ 0) → (k / 4 ≤ f → Dec (On n (k / 4))) → Dec (On n k)
       go a c z (no e) ih = no (λ y. e (rem y (ℕ-discrete k (y .0))))
         where
@@ -306,30 +319,37 @@ module _ (D I : ℕ) (D-big : 4 ≤ D) (I-16 : I % 16 ≡ 0) (c : Cfg) (o : Ok D
 
   pub table-G : Table D I (withG q c) (λ j. getD r j 0)
   table-G = record {
-      solo = λ j h a. same j (λ z. true≢false (sym a ∙ alone-G D I q c j ∙ (line-no (z .0) j (z .1) (z .2)) .1)) ∙ t .solo j h (sym (alone-G D I q c j) ∙ a) ∙ sym (al-G q c j);
-      odd = λ j h a n. same j (λ z. n (line-mod (16 * q) 4 (z .0) j (z .1) (z .2))) ∙ t .odd j h (sym (alone-G D I q c j) ∙ a) n;
-      head = λ j h a e s. head′ j h (sym (alone-G D I q c j) ∙ a) e s (ℕ-discrete (j / 4 / 4) q);
-      side = λ j h a s n. same j (λ z. side′ j s n z (kinds (16 * q) 4 j (z .0) (z .1) (z .2))) ∙ t .side j h (sym (alone-G D I q c j) ∙ a) (st-old j s) n;
-      mid = λ j h a e s w d. same j (λ z. mid′ j s d z (kinds (16 * q) 4 j (z .0) (z .1) (z .2))) ∙ t .mid j h (sym (alone-G D I q c j) ∙ a) e (st-old j s) w (sym (sD-G q c (j / 4 / 4)) ∙ d);
-      deep = λ j h a e s w d. deep′ j h (sym (alone-G D I q c j) ∙ a) e s w (sym (sD-G q c (j / 4 / 4)) ∙ d) (is? j) }
+    solo = λ j h a. same j (λ z. true≢false (sym a ∙ alone-G D I q c j ∙ (line-no (z .0) j (z .1) (z .2)) .1)) ∙ t .solo j h (sym (alone-G D I q c j) ∙ a) ∙ sym (al-G q c j);
+    odd = λ j h a n. same j (λ z. n (line-mod (16 * q) 4 (z .0) j (z .1) (z .2))) ∙ t .odd j h (sym (alone-G D I q c j) ∙ a) n;
+    head = λ j h a e s. head′ j h (sym (alone-G D I q c j) ∙ a) e s (ℕ-discrete (j / 4 / 4) q);
+    side = λ j h a s n. same j (λ z. side′ j s n z (kinds (16 * q) 4 j (z .0) (z .1) (z .2))) ∙ t .side j h (sym (alone-G D I q c j) ∙ a) (st-old j s) n;
+    mid = λ j h a e s w d. same j (λ z. mid′ j s d z (kinds (16 * q) 4 j (z .0) (z .1) (z .2))) ∙ t .mid j h (sym (alone-G D I q c j) ∙ a) e (st-old j s) w (sym (sD-G q c (j / 4 / 4)) ∙ d);
+    deep = λ j h a e s w d. deep′ j h (sym (alone-G D I q c j) ∙ a) e s w (sym (sD-G q c (j / 4 / 4)) ∙ d) (is? j);
+  }
     where
       same : (j : ℕ) → (Is j → ⊥) → getD r j 0 ≡ getD l j 0
       same j n = dn .off j (λ h a z. n (h, a, z))
+
       st-q : (j : ℕ) → stands D I (withG q c) (j / 4) ≡ false → (j / 4 / 4 ≡ q → ⊥)
       st-q j s e = true≢false (sym (stands-G-on D I q c (j / 4) e) ∙ s)
+
       st-old : (j : ℕ) → stands D I (withG q c) (j / 4) ≡ false → stands D I c (j / 4) ≡ false
       st-old j s = sym (stands-G-off D I q c (j / 4) (st-q j s)) ∙ s
+
       head′ : (j : ℕ) → j < I → alone D I c j ≡ false → j % 4 ≡ 0 → stands D I (withG q c) (j / 4) ≡ true → Dec (j / 4 / 4 ≡ q) → getD r j 0 ≡ 5
       head′ j h a e s (yes z) = dn .top j (omega arith, omega arith, e)
       head′ j h a e s (no z) =
           let s′ : stands D I c (j / 4) ≡ true = sym (stands-G-off D I q c (j / 4) z) ∙ s in
           same j (λ y. true≢false (sym s′ ∙ (line-no (y .0) j (y .1) (y .2)) .0)) ∙ t .head j h a e s′
+
       side′ : (j : ℕ) → stands D I (withG q c) (j / 4) ≡ false → (j / 4 % 4 ≡ 0 → ⊥) → (z : Is j) → (Head (16 * q) 4 j) ⊎ ((j ≡ z .0 → ⊥) × Line (z .0) (j / 4)) → ⊥
       side′ j s n z (inl a) = st-q j s (head-q j a)
       side′ j s n z (inr y) = n (line-mod (16 * q) 4 (z .0) (j / 4) (z .1) (y .1))
+
       mid′ : (j : ℕ) → stands D I (withG q c) (j / 4) ≡ false → (withG q c) .sD (j / 4 / 4) ≡ true → (z : Is j) → (Head (16 * q) 4 j) ⊎ ((j ≡ z .0 → ⊥) × Line (z .0) (j / 4)) → ⊥
       mid′ j s d z (inl a) = st-q j s (head-q j a)
       mid′ j s d z (inr y) = true≢false (sym d ∙ sD-G q c (j / 4 / 4) ∙ (no-alone D I c (j / 4) ((line-no (z .0) (j / 4) (z .1) (y .1)) .1)) .1)
+
       deep′ : (j : ℕ) → j < I → alone D I c j ≡ false → j % 4 ≡ 0 → stands D I (withG q c) (j / 4) ≡ false → j / 4 % 4 ≡ 0 → c .sD (j / 4 / 4) ≡ false → Dec (Is j) → getD r j 0 ≡ up (getD r (j / 4) 0)
       deep′ j h a e s w d (yes z) = go (kinds (16 * q) 4 j (z .0) (z .1) (z .2))
         where
@@ -340,14 +360,16 @@ module _ (D I : ℕ) (D-big : 4 ≤ D) (I-16 : I % 16 ≡ 0) (c : Cfg) (o : Ok D
 
   pub ok-G : Ok D I (withG q c)
   ok-G = record {
-      gd = λ h e. gd′ h e (ℕ-discrete h q);
-      dg = λ h e. dg′ h (sym (sD-G q c h) ∙ e) (ℕ-discrete (h / 4) q);
-      lo = λ h e. o .lo h (sym (sD-G q c h) ∙ e);
-      hi = λ h e. o .hi h (sym (sD-G q c h) ∙ e) }
+    gd = λ h e. gd′ h e (ℕ-discrete h q);
+    dg = λ h e. dg′ h (sym (sD-G q c h) ∙ e) (ℕ-discrete (h / 4) q);
+    lo = λ h e. o .lo h (sym (sD-G q c h) ∙ e);
+    hi = λ h e. o .hi h (sym (sD-G q c h) ∙ e);
+  }
     where
       gd′ : (h : ℕ) → (withG q c) .sG h ≡ true → Dec (h ≡ q) → (withG q c) .sD h ≡ true
       gd′ h e (yes z) = sD-G q c h ∙ ap (c .sD) z ∙ q-D
       gd′ h e (no z) = sD-G q c h ∙ o .gd h (sym (sG-off q c h z) ∙ e)
+
       dg′ : (h : ℕ) → c .sD h ≡ true → Dec (h / 4 ≡ q) → stands D I (withG q c) h ≡ true
       dg′ h e (yes z) = stands-G-on D I q c h z
       dg′ h e (no z) = stands-G-off D I q c h z ∙ o .dg h e

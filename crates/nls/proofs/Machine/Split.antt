@@ -160,24 +160,29 @@ module _ (D I : ℕ) (D-big : 4 ≤ D) (c : Cfg) (o : Ok D I c) (m : ℕ → ℕ
 
     pub table-D : Table D I c′ m′
     table-D = record {
-        solo = λ j h a. solo′ j h a (ℕ-discrete (j / 4) g) (ℕ-discrete j (16 * g));
-        odd = λ j h a z. rest j h (a-no j a) (λ e. z (omega arith)) ∙ t .odd j h (old j a) z;
-        head = λ j h a z s. rest j h (a-no j a) (λ e. true≢false (sym s ∙ st (j / 4) ∙ st16 j e)) ∙ t .head j h (old j a) z (sym (st (j / 4)) ∙ s);
-        side = λ j h a s z. rest j h (a-no j a) (λ e. z (omega arith)) ∙ t .side j h (old j a) (sym (st (j / 4)) ∙ s) z;
-        mid = λ j h a z s w d. mid′ j h a z s w d (ℕ-discrete (j / 4 / 4) g);
-        deep = λ j h a z s w d. deep′ j h a z s w d (ℕ-discrete (j / 4 / 4) g) }
+      solo = λ j h a. solo′ j h a (ℕ-discrete (j / 4) g) (ℕ-discrete j (16 * g));
+      odd = λ j h a z. rest j h (a-no j a) (λ e. z (omega arith)) ∙ t .odd j h (old j a) z;
+      head = λ j h a z s. rest j h (a-no j a) (λ e. true≢false (sym s ∙ st (j / 4) ∙ st16 j e)) ∙ t .head j h (old j a) z (sym (st (j / 4)) ∙ s);
+      side = λ j h a s z. rest j h (a-no j a) (λ e. z (omega arith)) ∙ t .side j h (old j a) (sym (st (j / 4)) ∙ s) z;
+      mid = λ j h a z s w d. mid′ j h a z s w d (ℕ-discrete (j / 4 / 4) g);
+      deep = λ j h a z s w d. deep′ j h a z s w d (ℕ-discrete (j / 4 / 4) g);
+    }
       where
         old : (j : ℕ) → alone D I c′ j ≡ false → alone D I c j ≡ false
         old j a = sym (a-off j (a-no j a)) ∙ a
+
         st16 : (j : ℕ) → j ≡ 16 * g → stands D I c (j / 4) ≡ false
         st16 j e = subst (λ (h : ℕ). stands D I c h ≡ false) {x = 4 * g} {y = j / 4} (omega arith) st-4g
+
         solo′ : (j : ℕ) → j < I → alone D I c′ j ≡ true → Dec (j / 4 ≡ g) → Dec (j ≡ 16 * g) → m′ j ≡ c′ .al j
         solo′ j h a (yes e) f = kids j h e ∙ sym (al-on j e)
         solo′ j h a (no e) (yes f) = absurd (true≢false (sym a ∙ a-off j e ∙ subst (λ (k : ℕ). alone D I c k ≡ false) (sym f) a-16g))
         solo′ j h a (no e) (no f) = rest j h e f ∙ t .solo j h (sym (a-off j e) ∙ a) ∙ sym (al-off j e)
+
         mid′ : (j : ℕ) → j < I → alone D I c′ j ≡ false → j % 4 ≡ 0 → stands D I c′ (j / 4) ≡ false → j / 4 % 4 ≡ 0 → c′ .sD (j / 4 / 4) ≡ true → Dec (j / 4 / 4 ≡ g) → m′ j ≡ 6
         mid′ j h a z s w d (yes e) = let f : j ≡ 16 * g = omega arith in ap m′ f ∙ below (omega arith)
         mid′ j h a z s w d (no e) = rest j h (a-no j a) (λ f. e (omega arith)) ∙ t .mid j h (old j a) z (sym (st (j / 4)) ∙ s) w (sym (off (j / 4 / 4) e) ∙ d)
+
         deep′ : (j : ℕ) → j < I → alone D I c′ j ≡ false → j % 4 ≡ 0 → stands D I c′ (j / 4) ≡ false → j / 4 % 4 ≡ 0 → c′ .sD (j / 4 / 4) ≡ false → Dec (j / 4 / 4 ≡ g) → m′ j ≡ up (m′ (j / 4))
         deep′ j h a z s w d (yes e) = absurd (true≢false (sym (on (j / 4 / 4) e) ∙ d))
         deep′ j h a z s w d (no e) = rest j h (a-no j a) (λ f. e (omega arith)) ∙ t .deep j h (old j a) z (sym (st (j / 4)) ∙ s) w (sym (off (j / 4 / 4) e) ∙ d) ∙ sym (up-same (j / 4) (omega arith) e)
@@ -196,9 +201,11 @@ module _ (D I : ℕ) (D-big : 4 ≤ D) (c : Cfg) (o : Ok D I c) (m : ℕ → ℕ
         dg′ : (h : ℕ) → c′ .sD h ≡ true → Dec (h ≡ g) → stands D I c′ h ≡ true
         dg′ h e (yes z) = st h ∙ subst (λ (k : ℕ). stands D I c k ≡ true) (sym z) g-st
         dg′ h e (no z) = st h ∙ o .dg h (sym (off h z) ∙ e)
+
         lo′ : (h : ℕ) → c′ .sD h ≡ true → Dec (h ≡ g) → D ≤ 4 * h
         lo′ h e (yes z) = omega arith
         lo′ h e (no z) = o .lo h (sym (off h z) ∙ e)
+
         hi′ : (h : ℕ) → c′ .sD h ≡ true → Dec (h ≡ g) → 4 * h < I
         hi′ h e (yes z) = omega arith
         hi′ h e (no z) = o .hi h (sym (off h z) ∙ e)
@@ -215,13 +222,14 @@ module _ (D I : ℕ) (D-big : 4 ≤ D) (c : Cfg) (o : Ok D I c) (m : ℕ → ℕ
     pub table-A : Table D I (withA i v c) m′
     unfolding withA alone stands
     table-A = record {
-        solo = λ j h a. soloA j h a (ℕ-discrete j i);
-        odd = λ j h a z. else j h (apart j a) ∙ t .odd j h a z;
-        head = λ j h a z s. else j h (apart j a) ∙ t .head j h a z s;
-        side = λ j h a s z. else j h (apart j a) ∙ t .side j h a s z;
-        mid = λ j h a z s w d. else j h (apart j a) ∙ t .mid j h a z s w d;
-        deep = λ j h a z s w d. else j h (apart j a) ∙ t .deep j h a z s w d
-            ∙ ap up (sym (else (j / 4) (omega arith) (apart (j / 4) (alone-no D I c (j / 4) ((no-stands D I c (j / 4) s) .0) d)))) }
+      solo = λ j h a. soloA j h a (ℕ-discrete j i);
+      odd = λ j h a z. else j h (apart j a) ∙ t .odd j h a z;
+      head = λ j h a z s. else j h (apart j a) ∙ t .head j h a z s;
+      side = λ j h a s z. else j h (apart j a) ∙ t .side j h a s z;
+      mid = λ j h a z s w d. else j h (apart j a) ∙ t .mid j h a z s w d;
+      deep = λ j h a z s w d. else j h (apart j a) ∙ t .deep j h a z s w d
+          ∙ ap up (sym (else (j / 4) (omega arith) (apart (j / 4) (alone-no D I c (j / 4) ((no-stands D I c (j / 4) s) .0) d))));
+    }
 
   pub ok-A : (i v : ℕ) → Ok D I (withA i v c)
   unfolding withA stands

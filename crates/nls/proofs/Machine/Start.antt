@@ -45,7 +45,7 @@ module _ (D I : ℕ) (D-big : 4 ≤ D) (D-4 : D % 4 ≡ 0) (I-16 : I % 16 ≡ 0)
   dn : Done I D D-4 (omega arith) (3 * D / 4) base first
   dn = subst (λ (x : ℕ). Done I D D-4 (omega arith) (3 * D / 4) base (pushRoots I (3 * D / 4) x base)) {x = D + 4 * 0} {y = D} (omega arith)
       (subst (λ (x : ℕ). Done I D D-4 (omega arith) x base (pushRoots I (3 * D / 4) (D + 4 * 0) base)) {x = 0 + 3 * D / 4} {y = 3 * D / 4} (omega arith)
-        (done-roots I D D-4 (omega arith) (3 * D / 4) 0 base base (omega arith) (omega arith) (done-0 I D D-4 (omega arith) base base-len)))
+      (done-roots I D D-4 (omega arith) (3 * D / 4) 0 base base (omega arith) (omega arith) (done-0 I D D-4 (omega arith) base base-len)))
 
   al-0 : (j : ℕ) → alone D I c0 j ≡ true → j < D
   unfolding alone
@@ -71,16 +71,18 @@ module _ (D I : ℕ) (D-big : 4 ≤ D) (D-4 : D % 4 ≡ 0) (I-16 : I % 16 ≡ 0)
 
   table-0 : Table D I c0 (λ j. getD first j 0)
   table-0 = record {
-      solo = λ j h a. same j (λ z. omega (arith, al-0 j a, line-ge (z .0) j (z .2), z .1)) ∙ base-1 j (al-0 j a);
-      odd = λ j h a n. same j (λ z. n (line-mod D (3 * D / 4) (z .0) j (z .1) (z .2))) ∙ base-0 j ((no-alone D I c0 j a) .0) h;
-      head = λ j h a e s. dn .top j ((no-alone D I c0 j a) .0, omega (arith, st-0 (j / 4) s), e);
-      side = λ j h a s n. same j (λ z. side′ j s n z (kinds D (3 * D / 4) j (z .0) (z .1) (z .2))) ∙ base-0 j ((no-alone D I c0 j a) .0) h;
-      mid = λ j h a e s w d. absurd (false≢true d);
-      deep = λ j h a e s w d. deep′ j h a e s (on? I D D-4 (omega arith) (3 * D / 4) j j (omega arith)) }
+    solo = λ j h a. same j (λ z. omega (arith, al-0 j a, line-ge (z .0) j (z .2), z .1)) ∙ base-1 j (al-0 j a);
+    odd = λ j h a n. same j (λ z. n (line-mod D (3 * D / 4) (z .0) j (z .1) (z .2))) ∙ base-0 j ((no-alone D I c0 j a) .0) h;
+    head = λ j h a e s. dn .top j ((no-alone D I c0 j a) .0, omega (arith, st-0 (j / 4) s), e);
+    side = λ j h a s n. same j (λ z. side′ j s n z (kinds D (3 * D / 4) j (z .0) (z .1) (z .2))) ∙ base-0 j ((no-alone D I c0 j a) .0) h;
+    mid = λ j h a e s w d. absurd (false≢true d);
+    deep = λ j h a e s w d. deep′ j h a e s (on? I D D-4 (omega arith) (3 * D / 4) j j (omega arith));
+  }
     where
       side′ : (j : ℕ) → stands D I c0 (j / 4) ≡ false → (j / 4 % 4 ≡ 0 → ⊥) → (z : Is j) → (Head D (3 * D / 4) j) ⊎ ((j ≡ z .0 → ⊥) × Line (z .0) (j / 4)) → ⊥
       side′ j s n z (inl a) = omega (arith, (no-stands D I c0 (j / 4) s) .0)
       side′ j s n z (inr y) = n (line-mod D (3 * D / 4) (z .0) (j / 4) (z .1) (y .1))
+
       deep′ : (j : ℕ) → j < I → alone D I c0 j ≡ false → j % 4 ≡ 0 → stands D I c0 (j / 4) ≡ false → Dec (Is j) → getD first j 0 ≡ up (getD first (j / 4) 0)
       deep′ j h a e s (yes z) = go (kinds D (3 * D / 4) j (z .0) (z .1) (z .2))
         where
@@ -93,15 +95,17 @@ module _ (D I : ℕ) (D-big : 4 ≤ D) (D-4 : D % 4 ≡ 0) (I-16 : I % 16 ≡ 0)
 
   pub pix-0 : (R : Preds) (X : ℕ → Type 0) → ((j : ℕ) → R .Z j → ⊥) → Pix D I D-big D-4 I-16 R X 0 c0 first
   pix-0 R X n = record {
-      more = record { sg = λ j h a l u. absurd (omega arith); qD = λ h e. absurd (false≢true e); qG = λ h e. absurd (false≢true e); zs = λ j h e. absurd (n j e) };
-      core = record {
-        len = dn .len;
-        ok = record { gd = λ q e. absurd (false≢true e); dg = λ h e. absurd (false≢true e); lo = λ h e. absurd (false≢true e); hi = λ h e. absurd (false≢true e) };
-        tab = table-0;
-        rng = λ j h a. (lit≤ tt, lit≤ tt) };
-      two = λ j h a e. absurd (omega arith);
-      no4 = λ j h a e. omega arith;
-      done = λ j h a b e. absurd (omega arith) }
+    more = record { sg = λ j h a l u. absurd (omega arith); qD = λ h e. absurd (false≢true e); qG = λ h e. absurd (false≢true e); zs = λ j h e. absurd (n j e) };
+    core = record {
+      len = dn .len;
+      ok = record { gd = λ q e. absurd (false≢true e); dg = λ h e. absurd (false≢true e); lo = λ h e. absurd (false≢true e); hi = λ h e. absurd (false≢true e) };
+      tab = table-0;
+      rng = λ j h a. (lit≤ tt, lit≤ tt);
+    };
+    two = λ j h a e. absurd (omega arith);
+    no4 = λ j h a e. omega arith;
+    done = λ j h a b e. absurd (omega arith);
+  }
 
   pub good-start : (P : ℕ) (F : Fam) → ((j : ℕ) → F .Z j → ⊥) → Good D I D-big D-4 I-16 P F (start I D P)
   unfolding start startMarks
@@ -119,8 +123,8 @@ pub whole-stream : (N D P : ℕ) (D-big : 4 ≤ D) (D-4 : D % 4 ≡ 0) (I-16 : 4
     → Fits N State (ask (4 ^ N)) (next (4 ^ N)) A (start (4 ^ N) D P) u
     → Is-over (look (4 ^ N) (reach (4 ^ N) (start (4 ^ N) D P) u))
     → (j : ℕ) → j < 4 ^ N → ((b : ℕ) → b < P → (least N State (ask (4 ^ N)) (next (4 ^ N)) (start (4 ^ N) D P) u nothing) .has j b ≡ A .has j b)
-      × ((b : ℕ) → b < P → A .has j b ≡ true → (least N State (ask (4 ^ N)) (next (4 ^ N)) (start (4 ^ N) D P) u nothing) .neg j ≡ A .neg j)
+    × ((b : ℕ) → b < P → A .has j b ≡ true → (least N State (ask (4 ^ N)) (next (4 ^ N)) (start (4 ^ N) D P) u nothing) .neg j ≡ A .neg j)
 unfolding _⊑_
 whole-stream N D P D-big D-4 I-16 D-I A u f o =
     whole N D P D-big D-4 I-16 A nothing (start (4 ^ N) D P) u
-      (good-start D (4 ^ N) D-big D-4 I-16 D-I P (fam N D P D-big D-4 I-16 A nothing) (λ j z. false≢true (z .1))) (λ i b h. absurd (false≢true h)) f o
+    (good-start D (4 ^ N) D-big D-4 I-16 D-I P (fam N D P D-big D-4 I-16 A nothing) (λ j z. false≢true (z .1))) (λ i b h. absurd (false≢true h)) f o

@@ -35,8 +35,10 @@ withZ F Z′ = record { X = F .X; Y = F .Y; QD = F .QD; QG = F .QG; Z = Z′; dn
 module _ (D I : ℕ) (D-big : 4 ≤ D) (D-4 : D % 4 ≡ 0) (I-16 : I % 16 ≡ 0) (P : ℕ) where
   abbrev pub PixI : Preds → (ℕ → Type 0) → ℕ → Cfg → List ℕ → Type 0
   PixI R X t c m = Pix D I D-big D-4 I-16 R X t c m
+
   abbrev pub SetsI : Preds → (ℕ → Type 0) → ℕ → Cfg → List ℕ → Type 0
   SetsI R X t c m = Sets D I D-big D-4 I-16 R X t c m
+
   abbrev pub FineI : Preds → (ℕ → Type 0) → ℕ → Cfg → List ℕ → Type 0
   FineI R X t c m = Fine D I D-big D-4 I-16 R X t c m
 
@@ -80,16 +82,27 @@ module _ (D I : ℕ) (D-big : 4 ≤ D) (D-4 : D % 4 ≡ 0) (I-16 : I % 16 ≡ 0)
     where
       k : More D I D-big D-4 I-16 (preds F 0) ((p (F .X 0)) .0)
       k = (p (F .X 0)) .1 .more
+
       signed : (j : ℕ) → j < I → (alone D I ((p (F .X 0)) .0) j ≡ true) × (2 ≤ ((p (F .X 0)) .0) .al j) × (((p (F .X 0)) .0) .al j ≤ 3) → F .Y j
       signed j hj r = k .sg j hj (r .0) (r .1) (r .2)
+
       go : (e : ℕ) → e < P → (j : ℕ) → j < I → Dec (e ≡ 0) → F .X e j
       go e h j hj (yes z) = subst (λ (k : ℕ). F .X k j) (sym z) (x j hj)
       go e h j hj (no z) = f e (omega arith) h j hj
   good-down F (suc b) m f x p = ((λ e h1 h2 j hj. go e h1 h2 j hj (ℕ-discrete e (suc b))), step b (p (F .X b)))
     where
       step : (b : ℕ) → (c : Cfg) × PixI (preds F (suc b)) (F .X b) 0 c m → (c : Cfg) × PixI (preds F b) (F .X b) 0 c m
-      step b q = (q .0, record { core = q .1 .core; two = q .1 .two; no4 = q .1 .no4; done = q .1 .done;
-          more = record { sg = q .1 .more .sg; qD = λ h e. F .dnD b h (q .1 .more .qD h e); qG = λ h e. F .dnG b h (q .1 .more .qG h e); zs = q .1 .more .zs } })
+      step b q = (
+        q .0,
+        record {
+          core = q .1 .core;
+          two = q .1 .two;
+          no4 = q .1 .no4;
+          done = q .1 .done;
+          more = record { sg = q .1 .more .sg; qD = λ h e. F .dnD b h (q .1 .more .qD h e); qG = λ h e. F .dnG b h (q .1 .more .qG h e); zs = q .1 .more .zs };
+        },
+      )
+
       go : (e : ℕ) → suc b ≤ e → e < P → (j : ℕ) → j < I → Dec (e ≡ suc b) → F .X e j
       go e h1 h j hj (yes z) = subst (λ (k : ℕ). F .X k j) (sym z) (x j hj)
       go e h1 h j hj (no z) = f e (omega arith) h j hj
@@ -98,7 +111,7 @@ module _ (D I : ℕ) (D-big : 4 ≤ D) (D-4 : D % 4 ≡ 0) (I-16 : I % 16 ≡ 0)
       → Good-at F (suc b) refining i false m → Good-look F (lookRefining b i m x s n)
   good-fine F b i m false s n ex es en g =
       good-down F b m (g .0) ((fine-end D I D-big D-4 I-16 (preds F b) (F .X b) (F .X b) i (g .1 .0) m (g .1 .1) (ltb-false i I ex)) .0)
-        (λ Y. (g .1 .0, (fine-end D I D-big D-4 I-16 (preds F b) (F .X b) Y i (g .1 .0) m (g .1 .1) (ltb-false i I ex)) .1))
+      (λ Y. (g .1 .0, (fine-end D I D-big D-4 I-16 (preds F b) (F .X b) Y i (g .1 .0) m (g .1 .1) (ltb-false i I ex)) .1))
   good-fine F b i m true true n ex es en g = tt
   good-fine F b i m true false true ex es en g = (g .0, (withA i 3 (g .1 .0), fine-np D I D-big D-4 I-16 (preds F b) (F .X b) i (g .1 .0) m (g .1 .1) (ltb-true i I ex) (eqb-true _ _ en)))
   good-fine F b i m true false false ex es en g = (g .0, (g .1 .0, fine-hush D I D-big D-4 I-16 (preds F b) (F .X b) i (g .1 .0) m (g .1 .1) (ltb-true i I ex) (eqb-false _ _ es) (eqb-false _ _ en)))
@@ -153,8 +166,16 @@ module _ (D I : ℕ) (D-big : 4 ≤ D) (D-4 : D % 4 ≡ 0) (I-16 : I % 16 ≡ 0)
   pix-Z R S X X′ t c m f x p = record { core = p .core; more = f (p .more); two = p .two; no4 = p .no4; done = λ j h a z e. x j (p .done j h a z e) }
 
   pub sets-Z : (R S : Preds) (X X′ : ℕ → Type 0) (t : ℕ) (c : Cfg) (m : List ℕ) → (MoreI R c → MoreI S c) → ((j : ℕ) → X j → X′ j) → SetsI R X t c m → SetsI S X′ t c m
-  sets-Z R S X X′ t c m f x p = record { core = p .core; more = f (p .more); four = p .four; grp = p .grp; ali = p .ali; done = λ j h a e3 e4. x j (p .done j h a e3 e4);
-      dD = λ h a1 a2 a3 a4 a5 j hj u. x j (p .dD h a1 a2 a3 a4 a5 j hj u); dG = λ h a1 a2 a3 a4 a5 j hj u. x j (p .dG h a1 a2 a3 a4 a5 j hj u) }
+  sets-Z R S X X′ t c m f x p = record {
+    core = p .core;
+    more = f (p .more);
+    four = p .four;
+    grp = p .grp;
+    ali = p .ali;
+    done = λ j h a e3 e4. x j (p .done j h a e3 e4);
+    dD = λ h a1 a2 a3 a4 a5 j hj u. x j (p .dD h a1 a2 a3 a4 a5 j hj u);
+    dG = λ h a1 a2 a3 a4 a5 j hj u. x j (p .dG h a1 a2 a3 a4 a5 j hj u);
+  }
 
   pub fine-Z : (R S : Preds) (X X′ : ℕ → Type 0) (t : ℕ) (c : Cfg) (m : List ℕ) → (MoreI R c → MoreI S c) → ((j : ℕ) → X j → X′ j) → FineI R X t c m → FineI S X′ t c m
   fine-Z R S X X′ t c m f x p = record { core = p .core; more = f (p .more); two = p .two; no4 = p .no4; done = λ j h e. x j (p .done j h e) }
@@ -175,55 +196,90 @@ module _ (D I : ℕ) (D-big : 4 ≤ D) (D-4 : D % 4 ≡ 0) (I-16 : I % 16 ≡ 0)
   tell-pix F Z′ b i m true false a ex ey g o = absurd o
   tell-pix F Z′ b i m true true true ex ey g o =
       (g .0, (g .1 .0, pix-Z (preds F b) (hide i (preds (withZ F Z′) b)) (F .X b) (F .X b) i (g .1 .0) m (shrink-hide F Z′ b i (g .1 .0) (o .1)) (λ j x. x) (g .1 .1)), ltb-true i I ex, eqb-true _ _ ey, o .0)
-  tell-pix F Z′ b i m true true false ex ey g o =
-      (g .0, (g .1 .0, pix-zero D I D-big D-4 I-16 (preds (withZ F Z′) b) (F .X b) i (g .1 .0) m
-        (pix-Z (preds F b) (preds (withZ F Z′) b) (F .X b) (F .X b) i (g .1 .0) m (shrink F Z′ b (g .1 .0) (o .1)) (λ j x. x) (g .1 .1)) (o .0)))
+  tell-pix F Z′ b i m true true false ex ey g o = (
+    g .0,
+    (
+      g .1 .0,
+      pix-zero D I D-big D-4 I-16 (preds (withZ F Z′) b) (F .X b) i (g .1 .0) m
+          (pix-Z (preds F b) (preds (withZ F Z′) b) (F .X b) (F .X b) i (g .1 .0) m (shrink F Z′ b (g .1 .0) (o .1)) (λ j x. x) (g .1 .1)) (o .0),
+    ),
+  )
 
   tell-sets′ : (F : Fam) (Z′ : ℕ → Type 0) (b i : ℕ) (m : List ℕ) (x d g c a : Bool) → ltb i I ≡ x → eqb (getD m i 0) 5 ≡ d → eqb (getD m i 0) 6 ≡ g → eqb (getD m i 0) 4 ≡ c
       → Good-at F (suc b) sets i false m → On-ask F Z′ a (lookSets b i m x d g c) → Good (withZ F Z′) (tellSets I (suc b) i m a d g)
   tell-sets′ F Z′ b i m false d g c a ex ed eg ec h o = absurd o
-  tell-sets′ F Z′ b i m true true g c true ex ed eg ec h o =
-      (h .0, (withD (i / 4) (h .1 .0), sets-D1 D I D-big D-4 I-16 (preds (withZ F Z′) b) (F .X b) i (h .1 .0) m
-        (sets-Z (preds F b) (preds (withZ F Z′) b) (F .X b) (F .X b) i (h .1 .0) m (shrink F Z′ b (h .1 .0) (o .1)) (λ j x. x) (h .1 .1)) (ltb-true i I ex) (eqb-true _ _ ed) (o .0)))
-  tell-sets′ F Z′ b i m true true g c false ex ed eg ec h o =
-      (h .0, (h .1 .0, sets-D0 D I D-big D-4 I-16 (preds (withZ F Z′) b) (F .X b) i (h .1 .0) m
-        (sets-Z (preds F b) (preds (withZ F Z′) b) (F .X b) (F .X b) i (h .1 .0) m (shrink F Z′ b (h .1 .0) (o .1)) (λ j x. x) (h .1 .1)) (ltb-true i I ex) (eqb-true _ _ ed)
-        (o .0 (omega (arith, is-D D I D-big D-4 I-16 (h .1 .0) m (h .1 .1 .core) i (ltb-true i I ex) (eqb-true _ _ ed))))))
-  tell-sets′ F Z′ b i m true false true c true ex ed eg ec h o =
-      (h .0, (withG (i / 16) (h .1 .0), sets-G1 D I D-big D-4 I-16 (preds (withZ F Z′) b) (F .X b) i (h .1 .0) m
-        (sets-Z (preds F b) (preds (withZ F Z′) b) (F .X b) (F .X b) i (h .1 .0) m (shrink F Z′ b (h .1 .0) (o .1)) (λ j x. x) (h .1 .1)) (ltb-true i I ex) (eqb-true _ _ eg) (o .0)))
-  tell-sets′ F Z′ b i m true false true c false ex ed eg ec h o =
-      (h .0, (h .1 .0, sets-G0 D I D-big D-4 I-16 (preds (withZ F Z′) b) (F .X b) i (h .1 .0) m
-        (sets-Z (preds F b) (preds (withZ F Z′) b) (F .X b) (F .X b) i (h .1 .0) m (shrink F Z′ b (h .1 .0) (o .1)) (λ j x. x) (h .1 .1)) (ltb-true i I ex) (eqb-true _ _ eg)
-        (o .0 (omega (arith, is-G D I D-big D-4 I-16 (h .1 .0) m (h .1 .1 .core) i (ltb-true i I ex) (eqb-true _ _ eg))))))
+  tell-sets′ F Z′ b i m true true g c true ex ed eg ec h o = (
+    h .0,
+    (
+      withD (i / 4) (h .1 .0),
+      sets-D1 D I D-big D-4 I-16 (preds (withZ F Z′) b) (F .X b) i (h .1 .0) m
+          (sets-Z (preds F b) (preds (withZ F Z′) b) (F .X b) (F .X b) i (h .1 .0) m (shrink F Z′ b (h .1 .0) (o .1)) (λ j x. x) (h .1 .1)) (ltb-true i I ex) (eqb-true _ _ ed) (o .0),
+    ),
+  )
+  tell-sets′ F Z′ b i m true true g c false ex ed eg ec h o = (
+    h .0,
+    (
+      h .1 .0,
+      sets-D0 D I D-big D-4 I-16 (preds (withZ F Z′) b) (F .X b) i (h .1 .0) m
+          (sets-Z (preds F b) (preds (withZ F Z′) b) (F .X b) (F .X b) i (h .1 .0) m (shrink F Z′ b (h .1 .0) (o .1)) (λ j x. x) (h .1 .1)) (ltb-true i I ex) (eqb-true _ _ ed)
+          (o .0 (omega (arith, is-D D I D-big D-4 I-16 (h .1 .0) m (h .1 .1 .core) i (ltb-true i I ex) (eqb-true _ _ ed)))),
+    ),
+  )
+  tell-sets′ F Z′ b i m true false true c true ex ed eg ec h o = (
+    h .0,
+    (
+      withG (i / 16) (h .1 .0),
+      sets-G1 D I D-big D-4 I-16 (preds (withZ F Z′) b) (F .X b) i (h .1 .0) m
+          (sets-Z (preds F b) (preds (withZ F Z′) b) (F .X b) (F .X b) i (h .1 .0) m (shrink F Z′ b (h .1 .0) (o .1)) (λ j x. x) (h .1 .1)) (ltb-true i I ex) (eqb-true _ _ eg) (o .0),
+    ),
+  )
+  tell-sets′ F Z′ b i m true false true c false ex ed eg ec h o = (
+    h .0,
+    (
+      h .1 .0,
+      sets-G0 D I D-big D-4 I-16 (preds (withZ F Z′) b) (F .X b) i (h .1 .0) m
+          (sets-Z (preds F b) (preds (withZ F Z′) b) (F .X b) (F .X b) i (h .1 .0) m (shrink F Z′ b (h .1 .0) (o .1)) (λ j x. x) (h .1 .1)) (ltb-true i I ex) (eqb-true _ _ eg)
+          (o .0 (omega (arith, is-G D I D-big D-4 I-16 (h .1 .0) m (h .1 .1 .core) i (ltb-true i I ex) (eqb-true _ _ eg)))),
+    ),
+  )
   tell-sets′ F Z′ b i m true false false true true ex ed eg ec h o =
       (h .0, (h .1 .0, sets-Z (preds F b) (hide i (preds (withZ F Z′) b)) (F .X b) (F .X b) i (h .1 .0) m (shrink-hide F Z′ b i (h .1 .0) (o .1)) (λ j x. x) (h .1 .1)), ltb-true i I ex, eqb-true _ _ ec, o .0)
   tell-sets′ F Z′ b i m true false false true false ex ed eg ec h o =
       let hi : i < I = ltb-true i I ex in
-      let it : (alone D I (h .1 .0) i ≡ true) × ((h .1 .0) .al i ≡ getD m i 0) = is-alone D I D-big D-4 I-16 (h .1 .0) m (h .1 .1 .core) i hi (omega (arith, eqb-true (getD m i 0) 4 ec)) (omega (arith, eqb-true (getD m i 0) 4 ec)) in
-      (h .0, (withA i 1 (h .1 .0), sets-C D I D-big D-4 I-16 (preds (withZ F Z′) b) (F .X b) i 1 (h .1 .0) m
-        (sets-Z (preds F b) (hide i (preds (withZ F Z′) b)) (F .X b) (F .X b) i (h .1 .0) m (shrink-hide F Z′ b i (h .1 .0) (λ j z n. o .1 j z)) (λ j x. x) (h .1 .1))
-        hi (eqb-true _ _ ec) (lit≤ tt) (lit< tt) (o .0) (λ z. absurd (omega arith))
-        (λ z. absurd (omega (arith, it .1, eqb-true (getD m i 0) 4 ec, h .1 .1 .more .zs i hi (o .1 i z))))))
+      let it : (alone D I (h .1 .0) i ≡ true) × ((h .1 .0) .al i ≡ getD m i 0) = is-alone D I D-big D-4 I-16 (h .1 .0) m (h .1 .1 .core) i hi (omega (arith, eqb-true (getD m i 0) 4 ec)) (omega (arith, eqb-true (getD m i 0) 4 ec)) in (
+        h .0,
+        (
+          withA i 1 (h .1 .0),
+          sets-C D I D-big D-4 I-16 (preds (withZ F Z′) b) (F .X b) i 1 (h .1 .0) m
+              (sets-Z (preds F b) (hide i (preds (withZ F Z′) b)) (F .X b) (F .X b) i (h .1 .0) m (shrink-hide F Z′ b i (h .1 .0) (λ j z n. o .1 j z)) (λ j x. x) (h .1 .1))
+              hi (eqb-true _ _ ec) (lit≤ tt) (lit< tt) (o .0) (λ z. absurd (omega arith))
+              (λ z. absurd (omega (arith, it .1, eqb-true (getD m i 0) 4 ec, h .1 .1 .more .zs i hi (o .1 i z)))),
+        ),
+      )
   tell-sets′ F Z′ b i m true false false false a ex ed eg ec h o = absurd o
 
   tell-fine : (F : Fam) (Z′ : ℕ → Type 0) (b i : ℕ) (m : List ℕ) (x s n a : Bool) → ltb i I ≡ x → eqb (getD m i 0) 3 ≡ s → eqb (getD m i 0) 2 ≡ n → Good-at F (suc b) refining i false m → On-ask F Z′ a (lookRefining b i m x s n)
       → Good (withZ F Z′) (at (suc b) refining (i + 1) m)
   tell-fine F Z′ b i m false s n a ex es en g o = absurd o
-  tell-fine F Z′ b i m true true n a ex es en g o = (g .0, (c , fine-ask D I D-big D-4 I-16 (preds (withZ F Z′) b) (F .X b) i c m (fine-Z (preds F b) (preds (withZ F Z′) b) (F .X b) (F .X b) i c m (grow a o) (λ j x. x) (g .1 .1)) hi (eqb-true _ _ es) (got a o)))
+  tell-fine F Z′ b i m true true n a ex es en g o = (g .0, (c, fine-ask D I D-big D-4 I-16 (preds (withZ F Z′) b) (F .X b) i c m (fine-Z (preds F b) (preds (withZ F Z′) b) (F .X b) (F .X b) i c m (grow a o) (λ j x. x) (g .1 .1)) hi (eqb-true _ _ es) (got a o)))
     where
       c : Cfg
       c = g .1 .0
+
       hi : i < I
       hi = ltb-true i I ex
+
       it : (alone D I c i ≡ true) × (c .al i ≡ getD m i 0)
       it = is-alone D I D-big D-4 I-16 c m (g .1 .1 .core) i hi (omega (arith, eqb-true (getD m i 0) 3 es)) (omega (arith, eqb-true (getD m i 0) 3 es))
+
       got : (a : Bool) → Learned F Z′ (bitOf i b) a → F .X b i
       got true o = o .0
       got false o = o .0
+
       pick : ((j : ℕ) → Z′ j → (j ≡ i → ⊥) → F .Z j) → MoreI (preds F b) c → (j : ℕ) → j < I → Z′ j → Dec (j ≡ i) → (alone D I c j ≡ true) × (2 ≤ c .al j) × (c .al j ≤ 3)
       pick z k j hj e (yes q) = subst (λ (x : ℕ). (alone D I c x ≡ true) × (2 ≤ c .al x) × (c .al x ≤ 3)) (sym q) (it .0, omega (arith, it .1, eqb-true (getD m i 0) 3 es), omega (arith, it .1, eqb-true (getD m i 0) 3 es))
       pick z k j hj e (no q) = k .zs j hj (z j e q)
+
       grow : (a : Bool) → Learned F Z′ (bitOf i b) a → MoreI (preds F b) c → MoreI (preds (withZ F Z′) b) c
       grow true o k = record { sg = k .sg; qD = k .qD; qG = k .qG; zs = λ j hj e. pick (o .1) k j hj e (ℕ-discrete j i) }
       grow false o k = shrink F Z′ b c (o .1) k
@@ -233,12 +289,22 @@ module _ (D I : ℕ) (D-big : 4 ≤ D) (D-4 : D % 4 ≡ 0) (I-16 : I % 16 ≡ 0)
   -- an answer keeps it
   good-tell : (F : Fam) (Z′ : ℕ → Type 0) (l : ℕ) (p : Pass) (i : ℕ) (s : Bool) (m : List ℕ) (a : Bool) → Good-at F l p i s m → On-ask F Z′ a (lookAt I l p i s m) → Good (withZ F Z′) (tellAt I l p i s m a)
   good-tell F Z′ zero p i s m a g o = absurd o
-  good-tell F Z′ (suc b) pixels i true m a g o =
-      (g .0, (withA i 2 (g .1 .0), pix-one D I D-big D-4 I-16 (preds (withZ F Z′) b) (F .X b) i (g .1 .0) m
-        (pix-Z (hide i (preds F b)) (hide i (preds (withZ F Z′) b)) (F .X b) (F .X b) i (g .1 .0) m (both-hide F Z′ b i (g .1 .0) (o .1)) (λ j x. x) (g .1 .1)) (g .2) (g .3) (g .4) (o .0)))
-  good-tell F Z′ (suc b) sets i true m a g o =
-      (g .0, (withA i 2 (g .1 .0), sets-C D I D-big D-4 I-16 (preds (withZ F Z′) b) (F .X b) i 2 (g .1 .0) m
-        (sets-Z (hide i (preds F b)) (hide i (preds (withZ F Z′) b)) (F .X b) (F .X b) i (g .1 .0) m (both-hide F Z′ b i (g .1 .0) (o .1)) (λ j x. x) (g .1 .1)) (g .2) (g .3) (lit≤ tt) (lit< tt) (g .4) (λ z. o .0) (λ z. lit≤ tt)))
+  good-tell F Z′ (suc b) pixels i true m a g o = (
+    g .0,
+    (
+      withA i 2 (g .1 .0),
+      pix-one D I D-big D-4 I-16 (preds (withZ F Z′) b) (F .X b) i (g .1 .0) m
+          (pix-Z (hide i (preds F b)) (hide i (preds (withZ F Z′) b)) (F .X b) (F .X b) i (g .1 .0) m (both-hide F Z′ b i (g .1 .0) (o .1)) (λ j x. x) (g .1 .1)) (g .2) (g .3) (g .4) (o .0),
+    ),
+  )
+  good-tell F Z′ (suc b) sets i true m a g o = (
+    g .0,
+    (
+      withA i 2 (g .1 .0),
+      sets-C D I D-big D-4 I-16 (preds (withZ F Z′) b) (F .X b) i 2 (g .1 .0) m
+          (sets-Z (hide i (preds F b)) (hide i (preds (withZ F Z′) b)) (F .X b) (F .X b) i (g .1 .0) m (both-hide F Z′ b i (g .1 .0) (o .1)) (λ j x. x) (g .1 .1)) (g .2) (g .3) (lit≤ tt) (lit< tt) (g .4) (λ z. o .0) (λ z. lit≤ tt),
+    ),
+  )
   good-tell F Z′ (suc b) refining i true m a g o = absurd g
   good-tell F Z′ (suc b) pixels i false m a g o = tell-pix F Z′ b i m (ltb i I) (eqb (getD m i 0) 1) a refl refl g o
   good-tell F Z′ (suc b) sets i false m a g o = tell-sets′ F Z′ b i m (ltb i I) (eqb (getD m i 0) 5) (eqb (getD m i 0) 6) (eqb (getD m i 0) 4) a refl refl refl refl g o
@@ -255,10 +321,13 @@ module _ (D I : ℕ) (D-big : 4 ≤ D) (D-4 : D % 4 ≡ 0) (I-16 : I % 16 ≡ 0)
     where
       mo : (b : ℕ) (c : Cfg) → MoreI (preds F b) c → MoreI (preds E b) c
       mo b c k = more-Z (preds F b) (preds E b) c y (d b) (q b) z k
+
       mh : (b i : ℕ) (c : Cfg) → MoreI (hide i (preds F b)) c → MoreI (hide i (preds E b)) c
       mh b i c k = more-Z (hide i (preds F b)) (hide i (preds E b)) c y (d b) (q b) (λ j e. (z j (e .0), e .1)) k
+
       fr : (b : ℕ) → From F b → From E b
       fr b f e h1 h2 j hj = x e j (f e h1 h2 j hj)
+
       go : (l : ℕ) (p : Pass) (i : ℕ) (s : Bool) (m : List ℕ) → Good-at F l p i s m → Good-at E l p i s m
       go zero p i s m g = (fr zero (g .0), λ j hj w. y j (g .1 j hj (z j w)))
       go (suc b) pixels i false m g = (fr (suc b) (g .0), (g .1 .0, pix-Z (preds F b) (preds E b) (F .X b) (E .X b) i (g .1 .0) m (mo b (g .1 .0)) (x b) (g .1 .1)))

@@ -139,6 +139,7 @@ module _ (D I : ℕ) (D-big : 4 ≤ D) where
     where
       size : skip (m j) ≡ 4 * skip (m (j / 4))
       size = ap skip e ∙ skip-up (m (j / 4)) big
+
       go : Dec (k / 4 ≡ j / 4) → (alone D I c k ≡ false) × (m k ≡ 0)
       go (yes z) =
           let b : alone D I c k ≡ false = alone-no D I c k (omega (arith, (no-alone D I c j a) .0)) (subst (λ (h : ℕ). c .sD h ≡ false) (sym z) ((no-alone D I c j a) .1)) in
@@ -160,6 +161,7 @@ module _ (D I : ℕ) (D-big : 4 ≤ D) where
     where
       dj : D ≤ j
       dj = (no-alone D I c j a) .0
+
       split : Dec (j % 4 ≡ 0) → (x : Bool) → stands D I c (j / 4) ≡ x → Dec (j / 4 % 4 ≡ 0) → (y : Bool) → c .sD (j / 4 / 4) ≡ y
           → (j / 4 ≤ n → j / 4 < I → alone D I c (j / 4) ≡ false → 5 ≤ m (j / 4) → Gap c m (j / 4)) → Gap c m j
       split (no z) x ex w y ey ih k k1 k2 k3 = absurd (omega (arith, t .odd j ji a z))

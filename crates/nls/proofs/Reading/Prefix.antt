@@ -98,6 +98,7 @@ module _ (N D P : ℕ) (D-big : 4 ≤ D) (D-4 : D % 4 ≡ 0) (I-16 : 4 ^ N % 16 
     where
       ans-one : (c : Bool) → ans N A (bitOf j b) ≡ c → c ≡ true
       ans-one c e = sym e ∙ (unfold ans in h)
+
       go : (o : Option Question) → o ≡ some (bitOf j b) → (c : Bool) → told N A o c → (knowO o c k) .has j b ≡ true
       go o e c t = subst (λ (o : Option Question). (knowO o c k) .has j b ≡ true) (sym e) (subst (λ (c : Bool). (knowO (some (bitOf j b)) c k) .has j b ≡ true) (sym (ans-one c (subst (λ (o : Option Question). told N A o c) e t))) (know-one j b k))
 

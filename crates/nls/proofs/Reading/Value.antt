@@ -28,9 +28,16 @@ low-zero (suc k) (suc n) f h = ap (λ (x : ℕ). x % 2 ^ suc k) (twice (low-zero
     b0 : (x : Bool) → x ≡ false → b2n x ≡ 0
     b0 true e = absurd (true≢false e)
     b0 false e = refl
+
     twice : num n (λ b. f (suc b)) % 2 ^ k ≡ 0 → num (suc n) f ≡ num n (λ b. f (suc b)) / 2 ^ k * 2 ^ suc k
-    twice ih = omega (arith, ih, b0 (f 0) (h 0 (omega arith)), split (num n (λ b. f (suc b))) k,
-        ap (λ (x : ℕ). num n (λ b. f (suc b)) / 2 ^ k * x) (pow-suc 2 k), mul-assoc (num n (λ b. f (suc b)) / 2 ^ k) (2 ^ k) 2)
+    twice ih = omega (
+      arith,
+      ih,
+      b0 (f 0) (h 0 (omega arith)),
+      split (num n (λ b. f (suc b))) k,
+      ap (λ (x : ℕ). num n (λ b. f (suc b)) / 2 ^ k * x) (pow-suc 2 k),
+      mul-assoc (num n (λ b. f (suc b)) / 2 ^ k) (2 ^ k) 2,
+    )
 
 -- the bits of f from k on, as a number
 abbrev pub above : ℕ → ℕ → (ℕ → Bool) → ℕ
@@ -38,12 +45,16 @@ above P k f = num P (λ e. not (ltb e k) && f e)
 
 pub above-is : (P k x : ℕ) (f : ℕ → Bool) → x < 2 ^ P → ((e : ℕ) → k ≤ e → e < P → f e ≡ bit x e) → above P k f ≡ x / 2 ^ k * 2 ^ k
 above-is P k x f h g =
-    sym (split (above P k f) k) ∙ omega (arith, low-zero k P (λ e. not (ltb e k) && f e) (λ e l. off (ltb e k) (f e) (lt-ltb e k l)),
-      ap (λ (z : ℕ). z * 2 ^ k) (eq-high k P (above P k f) x (num-lt P (λ e. not (ltb e k) && f e)) h (λ b l u. num-bit P (λ e. not (ltb e k) && f e) b u ∙ on (ltb b k) (f b) (le-ltb b k l) ∙ g b l u)))
+    sym (split (above P k f) k) ∙ omega (
+      arith,
+      low-zero k P (λ e. not (ltb e k) && f e) (λ e l. off (ltb e k) (f e) (lt-ltb e k l)),
+      ap (λ (z : ℕ). z * 2 ^ k) (eq-high k P (above P k f) x (num-lt P (λ e. not (ltb e k) && f e)) h (λ b l u. num-bit P (λ e. not (ltb e k) && f e) b u ∙ on (ltb b k) (f b) (le-ltb b k l) ∙ g b l u)),
+    )
   where
     off : (t y : Bool) → t ≡ true → (not t && y) ≡ false
     off true y e = refl
     off false y e = absurd (false≢true e)
+
     on : (t y : Bool) → t ≡ false → (not t && y) ≡ y
     on true y e = absurd (true≢false e)
     on false y e = refl
@@ -59,6 +70,7 @@ error k x = go (x / 2 ^ k * 2 ^ k) (eqb (x / 2 ^ k * 2 ^ k) 0) refl (split x k)
   where
     one-le : 1 ≤ 2 ^ k
     one-le = one-le-pow k 2 (lit< tt)
+
     go : (m : ℕ) (t : Bool) → eqb m 0 ≡ t → m + x % 2 ^ k ≡ x → (x < (elim t as (λ _. ℕ) [ true ↦ 0 | false ↦ m + 2 ^ k / 2 ]) + 2 ^ k) × ((elim t as (λ _. ℕ) [ true ↦ 0 | false ↦ m + 2 ^ k / 2 ]) < x + 2 ^ k)
     go m true e s = (omega (arith, eqb-true m 0 e, mod-lt x {m = 2 ^ k} one-le), omega (arith, one-le))
     go m false e s = (omega (arith, mod-lt x {m = 2 ^ k} one-le), omega (arith, one-le))

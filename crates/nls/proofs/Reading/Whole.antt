@@ -54,13 +54,14 @@ module _ (N D P : ℕ) (D-big : 4 ≤ D) (D-4 : D % 4 ≡ 0) (I-16 : 4 ^ N % 16 
   -- what a run knows about an array A that fits it, k being the known bits
   abbrev pub fam : Bits → Bits → Fam
   fam A k = record {
-      X = Known A k;
-      Y = λ j. k .neg j ≡ A .neg j;
-      QD = λ b h. (j : ℕ) × (e : ℕ) × (j < I) × Under h j × (b ≤ e) × (A .has j e ≡ true);
-      QG = λ b h. (j : ℕ) × (e : ℕ) × (j < I) × Under h (j / 4) × (b ≤ e) × (A .has j e ≡ true);
-      Z = λ j. (e : ℕ) × (k .has j e ≡ true);
-      dnD = λ b h r. (r .0, r .1, r .2, r .3, omega arith, r .5);
-      dnG = λ b h r. (r .0, r .1, r .2, r .3, omega arith, r .5) }
+    X = Known A k;
+    Y = λ j. k .neg j ≡ A .neg j;
+    QD = λ b h. (j : ℕ) × (e : ℕ) × (j < I) × Under h j × (b ≤ e) × (A .has j e ≡ true);
+    QG = λ b h. (j : ℕ) × (e : ℕ) × (j < I) × Under h (j / 4) × (b ≤ e) × (A .has j e ≡ true);
+    Z = λ j. (e : ℕ) × (k .has j e ≡ true);
+    dnD = λ b h r. (r .0, r .1, r .2, r .3, omega arith, r .5);
+    dnG = λ b h r. (r .0, r .1, r .2, r .3, omega arith, r .5);
+  }
 
   abbrev pub Ok-at : Fam → State → Type 0
   Ok-at F s = Good D I D-big D-4 I-16 P F s
@@ -71,15 +72,17 @@ module _ (N D P : ℕ) (D-big : 4 ≤ D) (D-4 : D % 4 ≡ 0) (I-16 : 4 ^ N % 16 
   learned A k (bitOf i b) false e = ((λ h. absurd (true≢false (sym h ∙ e))), λ j z. (z .0, unfold know in z .1))
   learned A k (signOf i) a e = (know-sign i a k ∙ sym e, λ j z. (z .0, sym (know-sgn-has i a k j (z .0)) ∙ z .1))
   learned A k (inDesc g b) true e =
-      let r : (j : ℕ) × (j < I) × (((ltb j I && below N g j) && A .has j b) ≡ true) = any-find I (λ j. (ltb j I && below N g j) && A .has j b) e in
-      ((r .0, b, r .1, below-under N g (r .0) (and-r (ltb (r .0) I) (below N g (r .0)) (and-l (ltb (r .0) I && below N g (r .0)) (A .has (r .0) b) (r .2))), omega arith, and-r (ltb (r .0) I && below N g (r .0)) (A .has (r .0) b) (r .2)),
-       λ j z. (z .0, unfold know in z .1))
+      let r : (j : ℕ) × (j < I) × (((ltb j I && below N g j) && A .has j b) ≡ true) = any-find I (λ j. (ltb j I && below N g j) && A .has j b) e in (
+        (r .0, b, r .1, below-under N g (r .0) (and-r (ltb (r .0) I) (below N g (r .0)) (and-l (ltb (r .0) I && below N g (r .0)) (A .has (r .0) b) (r .2))), omega arith, and-r (ltb (r .0) I && below N g (r .0)) (A .has (r .0) b) (r .2)),
+        λ j z. (z .0, unfold know in z .1),
+      )
   learned A k (inDesc g b) false e =
       ((λ g1 i hi u h. absurd (true≢false (sym (member N (λ j. below N g j) A b i (and-i (ltb i I) (below N g i) (lt-ltb i I hi) (under-below N g i g1 hi u)) h) ∙ e))), λ j z. (z .0, unfold know in z .1))
   learned A k (inGrand g b) true e =
-      let r : (j : ℕ) × (j < I) × (((ltb j I && below N g (j / 4)) && A .has j b) ≡ true) = any-find I (λ j. (ltb j I && below N g (j / 4)) && A .has j b) e in
-      ((r .0, b, r .1, below-under N g (r .0 / 4) (and-r (ltb (r .0) I) (below N g (r .0 / 4)) (and-l (ltb (r .0) I && below N g (r .0 / 4)) (A .has (r .0) b) (r .2))), omega arith, and-r (ltb (r .0) I && below N g (r .0 / 4)) (A .has (r .0) b) (r .2)),
-       λ j z. (z .0, unfold know in z .1))
+      let r : (j : ℕ) × (j < I) × (((ltb j I && below N g (j / 4)) && A .has j b) ≡ true) = any-find I (λ j. (ltb j I && below N g (j / 4)) && A .has j b) e in (
+        (r .0, b, r .1, below-under N g (r .0 / 4) (and-r (ltb (r .0) I) (below N g (r .0 / 4)) (and-l (ltb (r .0) I && below N g (r .0 / 4)) (A .has (r .0) b) (r .2))), omega arith, and-r (ltb (r .0) I && below N g (r .0 / 4)) (A .has (r .0) b) (r .2)),
+        λ j z. (z .0, unfold know in z .1),
+      )
   learned A k (inGrand g b) false e =
       ((λ g1 i hi u h. absurd (true≢false (sym (member N (λ j. below N g (j / 4)) A b i (and-i (ltb i I) (below N g (i / 4)) (lt-ltb i I hi) (under-below N g (i / 4) g1 (omega arith) u)) h) ∙ e))), λ j z. (z .0, unfold know in z .1))
 
@@ -104,7 +107,7 @@ module _ (N D P : ℕ) (D-big : 4 ≤ D) (D-4 : D % 4 ≡ 0) (I-16 : 4 ^ N % 16 
   unfolding ask _⊑_
   one-bit A k s a g t = good-next D I D-big D-4 I-16 P (withZ (fam A (knowO (ask I s) a k)) (Zof k)) (Zof (knowO (ask I s) a k)) s a
       (good-mono D I D-big D-4 I-16 P (fam A k) (withZ (fam A (knowO (ask I s) a k)) (Zof k))
-        (λ b j z h. growsO (ask I s) a k j b (z h)) (negO A k (ask I s) a t) (λ b j z. z) (λ b j z. z) (λ j z. z) s g) (on-ask A k a (look I s) t)
+      (λ b j z h. growsO (ask I s) a k j b (z h)) (negO A k (ask I s) a t) (λ b j z. z) (λ b j z. z) (λ j z. z) s g) (on-ask A k a (look I s) t)
 
   -- along a run
   pub run : (A k : Bits) (s : State) (u : List Bool) → Ok-at (fam A k) s → Fits N State (ask I) (next I) A s u → Ok-at (fam A (least N State (ask I) (next I) s u k)) (reach (4 ^ N) s u)
@@ -149,11 +152,12 @@ module _ (N D P : ℕ) (D-big : 4 ≤ D) (D-4 : D % 4 ≡ 0) (I-16 : 4 ^ N % 16 
   -- A WHOLE STREAM IS THE ARRAY: when the scan is over each known bit is A's bit, and the sign of each coefficient that is not 0 is A's
   pub whole : (A k : Bits) (s : State) (u : List Bool) → Ok-at (fam A k) s → k ⊑ A → Fits N State (ask I) (next I) A s u → Is-over (look I (reach (4 ^ N) s u))
       → (j : ℕ) → j < I → ((b : ℕ) → b < P → (least N State (ask I) (next I) s u k) .has j b ≡ A .has j b)
-        × ((b : ℕ) → b < P → A .has j b ≡ true → (least N State (ask I) (next I) s u k) .neg j ≡ A .neg j)
+      × ((b : ℕ) → b < P → A .has j b ≡ true → (least N State (ask I) (next I) s u k) .neg j ≡ A .neg j)
   unfolding _⊑_
   whole A k s u g l f o j hj =
       let r : State = reach (4 ^ N) s u in
       let e : ((b : ℕ) → b < P → (j : ℕ) → j < I → Known A (least N State (ask I) (next I) s u k) b j) × ((j : ℕ) → j < I → Zof (least N State (ask I) (next I) s u k) j → (least N State (ask I) (next I) s u k) .neg j ≡ A .neg j)
-          = ends (fam A (least N State (ask I) (next I) s u k)) (r .left) (r .pass) (r .place) (r .pending) (r .marks) (run A k s u g f) o in
-      ((λ b hb. same _ _ (λ h. least-below N State (ask I) (next I) A s u k f l j b h) (λ h. e .0 b hb j hj h)),
-       λ b hb h. e .1 j hj (b, e .0 b hb j hj h))
+      = ends (fam A (least N State (ask I) (next I) s u k)) (r .left) (r .pass) (r .place) (r .pending) (r .marks) (run A k s u g f) o in (
+        (λ b hb. same _ _ (λ h. least-below N State (ask I) (next I) A s u k f l j b h) (λ h. e .0 b hb j hj h)),
+        λ b hb h. e .1 j hj (b, e .0 b hb j hj h),
+      )
