@@ -1,5 +1,5 @@
 -- Parts that stand (document 01), after plane b, from the magnitudes of A alone.
-use Prim.Native.Nat.{ℕ, zero, suc, _+_, _/_, _^_}
+use Prim.Native.Nat.{ℕ, zero, suc, _+_, _-_, _/_, _^_}
 use mathlib.Core.Bool.{Bool, true, false, not, _&&_, _||_, cond}
 use mathlib.Core.List.{List}
 use lib.Dec.{ltb, leb}
@@ -67,3 +67,10 @@ module _ (N L : ℕ) (A : List ℤ) where
 
   unfoldable pub nonzeros : ℕ
   nonzeros = countTo (allOf N) (λ i. ltb 0 (magAt A i))
+
+  -- what plane b itself splits and finds
+  abbrev pub splitsIn : ℕ → ℕ
+  splitsIn b = splits b - splits (suc b)
+
+  abbrev pub foundIn : ℕ → ℕ
+  foundIn b = founds b - founds (suc b)

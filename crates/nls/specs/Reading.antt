@@ -56,6 +56,10 @@ midpoint k m = cond (eqb k 0) m (m + 2 ^ (k - 1))
 unfoldable pub valueBy : (ℕ → ℕ → ℕ) → ℕ → ℤ → ℤ
 valueBy rule k z = cond (eqb (magnitude z) 0) (pos 0) (signed (negative z) (rule k (magnitude z)))
 
+-- "Known bits m": the bits k and above of the magnitude, with the sign
+unfoldable pub highBits : ℕ → ℤ → ℤ
+highBits k z = signed (negative z) (magnitude z / 2 ^ k * 2 ^ k)
+
 module _ (N L P : ℕ) (u : List Bool) where
   -- the number of the last finished plane, or P if none
   abbrev pub lastPlane : ℕ
