@@ -4,3 +4,5 @@ pub mod Reading
 pub mod Judging
 pub mod Counting
 pub mod Joined
+pub mod Kept
+pub mod Lists
