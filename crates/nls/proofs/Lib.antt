@@ -6,3 +6,4 @@ pub mod Counting
 pub mod Joined
 pub mod Kept
 pub mod Lists
+pub mod Streams
