@@ -4,6 +4,7 @@ pub mod Reading
 pub mod Judging
 pub mod Counting
 pub mod Joined
+pub mod Sets
 pub mod Kept
 pub mod Lists
 pub mod Streams
