@@ -7,4 +7,5 @@ pub mod Joined
 pub mod Sets
 pub mod Kept
 pub mod Lists
+pub mod Counts
 pub mod Streams
