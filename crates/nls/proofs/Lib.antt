@@ -4,3 +4,8 @@ pub mod Reading
 pub mod Judging
 pub mod Counting
 pub mod Joined
+pub mod Sets
+pub mod Kept
+pub mod Lists
+pub mod Counts
+pub mod Streams

@@ -5,10 +5,13 @@ use mathlib.Core.List.{List, [], _∷_, _++_, flatMap}
 use lib.Dec.{leb, ltb}
 use Rattle.sizes.specs.Sizes.{allOf, coarsestOf}
 
+-- 4i to 4i+3
+abbrev pub fours : ℕ → List ℕ
+fours i = (4 * i) ∷ (4 * i + 1) ∷ (4 * i + 2) ∷ (4 * i + 3) ∷ []
+
 -- "Children of place i are 4i to 4i+3, for i from D/4 to I/4-1. Places 0 to D/4-1 have none."
 unfoldable pub children : ℕ → ℕ → ℕ → List ℕ
-children N L i =
-    cond (leb (coarsestOf N L / 4) i && ltb i (allOf N / 4)) ((4 * i) ∷ (4 * i + 1) ∷ (4 * i + 2) ∷ (4 * i + 3) ∷ []) []
+children N L i = cond (leb (coarsestOf N L / 4) i && ltb i (allOf N / 4)) (fours i) []
 
 -- the descendants of place i, at most n generations down
 unfoldable pub descendants : ℕ → ℕ → ℕ → ℕ → List ℕ
@@ -23,7 +26,12 @@ desc N L i = descendants N L N i
 unfoldable pub grand : ℕ → ℕ → ℕ → List ℕ
 grand N L i = flatMap (λ c. desc N L c) (children N L i)
 
--- some member of a list of places has p
+-- some member of a list has p
 unfoldable pub anyIn : (ℕ → Bool) → List ℕ → Bool
 anyIn p [] = false
-anyIn p (i ∷ rest) = p i || anyIn p rest
+anyIn p (j ∷ rest) = p j || anyIn p rest
+
+-- the sum of g over the members of a list
+unfoldable pub sumOver : (ℕ → ℕ) → List ℕ → ℕ
+sumOver g [] = 0
+sumOver g (j ∷ rest) = g j + sumOver g rest

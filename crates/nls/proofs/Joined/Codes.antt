@@ -20,7 +20,7 @@ pub record Codes (N : ℕ) (l : List ℕ) : Type 0 where
   pub top : (y : ℕ) → getD l y 0 ≤ N + 4
   pub low : (y : ℕ) → y < 4 → getD l y 0 ≤ 4
 
-set-cases : (l : List ℕ) (i v y : ℕ) → ((y ≡ i) × (getD (set l i v) y 0 ≡ v)) ⊎ (getD (set l i v) y 0 ≡ getD l y 0)
+pub set-cases : (l : List ℕ) (i v y : ℕ) → ((y ≡ i) × (getD (set l i v) y 0 ≡ v)) ⊎ (getD (set l i v) y 0 ≡ getD l y 0)
 set-cases l i v y = on (eqb y i) refl
   where
     on : (t : Bool) → eqb y i ≡ t → ((y ≡ i) × (getD (set l i v) y 0 ≡ v)) ⊎ (getD (set l i v) y 0 ≡ getD l y 0)

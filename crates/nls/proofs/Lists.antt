@@ -1,0 +1,109 @@
+-- Arrays that are lists of numbers give the same answers, and the same stream, as arrays that are bits by place and plane.
+use Prim.Native.Nat.{ℕ, zero, suc, _+_, _*_, _-_, _/_, _^_, _≤_, _<_}
+use mathlib.Core.Path.{_≡_, refl, sym, ap, _∙_}
+use mathlib.Core.Bool.{Bool, true, false, _&&_, _||_}
+use mathlib.Core.Option.{Option, none, some}
+use mathlib.Core.List.{List, [], _∷_}
+use native.Mathlib.Omega.{arith}
+use borrow.Author.Tests.{lt-ltb, ne-eqb}
+use lib.Dec.{ltb, eqb}
+use lib.IntN.{ℤ}
+use Rattle.sizes.specs.Sizes.{allOf, coarsestOf, Sized}
+use Rattle.sizes.proofs.Laws.{coarsest-all}
+use Rattle.bits.specs.Bits.{bit}
+use Rattle.coef.specs.Coef.{at, magAt, negative}
+use Rattle.tree.specs.Tree.{desc, grand, anyIn}
+use Rattle.tree.proofs.Members.{under, desc-find, grand-find, desc-has, grand-has}
+use Rattle.tree.proofs.Ors.{desc-bit, grand-bit}
+use Rattle.nls.specs.Scan.{Question, bitOf, signOf, inDesc, inGrand, State, Look, over, silent, asks, look, ask, asked, next}
+use Rattle.nls.specs.Stream.{answer, answers, begin, worstBody, stream}
+use Rattle.nls.proofs.Arrays.{Arr, bits-of, below, any, inside, ans, answersOf}
+use Rattle.nls.proofs.Judging.Most.{and-l, and-r, and-i, any-some, any-find}
+use Rattle.nls.proofs.Judging.Final.{none-asked}
+use Rattle.nls.proofs.Joined.Answers.{same-bool}
+use Rattle.nls.proofs.Joined.Whole.{bound, whole}
+use Rattle.nls.proofs.Kept.{Kept, Rooted, Asks, kept-next, kept-start, asks-rooted}
+
+-- a list as magnitudes and signs by place; past its end it is 0
+abbrev pub arrOf : List ℤ → Arr
+arrOf A = record { mag = λ i. magAt A i; neg = λ i. negative (at A i) }
+
+under-below : (n i j : ℕ) → under n i j ≡ below n i j
+unfolding under below
+under-below zero i j = refl
+under-below (suc n) i j = ap (λ (t : Bool). eqb (j / 4) i || t) (under-below n i (j / 4))
+
+module _ (N L : ℕ) (z : Sized N L) where
+  abbrev D : ℕ
+  D = coarsestOf N L
+
+  abbrev I : ℕ
+  I = allOf N
+
+  module _ (A : List ℤ) where
+    -- a set's summary has bit b exactly if a place of the set has
+    in-desc : (g b : ℕ) → D / 4 ≤ g → anyIn (λ j. bit (magAt A j) b) (desc N L g) ≡ ans N (bits-of (arrOf A)) (inDesc g b)
+    unfolding ans inside
+    in-desc g b h =
+        same-bool (anyIn (λ j. bit (magAt A j) b) (desc N L g)) (any I (λ j. (ltb j I && below N g j) && bit (magAt A j) b))
+        (λ e.
+        let r = desc-find N L z (λ j. bit (magAt A j) b) g e in
+        any-some I (λ j. (ltb j I && below N g j) && bit (magAt A j) b) (r .0) (r .1 .1)
+        (and-i (ltb (r .0) I && below N g (r .0)) (bit (magAt A (r .0)) b)
+        (and-i (ltb (r .0) I) (below N g (r .0)) (lt-ltb (r .0) I (r .1 .1)) (sym (under-below N g (r .0)) ∙ r .1 .2)) (r .2)))
+        (λ e.
+        let r = any-find I (λ j. (ltb j I && below N g j) && bit (magAt A j) b) e in
+        let k = and-l (ltb (r .0) I && below N g (r .0)) (bit (magAt A (r .0)) b) (r .2) in
+        desc-has N L z (λ j. bit (magAt A j) b) g (r .0) h (r .1) (under-below N g (r .0) ∙ and-r (ltb (r .0) I) (below N g (r .0)) k)
+        (and-r (ltb (r .0) I && below N g (r .0)) (bit (magAt A (r .0)) b) (r .2)))
+
+    in-grand : (g b : ℕ) → D / 4 ≤ g → anyIn (λ j. bit (magAt A j) b) (grand N L g) ≡ ans N (bits-of (arrOf A)) (inGrand g b)
+    unfolding ans inside
+    in-grand g b h =
+        same-bool (anyIn (λ j. bit (magAt A j) b) (grand N L g)) (any I (λ j. (ltb j I && below N g (j / 4)) && bit (magAt A j) b))
+        (λ e.
+        let r = grand-find N L z (λ j. bit (magAt A j) b) g e in
+        any-some I (λ j. (ltb j I && below N g (j / 4)) && bit (magAt A j) b) (r .0) (r .1 .1)
+        (and-i (ltb (r .0) I && below N g (r .0 / 4)) (bit (magAt A (r .0)) b)
+        (and-i (ltb (r .0) I) (below N g (r .0 / 4)) (lt-ltb (r .0) I (r .1 .1)) (sym (under-below N g (r .0 / 4)) ∙ r .1 .2)) (r .2)))
+        (λ e.
+        let r = any-find I (λ j. (ltb j I && below N g (j / 4)) && bit (magAt A j) b) e in
+        let k = and-l (ltb (r .0) I && below N g (r .0 / 4)) (bit (magAt A (r .0)) b) (r .2) in
+        grand-has N L z (λ j. bit (magAt A j) b) g (r .0) h (r .1) (under-below N g (r .0 / 4) ∙ and-r (ltb (r .0) I) (below N g (r .0 / 4)) k)
+        (and-r (ltb (r .0) I && below N g (r .0 / 4)) (bit (magAt A (r .0)) b) (r .2)))
+
+    pub answer-same : (q : Question) → Rooted D q → answer N L A q ≡ ans N (bits-of (arrOf A)) q
+    unfolding answer
+    answer-same (bitOf i b) r = unfold ans in refl
+    answer-same (signOf i) r = unfold ans in refl
+    answer-same (inDesc g b) r = desc-bit N L A g b ∙ in-desc g b r
+    answer-same (inGrand g b) r = grand-bit N L A g b ∙ in-grand g b r
+
+    -- from any state whose marks are kept
+    answers-from : (n : ℕ) (s : State) → Kept D I (s .marks) → answers N L A n s ≡ answersOf N (bits-of (arrOf A)) n s
+    unfolding answers answersOf ask
+    answers-from zero s k = refl
+    answers-from (suc n) s k = on (look I s) (asks-rooted D I s k) (λ a. answers-from n (next I s a) (kept-next D I s a k))
+      where
+        on : (l : Look) → Asks D l → ((a : Bool) → answers N L A n (next I s a) ≡ answersOf N (bits-of (arrOf A)) n (next I s a))
+            → _≡_ {A = List Bool}
+            (elim (asked I l) as (λ _. List Bool) [ none ↦ [] | some q ↦ answer N L A q ∷ answers N L A n (next I s (answer N L A q)) ])
+            (elim (asked I l) as (λ _. List Bool) [ none ↦ [] | some q ↦ ans N (bits-of (arrOf A)) q ∷ answersOf N (bits-of (arrOf A)) n (next I s (ans N (bits-of (arrOf A)) q)) ])
+        on over r ih = refl
+        on (silent t) r ih = refl
+        on (asks q) r ih =
+            rw (answer-same q r) (ap (λ (l : List Bool). ans N (bits-of (arrOf A)) q ∷ l) (ih (ans N (bits-of (arrOf A)) q)))
+
+    pub answers-same : (P n : ℕ) → answers N L A n (begin N L P) ≡ answersOf N (bits-of (arrOf A)) n (begin N L P)
+    answers-same P n = answers-from n (begin N L P) (kept-start D I P (omega (arith, coarsest-all N L z)))
+
+    -- of 0 planes nothing is asked
+    none-of : (n : ℕ) → answersOf N (bits-of (arrOf A)) n (begin N L 0) ≡ []
+    unfolding answersOf
+    none-of zero = refl
+    none-of (suc n) = rw (none-asked N L (omega arith) (z .least) (z .most), answersOf)
+
+    pub stream-same : (P : ℕ) → stream N L P A ≡ whole N L P (arrOf A)
+    unfolding stream whole worstBody answers
+    stream-same zero = sym (none-of (bound N L 0))
+    stream-same (suc P) = rw (ne-eqb (suc P) 0 (λ e. omega (arith, e))) (answers-same (suc P) (bound N L (suc P)))

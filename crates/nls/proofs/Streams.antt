@@ -1,0 +1,112 @@
+-- The stream of an array of numbers: it ends, a budget cuts it, encoder and decoder stay in step, and which bits begin it.
+use Prim.Native.Nat.{ℕ, zero, suc, _+_, _^_, min, _≤_, _<_}
+use mathlib.Core.Path.{_≡_, refl, sym, ap, subst, _∙_}
+use mathlib.Core.Bool.{Bool}
+use mathlib.Core.Option.{Option, none, some}
+use mathlib.Core.List.{List, [], _∷_, _++_}
+use native.Mathlib.Nat.{le-refl}
+use native.Mathlib.Omega.{arith}
+use lib.IntN.{ℤ}
+use lib.ListN.{length, take, drop, length-take, take-append-drop}
+use lib.Seq.{take-all}
+use Rattle.sizes.specs.Sizes.{allOf, coarsestOf, Sized}
+use Rattle.sizes.proofs.Laws.{coarsest-all}
+use Rattle.coef.specs.Coef.{magAt, IsPlanes}
+use Rattle.nls.specs.Scan.{Question, State, over, pixels, at, look, ask, next, reach}
+use Rattle.nls.specs.Stream.{answer, answers, begin, after, stream}
+use Rattle.nls.specs.Judging.{Begins}
+use Rattle.nls.proofs.Arrays.{bits-of, answersOf}
+use Rattle.nls.proofs.Machine.Run.{Fit, fit-prefix, stream-fits, fits-stream}
+use Rattle.nls.proofs.Joined.Leads.{over-none}
+use Rattle.nls.proofs.Joined.Whole as Whole
+use Rattle.nls.proofs.Kept.{kept-reach, kept-start}
+use Rattle.nls.proofs.Lists.{arrOf, answers-same, stream-same}
+
+-- the encoder's own state: what it answers from A leads it on, at most n times
+unfoldable pub sent : ℕ → ℕ → List ℤ → ℕ → State → State
+sent N L A zero s = s
+sent N L A (suc n) s = elim (ask (allOf N) s) [ none ↦ s | some q ↦ sent N L A n (next (allOf N) s (answer N L A q)) ]
+
+sent-from : (N L : ℕ) (A : List ℤ) (n : ℕ) (s : State) → sent N L A n s ≡ reach (allOf N) s (answers N L A n s)
+unfolding sent answers reach
+sent-from N L A zero s = refl
+sent-from N L A (suc n) s = on (ask (allOf N) s) (λ a. sent-from N L A n (next (allOf N) s a))
+  where
+    on : (o : Option Question)
+        → ((a : Bool) → sent N L A n (next (allOf N) s a) ≡ reach (allOf N) (next (allOf N) s a) (answers N L A n (next (allOf N) s a)))
+        → (elim o as (λ _. State) [ none ↦ s | some q ↦ sent N L A n (next (allOf N) s (answer N L A q)) ])
+        ≡ reach (allOf N) s (elim o as (λ _. List Bool) [ none ↦ [] | some q ↦ answer N L A q ∷ answers N L A n (next (allOf N) s (answer N L A q)) ])
+    on none ih = refl
+    on (some q) ih = ih (answer N L A q)
+
+-- IN STEP: after the same bits encoder and decoder stand in equal states, with equal marks
+pub in-step : (N L P : ℕ) (A : List ℤ) (n : ℕ) → sent N L A n (begin N L P) ≡ after N L P (answers N L A n (begin N L P))
+in-step N L P A n = sent-from N L A n (begin N L P)
+
+module _ (N L : ℕ) (z : Sized N L) (P : ℕ) where
+  -- the table of marks keeps its length, on any bits
+  pub marks-length : (u : List Bool) → length ((after N L P u) .marks) ≡ allOf N
+  marks-length u =
+      (kept-reach (coarsestOf N L) (allOf N) u (begin N L P) (kept-start (coarsestOf N L) (allOf N) P (omega (arith, coarsest-all N L z)))) .long
+
+  module _ (A : List ℤ) where
+    -- each bit of u is what A answers where it is asked
+    abbrev pub Answered : List Bool → Type 0
+    Answered u = Fit N (bits-of (arrOf A)) (begin N L P) u
+
+    -- what A answers fits it, for however many planes
+    pub stream-answered : Answered (stream N L P A)
+    unfolding Whole.whole
+    stream-answered =
+        subst Answered (sym (stream-same N L z A P)) (stream-fits N (bits-of (arrOf A)) (Whole.bound N L P) (begin N L P))
+
+    module _ (below : (i : ℕ) → magAt A i < 2 ^ P) where
+      whole-end : (m : List ℕ) × (after N L P (stream N L P A) ≡ at 0 pixels 0 m)
+      whole-end =
+          let w = Whole.whole-ends N L (z .least) (z .most) P (arrOf A) (λ i h. below i) in
+          (w .0, ap (λ (u : List Bool). after N L P u) (stream-same N L z A P) ∙ w .1)
+
+      -- THE STREAM ENDS: after it no plane is left, and nothing is asked
+      pub ends-left : (after N L P (stream N L P A)) .left ≡ 0
+      ends-left = ap (λ (s : State). s .left) (whole-end .1)
+
+      pub ends-over : look (allOf N) (after N L P (stream N L P A)) ≡ over
+      ends-over = ap (λ (s : State). look (allOf N) s) (whole-end .1)
+
+      pub ends : ask (allOf N) (after N L P (stream N L P A)) ≡ none
+      ends = over-none N (bits-of (arrOf A)) (after N L P (stream N L P A)) ends-over
+
+      -- UNDER A BUDGET of n bits: the first n of the stream, the smaller of n and all
+      pub budget-bits : (n : ℕ) → answers N L A n (begin N L P) ≡ take n (stream N L P A)
+      budget-bits n =
+          answers-same N L z A P n ∙ Whole.budget-bits N L (z .least) (z .most) P (arrOf A) (λ i h. below i) n
+          ∙ ap (λ (u : List Bool). take n u) (sym (stream-same N L z A P))
+
+      pub budget-length : (n : ℕ) → length (answers N L A n (begin N L P)) ≡ min n (length (stream N L P A))
+      budget-length n = ap (λ (u : List Bool). length u) (budget-bits n) ∙ length-take n (stream N L P A)
+
+      -- the bits that A answers one by one are those that begin its stream
+      pub answered-begins : (u : List Bool) → Answered u → take (length u) (stream N L P A) ≡ u
+      answered-begins u f =
+          sym (budget-bits (length u)) ∙ answers-same N L z A P (length u)
+          ∙ sym (take-all (length u) (answersOf N (bits-of (arrOf A)) (length u) (begin N L P)) (omega (arith, long)))
+          ∙ fits-stream N (bits-of (arrOf A)) (begin N L P) u (length u) f (le-refl (length u))
+        where
+          long : length (answersOf N (bits-of (arrOf A)) (length u) (begin N L P)) ≡ min (length u) (length (stream N L P A))
+          long = ap (λ (v : List Bool). length v) (sym (answers-same N L z A P (length u))) ∙ budget-length (length u)
+
+    begins-answered : (u : List Bool) → take (length u) (stream N L P A) ≡ u → Answered u
+    begins-answered u e =
+        fit-prefix N (bits-of (arrOf A)) (begin N L P) u (drop (length u) (stream N L P A))
+        (subst Answered
+        (sym (take-append-drop (length u) (stream N L P A)) ∙ ap (λ (v : List Bool). v ++ drop (length u) (stream N L P A)) e)
+        stream-answered)
+
+    -- the two ways to say that A's stream begins with u
+    pub begins-iff : (u : List Bool)
+        → (Begins N L P A u → (length A ≡ allOf N) × IsPlanes A P × Answered u)
+        × ((length A ≡ allOf N) × IsPlanes A P × Answered u → Begins N L P A u)
+    begins-iff u = (
+      (λ b. (b .size, b .planes, begins-answered u (b .same))),
+      λ w. record { size = w .0; planes = w .1; same = answered-begins (w .1 .below) u (w .2) },
+    )
