@@ -1,16 +1,17 @@
 -- What every run keeps of its marks, on any bits: their number, no mark of a set below D, no MG below 4D.
 -- So a set that is asked about has a place of at least D/4: it has members.
-use Prim.Native.Nat.{ℕ, zero, suc, _+_, _*_, _-_, _/_, _%_, _≤_, _<_}
-use mathlib.Core.Path.{_≡_, refl, ap, sym, _∙_}
+use Prim.Native.Nat.{ℕ, zero, suc, _+_, _*_, _-_, _/_, _≤_, _<_}
+use mathlib.Core.Path.{_≡_, refl, sym, _∙_}
 use mathlib.Core.Bool.{Bool, true, false}
 use mathlib.Core.Logic.{⊎-elim}
+use mathlib.Core.Option.{Option, none, some}
 use mathlib.Core.List.{List, [], _∷_, _++_}
 use native.Mathlib.Omega.{arith}
 use borrow.Author.Tests.{eqb-true}
 use lib.Dec.{ltb, eqb}
 use lib.ListN.{length, getD, set, replicate, length-set, length-replicate, length-append}
 use Rattle.nls.specs.Marks.{pushFrom, push, splitDesc, splitGrand, pushRoots, startMarks}
-use Rattle.nls.specs.Scan.{State, Look, over, silent, asks, Question, bitOf, signOf, inDesc, inGrand, Pass, pixels, sets, refining, at, look, lookAt, lookPixels, lookSets, lookRefining, tell, tellAt, tellSets, silently, settle, movesLeft, next, reach, start}
+use Rattle.nls.specs.Scan.{State, Look, over, silent, asks, Question, bitOf, signOf, inDesc, inGrand, Pass, pixels, sets, refining, at, look, lookAt, lookPixels, lookSets, lookRefining, tell, tellAt, tellSets, silently, settle, movesLeft, ask, asked, next, reach, start}
 use Rattle.nls.proofs.Arrays.{four}
 use Rattle.nls.proofs.Joined.Codes.{set-cases}
 
@@ -60,10 +61,9 @@ Rooted D (signOf i) = Unit {0}
 Rooted D (inDesc g b) = D / 4 ≤ g
 Rooted D (inGrand g b) = D / 4 ≤ g
 
-abbrev pub Asks : ℕ → Look → Type 0
-Asks D over = Unit {0}
-Asks D (silent t) = Unit {0}
-Asks D (asks q) = Rooted D q
+abbrev pub AllRooted : ℕ → Option Question → Type 0
+AllRooted D none = Unit {0}
+AllRooted D (some q) = Rooted D q
 
 module _ (D I : ℕ) where
   kept-set : (m : List ℕ) (i v : ℕ) → (5 ≤ v → D ≤ i) → (v ≡ 6 → 4 * D ≤ i) → Kept D I m → Kept D I (set m i v)
@@ -188,30 +188,31 @@ module _ (D I : ℕ) where
           }
 
   -- what is asked of marks that are kept
-  asks-pixels : (b i : ℕ) (m : List ℕ) (x y : Bool) → Asks D (lookPixels b i m x y)
+  asks-pixels : (b i : ℕ) (m : List ℕ) (x y : Bool) → AllRooted D (asked I (lookPixels b i m x y))
   asks-pixels b i m false y = tt
   asks-pixels b i m true true = tt
   asks-pixels b i m true false = tt
 
-  asks-sets : (b i : ℕ) (m : List ℕ) (x d g c : Bool) → eqb (getD m i 0) 5 ≡ d → eqb (getD m i 0) 6 ≡ g → Kept D I m → Asks D (lookSets b i m x d g c)
+  asks-sets : (b i : ℕ) (m : List ℕ) (x d g c : Bool) → eqb (getD m i 0) 5 ≡ d → eqb (getD m i 0) 6 ≡ g → Kept D I m → AllRooted D (asked I (lookSets b i m x d g c))
   asks-sets b i m false d g c p q k = tt
   asks-sets b i m true true g c p q k = omega (arith, k .descs i (omega (arith, eqb-true (getD m i 0) 5 p)))
   asks-sets b i m true false true c p q k = omega (arith, k .grands i (eqb-true (getD m i 0) 6 q))
   asks-sets b i m true false false true p q k = tt
   asks-sets b i m true false false false p q k = tt
 
-  asks-refining : (b i : ℕ) (m : List ℕ) (x s n : Bool) → Asks D (lookRefining b i m x s n)
+  asks-refining : (b i : ℕ) (m : List ℕ) (x s n : Bool) → AllRooted D (asked I (lookRefining b i m x s n))
   asks-refining b i m false s n = tt
   asks-refining b i m true true n = tt
   asks-refining b i m true false true = tt
   asks-refining b i m true false false = tt
 
-  asks-at : (l : ℕ) (p : Pass) (i : ℕ) (w : Bool) (m : List ℕ) → Kept D I m → Asks D (lookAt I l p i w m)
+  asks-at : (l : ℕ) (p : Pass) (i : ℕ) (w : Bool) (m : List ℕ) → Kept D I m → AllRooted D (asked I (lookAt I l p i w m))
   asks-at zero p i w m k = tt
   asks-at (suc b) p i true m k = tt
   asks-at (suc b) pixels i false m k = asks-pixels b i m (ltb i I) (eqb (getD m i 0) 1)
   asks-at (suc b) sets i false m k = asks-sets b i m (ltb i I) (eqb (getD m i 0) 5) (eqb (getD m i 0) 6) (eqb (getD m i 0) 4) refl refl k
   asks-at (suc b) refining i false m k = asks-refining b i m (ltb i I) (eqb (getD m i 0) 3) (eqb (getD m i 0) 2)
 
-  pub asks-rooted : (s : State) → Kept D I (s .marks) → Asks D (look I s)
+  pub asks-rooted : (s : State) → Kept D I (s .marks) → AllRooted D (ask I s)
+  unfolding ask
   asks-rooted s k = asks-at (s .left) (s .pass) (s .place) (s .pending) (s .marks) k

@@ -9,3 +9,5 @@ pub mod Kept
 pub mod Lists
 pub mod Counts
 pub mod Streams
+pub mod Signs
+pub mod Verdicts

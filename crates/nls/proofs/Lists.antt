@@ -1,7 +1,7 @@
 -- Arrays that are lists of numbers give the same answers, and the same stream, as arrays that are bits by place and plane.
-use Prim.Native.Nat.{ℕ, zero, suc, _+_, _*_, _-_, _/_, _^_, _≤_, _<_}
-use mathlib.Core.Path.{_≡_, refl, sym, ap, _∙_}
-use mathlib.Core.Bool.{Bool, true, false, _&&_, _||_}
+use Prim.Native.Nat.{ℕ, zero, suc, _/_, _≤_}
+use mathlib.Core.Path.{_≡_, refl, sym, ap, subst, _∙_}
+use mathlib.Core.Bool.{Bool, _&&_, _||_}
 use mathlib.Core.Option.{Option, none, some}
 use mathlib.Core.List.{List, [], _∷_}
 use native.Mathlib.Omega.{arith}
@@ -15,14 +15,14 @@ use Rattle.coef.specs.Coef.{at, magAt, negative}
 use Rattle.tree.specs.Tree.{desc, grand, anyIn}
 use Rattle.tree.proofs.Members.{under, desc-find, grand-find, desc-has, grand-has}
 use Rattle.tree.proofs.Ors.{desc-bit, grand-bit}
-use Rattle.nls.specs.Scan.{Question, bitOf, signOf, inDesc, inGrand, State, Look, over, silent, asks, look, ask, asked, next}
-use Rattle.nls.specs.Stream.{answer, answers, begin, worstBody, stream}
+use Rattle.nls.specs.Scan.{Question, bitOf, signOf, inDesc, inGrand, State, ask, next}
+use Rattle.nls.specs.Stream.{answer, answers, begin, after, worstBody, stream}
 use Rattle.nls.proofs.Arrays.{Arr, bits-of, below, any, inside, ans, answersOf}
 use Rattle.nls.proofs.Judging.Most.{and-l, and-r, and-i, any-some, any-find}
 use Rattle.nls.proofs.Judging.Final.{none-asked}
 use Rattle.nls.proofs.Joined.Answers.{same-bool}
 use Rattle.nls.proofs.Joined.Whole.{bound, whole}
-use Rattle.nls.proofs.Kept.{Kept, Rooted, Asks, kept-next, kept-start, asks-rooted}
+use Rattle.nls.proofs.Kept.{Kept, Rooted, AllRooted, kept-next, kept-reach, kept-start, asks-rooted}
 
 -- a list as magnitudes and signs by place; past its end it is 0
 abbrev pub arrOf : List ℤ → Arr
@@ -39,6 +39,14 @@ module _ (N L : ℕ) (z : Sized N L) where
 
   abbrev I : ℕ
   I = allOf N
+
+  -- A SET THAT IS ASKED ABOUT HAS MEMBERS, after any bits
+  pub begin-kept : (P : ℕ) → Kept D I ((begin N L P) .marks)
+  begin-kept P = kept-start D I P (omega (arith, coarsest-all N L z))
+
+  pub asked-rooted : (P : ℕ) (u : List Bool) (q : Question) → ask I (after N L P u) ≡ some q → Rooted D q
+  asked-rooted P u q e =
+      subst (λ (o : Option Question). AllRooted D o) e (asks-rooted D I (after N L P u) (kept-reach D I u (begin N L P) (begin-kept P)))
 
   module _ (A : List ℤ) where
     -- a set's summary has bit b exactly if a place of the set has
@@ -81,21 +89,21 @@ module _ (N L : ℕ) (z : Sized N L) where
 
     -- from any state whose marks are kept
     answers-from : (n : ℕ) (s : State) → Kept D I (s .marks) → answers N L A n s ≡ answersOf N (bits-of (arrOf A)) n s
-    unfolding answers answersOf ask
+    unfolding answers answersOf
     answers-from zero s k = refl
-    answers-from (suc n) s k = on (look I s) (asks-rooted D I s k) (λ a. answers-from n (next I s a) (kept-next D I s a k))
+    answers-from (suc n) s k = on (ask I s) (asks-rooted D I s k) (λ a. answers-from n (next I s a) (kept-next D I s a k))
       where
-        on : (l : Look) → Asks D l → ((a : Bool) → answers N L A n (next I s a) ≡ answersOf N (bits-of (arrOf A)) n (next I s a))
+        on : (o : Option Question) → AllRooted D o
+            → ((a : Bool) → answers N L A n (next I s a) ≡ answersOf N (bits-of (arrOf A)) n (next I s a))
             → _≡_ {A = List Bool}
-            (elim (asked I l) as (λ _. List Bool) [ none ↦ [] | some q ↦ answer N L A q ∷ answers N L A n (next I s (answer N L A q)) ])
-            (elim (asked I l) as (λ _. List Bool) [ none ↦ [] | some q ↦ ans N (bits-of (arrOf A)) q ∷ answersOf N (bits-of (arrOf A)) n (next I s (ans N (bits-of (arrOf A)) q)) ])
-        on over r ih = refl
-        on (silent t) r ih = refl
-        on (asks q) r ih =
+            (elim o as (λ _. List Bool) [ none ↦ [] | some q ↦ answer N L A q ∷ answers N L A n (next I s (answer N L A q)) ])
+            (elim o as (λ _. List Bool) [ none ↦ [] | some q ↦ ans N (bits-of (arrOf A)) q ∷ answersOf N (bits-of (arrOf A)) n (next I s (ans N (bits-of (arrOf A)) q)) ])
+        on none r ih = refl
+        on (some q) r ih =
             rw (answer-same q r) (ap (λ (l : List Bool). ans N (bits-of (arrOf A)) q ∷ l) (ih (ans N (bits-of (arrOf A)) q)))
 
     pub answers-same : (P n : ℕ) → answers N L A n (begin N L P) ≡ answersOf N (bits-of (arrOf A)) n (begin N L P)
-    answers-same P n = answers-from n (begin N L P) (kept-start D I P (omega (arith, coarsest-all N L z)))
+    answers-same P n = answers-from n (begin N L P) (begin-kept P)
 
     -- of 0 planes nothing is asked
     none-of : (n : ℕ) → answersOf N (bits-of (arrOf A)) n (begin N L 0) ≡ []

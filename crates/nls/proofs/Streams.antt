@@ -1,5 +1,5 @@
 -- The stream of an array of numbers: it ends, a budget cuts it, encoder and decoder stay in step, and which bits begin it.
-use Prim.Native.Nat.{ℕ, zero, suc, _+_, _^_, min, _≤_, _<_}
+use Prim.Native.Nat.{ℕ, zero, suc, _^_, min, _<_}
 use mathlib.Core.Path.{_≡_, refl, sym, ap, subst, _∙_}
 use mathlib.Core.Bool.{Bool}
 use mathlib.Core.Option.{Option, none, some}
@@ -10,7 +10,6 @@ use lib.IntN.{ℤ}
 use lib.ListN.{length, take, drop, length-take, take-append-drop}
 use lib.Seq.{take-all}
 use Rattle.sizes.specs.Sizes.{allOf, coarsestOf, Sized}
-use Rattle.sizes.proofs.Laws.{coarsest-all}
 use Rattle.coef.specs.Coef.{magAt, IsPlanes}
 use Rattle.nls.specs.Scan.{Question, State, over, pixels, at, look, ask, next, reach}
 use Rattle.nls.specs.Stream.{answer, answers, begin, after, stream}
@@ -19,8 +18,8 @@ use Rattle.nls.proofs.Arrays.{bits-of, answersOf}
 use Rattle.nls.proofs.Machine.Run.{Fit, fit-prefix, stream-fits, fits-stream}
 use Rattle.nls.proofs.Joined.Leads.{over-none}
 use Rattle.nls.proofs.Joined.Whole as Whole
-use Rattle.nls.proofs.Kept.{kept-reach, kept-start}
-use Rattle.nls.proofs.Lists.{arrOf, answers-same, stream-same}
+use Rattle.nls.proofs.Kept.{kept-reach}
+use Rattle.nls.proofs.Lists.{arrOf, begin-kept, answers-same, stream-same}
 
 -- the encoder's own state: what it answers from A leads it on, at most n times
 unfoldable pub sent : ℕ → ℕ → List ℤ → ℕ → State → State
@@ -43,22 +42,22 @@ sent-from N L A (suc n) s = on (ask (allOf N) s) (λ a. sent-from N L A n (next 
 pub in-step : (N L P : ℕ) (A : List ℤ) (n : ℕ) → sent N L A n (begin N L P) ≡ after N L P (answers N L A n (begin N L P))
 in-step N L P A n = sent-from N L A n (begin N L P)
 
+-- each bit of u is what A answers where it is asked
+abbrev pub Answered : ℕ → ℕ → ℕ → List ℤ → List Bool → Type 0
+Answered N L P A u = Fit N (bits-of (arrOf A)) (begin N L P) u
+
 module _ (N L : ℕ) (z : Sized N L) (P : ℕ) where
   -- the table of marks keeps its length, on any bits
   pub marks-length : (u : List Bool) → length ((after N L P u) .marks) ≡ allOf N
   marks-length u =
-      (kept-reach (coarsestOf N L) (allOf N) u (begin N L P) (kept-start (coarsestOf N L) (allOf N) P (omega (arith, coarsest-all N L z)))) .long
+      (kept-reach (coarsestOf N L) (allOf N) u (begin N L P) (begin-kept N L z P)) .long
 
   module _ (A : List ℤ) where
-    -- each bit of u is what A answers where it is asked
-    abbrev pub Answered : List Bool → Type 0
-    Answered u = Fit N (bits-of (arrOf A)) (begin N L P) u
-
     -- what A answers fits it, for however many planes
-    pub stream-answered : Answered (stream N L P A)
+    pub stream-answered : Answered N L P A (stream N L P A)
     unfolding Whole.whole
     stream-answered =
-        subst Answered (sym (stream-same N L z A P)) (stream-fits N (bits-of (arrOf A)) (Whole.bound N L P) (begin N L P))
+        subst (Answered N L P A) (sym (stream-same N L z A P)) (stream-fits N (bits-of (arrOf A)) (Whole.bound N L P) (begin N L P))
 
     module _ (below : (i : ℕ) → magAt A i < 2 ^ P) where
       whole-end : (m : List ℕ) × (after N L P (stream N L P A) ≡ at 0 pixels 0 m)
@@ -86,7 +85,7 @@ module _ (N L : ℕ) (z : Sized N L) (P : ℕ) where
       budget-length n = ap (λ (u : List Bool). length u) (budget-bits n) ∙ length-take n (stream N L P A)
 
       -- the bits that A answers one by one are those that begin its stream
-      pub answered-begins : (u : List Bool) → Answered u → take (length u) (stream N L P A) ≡ u
+      pub answered-begins : (u : List Bool) → Answered N L P A u → take (length u) (stream N L P A) ≡ u
       answered-begins u f =
           sym (budget-bits (length u)) ∙ answers-same N L z A P (length u)
           ∙ sym (take-all (length u) (answersOf N (bits-of (arrOf A)) (length u) (begin N L P)) (omega (arith, long)))
@@ -95,17 +94,17 @@ module _ (N L : ℕ) (z : Sized N L) (P : ℕ) where
           long : length (answersOf N (bits-of (arrOf A)) (length u) (begin N L P)) ≡ min (length u) (length (stream N L P A))
           long = ap (λ (v : List Bool). length v) (sym (answers-same N L z A P (length u))) ∙ budget-length (length u)
 
-    begins-answered : (u : List Bool) → take (length u) (stream N L P A) ≡ u → Answered u
+    begins-answered : (u : List Bool) → take (length u) (stream N L P A) ≡ u → Answered N L P A u
     begins-answered u e =
         fit-prefix N (bits-of (arrOf A)) (begin N L P) u (drop (length u) (stream N L P A))
-        (subst Answered
+        (subst (Answered N L P A)
         (sym (take-append-drop (length u) (stream N L P A)) ∙ ap (λ (v : List Bool). v ++ drop (length u) (stream N L P A)) e)
         stream-answered)
 
     -- the two ways to say that A's stream begins with u
     pub begins-iff : (u : List Bool)
-        → (Begins N L P A u → (length A ≡ allOf N) × IsPlanes A P × Answered u)
-        × ((length A ≡ allOf N) × IsPlanes A P × Answered u → Begins N L P A u)
+        → (Begins N L P A u → (length A ≡ allOf N) × IsPlanes A P × Answered N L P A u)
+        × ((length A ≡ allOf N) × IsPlanes A P × Answered N L P A u → Begins N L P A u)
     begins-iff u = (
       (λ b. (b .size, b .planes, begins-answered u (b .same))),
       λ w. record { size = w .0; planes = w .1; same = answered-begins (w .1 .below) u (w .2) },

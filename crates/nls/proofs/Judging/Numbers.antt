@@ -131,7 +131,7 @@ module _ (N : ℕ) where
   same false true f g = g refl
   same false false f g = refl
 
-  ans-ext : (A B : Bits) → ((i b : ℕ) → A .has i b ≡ B .has i b) → ((i : ℕ) → A .neg i ≡ B .neg i) → (q : Question) → ans N A q ≡ ans N B q
+  pub ans-ext : (A B : Bits) → ((i b : ℕ) → A .has i b ≡ B .has i b) → ((i : ℕ) → A .neg i ≡ B .neg i) → (q : Question) → ans N A q ≡ ans N B q
   unfolding ans
   ans-ext A B f g (bitOf i b) = f i b
   ans-ext A B f g (signOf i) = g i
