@@ -11,3 +11,4 @@ pub mod Counts
 pub mod Streams
 pub mod Signs
 pub mod Verdicts
+pub mod Samples

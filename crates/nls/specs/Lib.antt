@@ -4,3 +4,4 @@ pub mod Stream
 pub mod Parts
 pub mod Reading
 pub mod Judging
+pub mod Samples

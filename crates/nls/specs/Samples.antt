@@ -1,0 +1,80 @@
+-- The starred samples of document 01, as one list: each is what the definitions give beside what the document says.
+-- That all hold is `all-samples` of proofs/Samples.antt.
+use mathlib.Core.Path.{_≡_}
+use mathlib.Core.Bool.{Bool, true, false}
+use mathlib.Core.List.{List, [], _∷_, _++_, map}
+use Prim.Native.Nat.{ℕ}
+use lib.IntN.{ℤ, pos, negsuc}
+use lib.ListN.{length, take, replicate}
+use Rattle.bits.specs.Bits.{packed}
+use Rattle.places.specs.Order.{linearly}
+use Rattle.coef.specs.Coef.{planesOf}
+use Rattle.nls.specs.Stream.{begin, worstBody, stream, during}
+use Rattle.nls.specs.Parts.{sumTo, parts, splits, splitsIn, nonzeros}
+use Rattle.nls.specs.Reading.{midpoint, valuesBy, worstError}
+use Rattle.nls.specs.Judging.{Verdict, contradiction, Judged}
+
+-- "N=2, L=1, raster rows 5 -3 0 0 / 0 1 2 0 / 0 0 0 -1 / 0 0 0 0."
+unfoldable pub raster : List ℤ
+raster =
+    pos 5 ∷ negsuc 2 ∷ pos 0 ∷ pos 0 ∷ pos 0 ∷ pos 1 ∷ pos 2 ∷ pos 0
+    ∷ pos 0 ∷ pos 0 ∷ pos 0 ∷ negsuc 0 ∷ pos 0 ∷ pos 0 ∷ pos 0 ∷ pos 0 ∷ []
+
+-- "linear: 5 -3 0 1, 0 0 2 0, 0 0 0 0, 0 -1 0 0; P = 3"
+unfoldable pub linear : List ℤ
+linear =
+    pos 5 ∷ negsuc 2 ∷ pos 0 ∷ pos 1 ∷ pos 0 ∷ pos 0 ∷ pos 2 ∷ pos 0
+    ∷ pos 0 ∷ pos 0 ∷ pos 0 ∷ pos 0 ∷ pos 0 ∷ negsuc 0 ∷ pos 0 ∷ pos 0 ∷ []
+
+unfoldable pub whole : List Bool
+whole = stream 2 1 3 linear
+
+-- the values and the worst error after the first n bits
+unfoldable pub valuesAt : ℕ → List ℤ
+valuesAt n = valuesBy 2 1 3 (take n whole) midpoint
+
+unfoldable pub errorAt : ℕ → ℕ
+errorAt n = worstError 2 1 3 (take n whole)
+
+-- a sample: what the definitions give, and what the document says
+pub data Sample : Type 0 where
+  coefficients : List ℤ → List ℤ → Sample
+  numbers : List ℕ → List ℕ → Sample
+  judged : ℕ → List Bool → Verdict → Sample
+
+abbrev pub Holds : Sample → Type 0
+Holds (coefficients given said) = given ≡ said
+Holds (numbers given said) = given ≡ said
+Holds (judged P bits verdict) = Judged 2 1 P bits verdict
+
+abbrev pub Each : List Sample → Type 0
+Each [] = Unit {0}
+Each (s ∷ rest) = Holds s × Each rest
+
+unfoldable pub samples : List Sample
+samples =
+    coefficients (linearly 2 raster) linear
+    ∷ numbers (planesOf linear ∷ []) (3 ∷ [])
+    -- "planes take 8, 13, 16 bits; 7, 10, 13 parts stand; 0, 1, 1 sets are split; 37 = 30 + 2 + 5"
+    ∷ numbers (map (λ b. length (during 2 b (begin 2 1 3) whole)) (2 ∷ 1 ∷ 0 ∷ [])) (8 ∷ 13 ∷ 16 ∷ [])
+    ∷ numbers (map (λ b. parts 2 1 linear b) (2 ∷ 1 ∷ 0 ∷ [])) (7 ∷ 10 ∷ 13 ∷ [])
+    ∷ numbers (map (λ b. splitsIn 2 1 linear b) (2 ∷ 1 ∷ 0 ∷ [])) (0 ∷ 1 ∷ 1 ∷ [])
+    ∷ numbers (length whole ∷ sumTo 3 (λ b. parts 2 1 linear b) ∷ splits 2 1 linear 0 ∷ nonzeros 2 1 linear ∷ []) (37 ∷ 30 ∷ 2 ∷ 5 ∷ [])
+    -- "body 80 C9 02 0B 30"
+    ∷ numbers (packed whole) (0x80 ∷ 0xC9 ∷ 0x02 ∷ 0x0B ∷ 0x30 ∷ [])
+    -- "1 bit: all 0. 2 bits: place 0 is 6"
+    ∷ coefficients (valuesAt 1) (replicate 16 (pos 0))
+    ∷ coefficients (valuesAt 2) (pos 6 ∷ replicate 15 (pos 0))
+    -- "8 bits: place 0 is 6, worst error 3. 9 bits: the same values"
+    ∷ coefficients (valuesAt 8) (pos 6 ∷ replicate 15 (pos 0))
+    ∷ numbers (errorAt 8 ∷ []) (3 ∷ [])
+    ∷ coefficients (valuesAt 9) (pos 6 ∷ replicate 15 (pos 0))
+    -- "21 bits: 5, -3, place 6 is 3, others 0; worst error 1"
+    ∷ coefficients (valuesAt 21) (pos 5 ∷ negsuc 2 ∷ pos 0 ∷ pos 0 ∷ pos 0 ∷ pos 0 ∷ pos 3 ∷ replicate 9 (pos 0))
+    ∷ numbers (errorAt 21 ∷ []) (1 ∷ [])
+    -- "P=1, body 0000000: refusal 12 at bit 6", "P=1, body 000010000: refusal 12 at bit 8"
+    ∷ judged 1 (replicate 7 false) (contradiction 6)
+    ∷ judged 1 (replicate 4 false ++ (true ∷ replicate 4 false)) (contradiction 8)
+    -- "worst body for N=2, L=1, P=3 is 67"
+    ∷ numbers (worstBody 2 1 3 ∷ []) (67 ∷ [])
+    ∷ []
