@@ -97,7 +97,6 @@ pub bit-mod : (x n b : ℕ) → b < n → bit (x % 2 ^ n) b ≡ bit x b
 unfolding bit
 bit-mod x n b h =
     let m : n ≡ (n - b - 1 + 1) + b = omega arith in
-    let w : n - b - 1 + 1 ≡ (n - b - 1) + 1 = omega arith in
     ap (λ (y : ℕ). eqb (y % 2) 1) (ap (λ (e : ℕ). x % 2 ^ e / 2 ^ b) m ∙ field x (n - b - 1 + 1) b)
     ∙ ap (λ (y : ℕ). eqb y 1) (mod-mod-pow (x / 2 ^ b) (n - b - 1) 1)
 
