@@ -1,8 +1,8 @@
 -- Coefficients (document 01, "Sizes").
-use Prim.Native.Nat.{ℕ, zero, suc, max, _≤_, _<_, _^_}
+use Prim.Native.Nat.{ℕ, zero, suc, max, _/_, _≤_, _<_, _^_}
 use mathlib.Core.Bool.{Bool, true, false, cond}
 use mathlib.Core.List.{List, [], _∷_}
-use lib.Dec.{leb, ltb, eqb}
+use lib.Dec.{leb, eqb}
 use lib.ListN.{length, getD}
 use lib.IntN.{ℤ, pos, negsuc, natAbs, negℤ}
 use lib.Ieee.{binary32, ofInt}
@@ -61,17 +61,19 @@ pub record IsPlanes (A : List ℤ) (P : ℕ) : Type 0 where
   pub below : (i : ℕ) → magAt A i < 2 ^ P
   pub least : (R : ℕ) → ((i : ℕ) → magAt A i < 2 ^ R) → P ≤ R
 
--- the same number, computed: the least k, from k on and in at most n steps, with x below 2^k, for the largest magnitude
+-- the same number, computed: how many binary digits the largest magnitude has
 unfoldable pub largest : List ℤ → ℕ
 largest [] = 0
 largest (z ∷ rest) = max (magnitude z) (largest rest)
 
-unfoldable pub powerFrom : ℕ → ℕ → ℕ → ℕ
-powerFrom zero k x = k
-powerFrom (suc n) k x = cond (ltb x (2 ^ k)) k (powerFrom n (suc k) x)
+-- the binary digits of x, counted up to n
+unfoldable pub digits : ℕ → ℕ → ℕ
+digits zero x = 0
+digits (suc n) zero = 0
+digits (suc n) (suc x) = suc (digits n (suc x / 2))
 
 unfoldable pub planesOf : List ℤ → ℕ
-planesOf A = powerFrom (largest A) 0 (largest A)
+planesOf A = digits (largest A) (largest A)
 
 -- "Each coefficient handed to the audio engine as a 32-bit float equals its whole number exactly .. zero gives plus zero"
 abbrev pub floatOf : ℤ → Float

@@ -12,3 +12,4 @@ pub mod Streams
 pub mod Signs
 pub mod Verdicts
 pub mod Samples
+pub mod Demands

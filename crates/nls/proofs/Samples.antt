@@ -8,7 +8,7 @@ use lib.ListN.{length, take, replicate}
 use Rattle.sizes.specs.Tables.{table}
 use Rattle.bits.specs.Bits.{bit, packed, number}
 use Rattle.places.specs.Order.{linearly, toRaster, rowOf, colOf}
-use Rattle.coef.specs.Coef.{planesOf, largest, powerFrom}
+use Rattle.coef.specs.Coef.{planesOf, largest, digits}
 use Rattle.tree.specs.Tree.{children, descendants, desc, grand, anyIn}
 use Rattle.tree.specs.Summaries.{orAll, descOr, grandOr}
 use Rattle.nls.specs.Marks.{skip, setSkip, pushFrom, pushRoots, startMarks}
@@ -37,7 +37,7 @@ unfolding body
 eight = subst (λ (v : Verdict). Judged 2 1 1 body v) no-child-found (verdict-judged 2 1 small 1 body)
 
 pub all-samples : Each samples
-unfolding body raster linear whole valuesAt errorAt samples table bit packed number linearly toRaster rowOf colOf planesOf largest powerFrom
+unfolding body raster linear whole valuesAt errorAt samples table bit packed number linearly toRaster rowOf colOf planesOf largest digits
     children descendants desc grand anyIn flatMap orAll descOr grandOr skip setSkip pushFrom pushRoots startMarks
     silently settle ask next reach start answer answers worstBody stream during
     sumTo found descSplit grandSplit standsAlone descStands grandStands parts splits nonzeros learned valueBy
