@@ -7,3 +7,5 @@ pub mod Joined
 pub mod Kept
 pub mod Lists
 pub mod Streams
+pub mod HighBits
+pub mod Known
