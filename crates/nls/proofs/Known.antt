@@ -24,6 +24,7 @@ use Rattle.nls.specs.Stream.{begin, after}
 use Rattle.nls.specs.Reading.{Known, nothing, noted, learn, learnAt, learned, known, lastPlane, precisionAt}
 use Rattle.nls.proofs.Counting.Sums.{order}
 use Rattle.nls.proofs.Machine.Run.{quiet-settled}
+use Rattle.nls.proofs.Kept.{ones, AfterMove, settle-keeps}
 use Rattle.nls.proofs.HighBits.{mag-signed}
 
 -- A split writes no mark from 1 to 3.
@@ -84,13 +85,6 @@ module _ (I : ℕ) where
       on true o = old-set (4 * i) 6 (omega arith) o
       on false o = o
 
-ones : (a b j : ℕ) → getD (replicate a 1 ++ replicate b 0) j 0 ≤ 1
-ones zero zero j = omega arith
-ones zero (suc b) zero = omega arith
-ones zero (suc b) (suc j) = ones zero b j
-ones (suc a) b zero = omega arith
-ones (suc a) b (suc j) = ones a b j
-
 -- Multiples of powers of 2.
 lower-round : (b p x : ℕ) → b ≤ p → x % 2 ^ p ≡ 0 → x % 2 ^ b ≡ 0
 lower-round b p x h e =
@@ -108,7 +102,7 @@ room p P x h e l =
     omega (arith, add-mul (x / 2 ^ p) 1 (2 ^ p), mul-le-mul-right {m = x / 2 ^ p + 1} {n = 2 ^ (P - p)} (2 ^ p) (omega arith))
 
 -- The refinement pass is still to come to place j.
-abbrev Due : Pass → ℕ → ℕ → Type 0
+abbrev pub Due : Pass → ℕ → ℕ → Type 0
 Due pixels i j = Unit {0}
 Due sets i j = Unit {0}
 Due refining i j = i ≤ j
@@ -128,7 +122,7 @@ pub record Sound (I P : ℕ) (s : State) (k : Known) : Type 0 where
   pub inside : s .pending ≡ true → 1 ≤ s .left → s .place < I
 
 -- what holds of the coefficient at j after that at i is noted: by whether it is that one
-by-place : (k : Known) (i b : ℕ) (z : ℤ) → i < length (k .bits) → i < length (k .planes) → (F : ℤ → ℕ → Type 0) (j : ℕ)
+pub by-place : (k : Known) (i b : ℕ) (z : ℤ) → i < length (k .bits) → i < length (k .planes) → (F : ℤ → ℕ → Type 0) (j : ℕ)
     → (j ≡ i → F z b) → ((j ≡ i → ⊥) → F (at (k .bits) j) (getD (k .planes) j 0)) → F (at (set (k .bits) i z) j) (getD (set (k .planes) i b) j 0)
 by-place k i b z hb hp F j f g = on (ℕ-discrete j i)
   where
@@ -170,9 +164,7 @@ module _ (I P : ℕ) where
   }
 
   abbrev Quiet : Known → Look → Type 0
-  Quiet k over = Unit {0}
-  Quiet k (silent t) = Sound I P t k
-  Quiet k (asks q) = Unit {0}
+  Quiet k = AfterMove I (λ t. Sound I P t k)
 
   quiet-pixels : (b i : ℕ) (m : List ℕ) (k : Known) (x y : Bool) → Sound I P (scan.at (suc b) pixels i m) k → Quiet k (lookPixels b i m x y)
   quiet-pixels b i m k false y h = moved h (omega arith) (λ e. absurd (false≢true e)) (λ j hj e d. h .fresh j hj e tt) (λ j hj a b. (a, b))
@@ -209,20 +201,8 @@ module _ (I P : ℕ) where
   quiet-look (suc b) sets i false m k h = quiet-sets b i m k (ltb i I) (eqb (getD m i 0) 5) (eqb (getD m i 0) 6) (eqb (getD m i 0) 4) h
   quiet-look (suc b) refining i false m k h = quiet-refining b i m k (ltb i I) (eqb (getD m i 0) 3) (eqb (getD m i 0) 2) refl h
 
-  sound-silently : (n : ℕ) (s : State) (k : Known) → Sound I P s k → Sound I P (silently I n s) k
-  unfolding silently
-  sound-silently zero s k h = h
-  sound-silently (suc n) s k h = on (look I s) (quiet-look (s .left) (s .pass) (s .place) (s .pending) (s .marks) k h) (sound-silently n)
-    where
-      on : (L : Look) → Quiet k L → ((t : State) (k : Known) → Sound I P t k → Sound I P (silently I n t) k)
-          → Sound I P (elim L as (λ _. State) [ over ↦ s | silent t ↦ silently I n t | asks q ↦ s ]) k
-      on over q ih = h
-      on (silent t) q ih = ih t k q
-      on (asks a) q ih = h
-
   sound-settle : (s : State) (k : Known) → Sound I P s k → Sound I P (settle I s) k
-  unfolding settle
-  sound-settle s k h = sound-silently (movesLeft I s) s k h
+  sound-settle s k = settle-keeps I (λ t. Sound I P t k) (λ t. quiet-look (t .left) (t .pass) (t .place) (t .pending) (t .marks) k) s
 
   -- the coefficient at i is noted in plane b
   noted-sound : {s t : State} {k : Known} (i b : ℕ) (z : ℤ) → Sound I P s k → i < I → s .left ≡ suc b → t .left ≡ suc b → t .pending ≡ false
@@ -385,7 +365,7 @@ module _ (I P : ℕ) where
       let e : b ≡ suc b - 1 = omega arith in
       subst (λ (c : ℕ). Answered c p a k (tellAt I (suc b) p i w m a) (lookAt I (suc b) p i w m)) e (answered-in b p i w m a k h)
 
-  sound-next : (s : State) (k : Known) (a : Bool) → ((t : State) → look I s ≡ silent t → ⊥) → Sound I P s k → Sound I P (next I s a) (learnAt (ask I s) s a k)
+  pub sound-next : (s : State) (k : Known) (a : Bool) → ((t : State) → look I s ≡ silent t → ⊥) → Sound I P s k → Sound I P (next I s a) (learnAt (ask I s) s a k)
   unfolding next ask
   sound-next s k a q h = sound-settle (tell I s a) (learnAt (asked I (look I s)) s a k) (on (look I s) refl (answered (s .left) (s .pass) (s .place) (s .pending) (s .marks) a k h))
     where
@@ -394,7 +374,7 @@ module _ (I P : ℕ) where
       on (silent t) e h = absurd (q t e)
       on (asks r) e h = h
 
-  next-settled : (s : State) (a : Bool) (t : State) → look I (next I s a) ≡ silent t → ⊥
+  pub next-settled : (s : State) (a : Bool) (t : State) → look I (next I s a) ≡ silent t → ⊥
   unfolding next settle
   next-settled s a t e = quiet-settled I (movesLeft I (tell I s a)) (tell I s a) t (omega arith) e
 
@@ -416,7 +396,7 @@ module _ (N L P : ℕ) where
   planes-0 : (j : ℕ) → j < I → getD (replicate I P) j 0 ≡ P
   planes-0 j hj = getD-replicate I j P 0 hj
 
-  sound-begin : Sound I P (begin N L P) (nothing N P)
+  pub sound-begin : Sound I P (begin N L P) (nothing N P)
   unfolding start
   sound-begin = sound-settle I P (scan.at P pixels 0 (startMarks I D)) (nothing N P) (record {
     longBits = length-replicate I (pos 0);
@@ -431,7 +411,7 @@ module _ (N L P : ℕ) where
     inside = λ e o. absurd (false≢true e);
   })
 
-  begin-settled : (t : State) → look I (begin N L P) ≡ silent t → ⊥
+  pub begin-settled : (t : State) → look I (begin N L P) ≡ silent t → ⊥
   unfolding start settle
   begin-settled t e = quiet-settled I (movesLeft I (scan.at P pixels 0 (startMarks I D))) (scan.at P pixels 0 (startMarks I D)) t (omega arith) e
 

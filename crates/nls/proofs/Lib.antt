@@ -9,3 +9,4 @@ pub mod Lists
 pub mod Streams
 pub mod HighBits
 pub mod Known
+pub mod KnownBits
