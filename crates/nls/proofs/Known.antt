@@ -2,7 +2,6 @@
 use mathlib.Core.Path.{_≡_, refl, sym, ap, subst, _∙_}
 use mathlib.Core.Bool.{Bool, true, false, true≢false, false≢true}
 use mathlib.Core.Logic.{_⊎_, inl, inr, ⊎-elim}
-use mathlib.Core.Option.{Option, none, some}
 use mathlib.Core.List.{List, [], _∷_, _++_}
 use Prim.Native.Nat.{ℕ, zero, suc, _+_, _*_, _-_, _/_, _%_, _^_, _≤_, _<_}
 use native.Mathlib.Omega.{arith}
@@ -13,13 +12,13 @@ use lib.IntN.{ℤ, pos}
 use lib.ListN.{length, getD, set, replicate, length-set, length-replicate, getD-replicate, List·getD-eq-default}
 use lib.Pow.{pow-lt, split, pow-add, mod-mod-pow}
 use lib.Seq.{getD-set-same, getD-set-other, set-out, set-getD}
-use borrow.Author.Tests.{ltb-true, eqb-true, eqb-false}
+use borrow.Author.Tests.{ltb-true, eqb-true}
 use Rattle.sizes.specs.Sizes.{allOf, coarsestOf}
 use Rattle.bits.specs.Bits.{digit}
 use Rattle.coef.specs.Coef.{at, magAt, magnitude, negative, signed}
 use Rattle.nls.specs.Marks.{pushFrom, push, splitDesc, splitGrand, pushRoots, startMarks}
 use Rattle.nls.specs.Scan as scan
-use Rattle.nls.specs.Scan.{State, Look, over, silent, asks, Question, bitOf, signOf, inDesc, inGrand, Pass, pixels, sets, refining, look, lookAt, lookPixels, lookSets, lookRefining, tell, tellAt, tellSets, silently, settle, movesLeft, ask, asked, next, reach, start}
+use Rattle.nls.specs.Scan.{State, Look, over, silent, asks, Pass, pixels, sets, refining, look, lookAt, lookPixels, lookSets, lookRefining, tell, tellAt, tellSets, settle, movesLeft, ask, asked, next, reach, start}
 use Rattle.nls.specs.Stream.{begin, after}
 use Rattle.nls.specs.Reading.{Known, nothing, noted, learn, learnAt, learned, known, lastPlane, precisionAt}
 use Rattle.nls.proofs.Counting.Sums.{order}
@@ -86,7 +85,7 @@ module _ (I : ℕ) where
       on false o = o
 
 -- Multiples of powers of 2.
-lower-round : (b p x : ℕ) → b ≤ p → x % 2 ^ p ≡ 0 → x % 2 ^ b ≡ 0
+pub lower-round : (b p x : ℕ) → b ≤ p → x % 2 ^ p ≡ 0 → x % 2 ^ b ≡ 0
 lower-round b p x h e =
     sym (mod-mod-pow x (p - b) b)
     ∙ ap (λ (n : ℕ). x % 2 ^ n % 2 ^ b) {x = p - b + b} {y = p} (omega arith)
@@ -94,7 +93,7 @@ lower-round b p x h e =
     ∙ zero-mod (2 ^ b)
 
 -- below 2^P there is room for one more 2^p
-room : (p P x : ℕ) → p ≤ P → x % 2 ^ p ≡ 0 → x < 2 ^ P → x + 2 ^ p ≤ 2 ^ P
+pub room : (p P x : ℕ) → p ≤ P → x % 2 ^ p ≡ 0 → x < 2 ^ P → x + 2 ^ p ≤ 2 ^ P
 room p P x h e l =
     let whole : 2 ^ P ≡ 2 ^ (P - p) * 2 ^ p = ap (λ (n : ℕ). 2 ^ n) {x = P} {y = P - p + p} (omega arith) ∙ pow-add 2 (P - p) p in
     let part : x / 2 ^ p * 2 ^ p ≡ x = omega (arith, split x p) in
@@ -107,8 +106,8 @@ Due pixels i j = Unit {0}
 Due sets i j = Unit {0}
 Due refining i j = i ≤ j
 
--- Of a scan at s, with k known: all lists are of length I; planes are those of the plane in progress or above;
--- a coefficient that is yet to be refined has no bit of the plane in progress; one that was found is not 0; magnitudes are below 2^P, and have no bit below their plane.
+-- Of a scan at s, with k known: planes are that in progress or above it, at most P; a coefficient that is yet to be refined has no bit of
+-- the plane in progress; one that was found is not 0; magnitudes are below 2^P and have no bit below their plane; a sign is asked below I.
 pub record Sound (I P : ℕ) (s : State) (k : Known) : Type 0 where
   pub longBits : length (k .bits) ≡ I
   pub longPlanes : length (k .planes) ≡ I
@@ -163,20 +162,30 @@ module _ (I P : ℕ) where
     inside = λ e o. w e;
   }
 
+  -- to another place or pass of the same plane
+  passed : {k : Known} {l i n : ℕ} {p r : Pass} {m : List ℕ} → Sound I P (scan.at l p i m) k → ((j : ℕ) → Due r n j → Due p i j) → Sound I P (scan.at l r n m) k
+  passed h f = moved h (omega arith) (λ e. absurd (false≢true e)) (λ j hj e d. h .fresh j hj e (f j d)) (λ j hj x y. (x, y))
+
+  -- a split
+  parted : {k : Known} {l i : ℕ} {m n : List ℕ} → Sound I P (scan.at l sets i m) k → Old m n → Sound I P (scan.at l sets i n) k
+  parted h o =
+      moved h (omega arith) (λ e. absurd (false≢true e)) (λ j hj e d. h .fresh j hj (o .same j (omega arith) (omega arith) ∙ e) tt)
+      (λ j hj x y. (omega (arith, o .same j (omega arith) y), omega (arith, o .same j (omega arith) y)))
+
   abbrev Quiet : Known → Look → Type 0
   Quiet k = AfterMove I (λ t. Sound I P t k)
 
   quiet-pixels : (b i : ℕ) (m : List ℕ) (k : Known) (x y : Bool) → Sound I P (scan.at (suc b) pixels i m) k → Quiet k (lookPixels b i m x y)
-  quiet-pixels b i m k false y h = moved h (omega arith) (λ e. absurd (false≢true e)) (λ j hj e d. h .fresh j hj e tt) (λ j hj a b. (a, b))
+  quiet-pixels b i m k false y h = passed h (λ j d. tt)
   quiet-pixels b i m k true true h = tt
-  quiet-pixels b i m k true false h = moved h (omega arith) (λ e. absurd (false≢true e)) (λ j hj e d. h .fresh j hj e tt) (λ j hj a b. (a, b))
+  quiet-pixels b i m k true false h = passed h (λ j d. tt)
 
   quiet-sets : (b i : ℕ) (m : List ℕ) (k : Known) (x d g c : Bool) → Sound I P (scan.at (suc b) sets i m) k → Quiet k (lookSets b i m x d g c)
-  quiet-sets b i m k false d g c h = moved h (omega arith) (λ e. absurd (false≢true e)) (λ j hj e d. h .fresh j hj e tt) (λ j hj a b. (a, b))
+  quiet-sets b i m k false d g c h = passed h (λ j d. tt)
   quiet-sets b i m k true true g c h = tt
   quiet-sets b i m k true false true c h = tt
   quiet-sets b i m k true false false true h = tt
-  quiet-sets b i m k true false false false h = moved h (omega arith) (λ e. absurd (false≢true e)) (λ j hj e d. h .fresh j hj e tt) (λ j hj a b. (a, b))
+  quiet-sets b i m k true false false false h = passed h (λ j d. tt)
 
   quiet-refining : (b i : ℕ) (m : List ℕ) (k : Known) (x s n : Bool) → eqb (getD m i 0) 2 ≡ n → Sound I P (scan.at (suc b) refining i m) k → Quiet k (lookRefining b i m x s n)
   quiet-refining b i m k false s n en h = moved h (omega arith) (λ e. absurd (false≢true e)) (λ j hj e d. omega (arith, h .least j hj)) (λ j hj a b. (a, b))
@@ -192,7 +201,7 @@ module _ (I P : ℕ) where
           on : Dec (j ≡ i) → (2 ≤ getD m j 0) × (getD m j 0 ≤ 3)
           on (yes q) = let z : getD m j 0 ≡ 2 = ap (λ (x : ℕ). getD m x 0) q ∙ eqb-true (getD m i 0) 2 en in (omega arith, omega arith)
           on (no q) = let z : getD (set m i 3) j 0 ≡ getD m j 0 = getD-set-other m i j 3 0 q in (omega arith, omega arith)
-  quiet-refining b i m k true false false en h = moved h (omega arith) (λ e. absurd (false≢true e)) (λ j hj e d. h .fresh j hj e (omega arith)) (λ j hj a b. (a, b))
+  quiet-refining b i m k true false false en h = passed h (λ j d. omega arith)
 
   quiet-look : (l : ℕ) (p : Pass) (i : ℕ) (w : Bool) (m : List ℕ) (k : Known) → Sound I P (record { left = l; pass = p; place = i; pending = w; marks = m }) k → Quiet k (lookAt I l p i w m)
   quiet-look zero p i w m k h = tt
@@ -216,7 +225,7 @@ module _ (I P : ℕ) where
     left = omega (arith, h .left);
     most = λ j hj. at-plane (λ n. n ≤ P) j (λ e. omega (arith, h .left)) (λ e. h .most j hj);
     least = λ j hj. at-plane (λ n. t .left ≤ suc n) j (λ e. omega arith) (λ e. omega (arith, h .least j hj));
-    fresh = λ j hj e d. (let r : (j ≡ i → ⊥) × (getD (s .marks) j 0 ≡ 3) × Due (s .pass) (s .place) j = fr j hj e d in at-plane (λ n. t .left ≤ n) j (λ q. absurd (r .0 q)) (λ q. omega (arith, h .fresh j hj (r .1) (r .2))));
+    fresh = λ j hj e d. at-plane (λ n. t .left ≤ n) j (λ q. absurd (fr j hj e d .0 q)) (λ q. omega (arith, h .fresh j hj (fr j hj e d .1) (fr j hj e d .2)));
     found = λ o j hj x y. at-bits (λ z. 1 ≤ magnitude z) j (fd j hj x y .0) (λ q. h .found (omega arith) j hj (fd j hj x y .1 q .0) (fd j hj x y .1 q .1));
     range = λ j hj. at-bits (λ z. magnitude z < 2 ^ P) j (λ e. small) (λ e. h .range j hj);
     round = λ j hj. by-place k i b z (omega (arith, h .longBits)) (omega (arith, h .longPlanes)) (λ z n. magnitude z % 2 ^ n ≡ 0) j (λ e. whole) (λ e. h .round j hj);
@@ -312,19 +321,17 @@ module _ (I P : ℕ) where
   answered-sets : (b i : ℕ) (m : List ℕ) (a : Bool) (k : Known) (x d g c : Bool) → ltb i I ≡ x → Sound I P (scan.at (suc b) sets i m) k
       → Answered b sets a k (tellSets I (suc b) i m a d g) (lookSets b i m x d g c)
   answered-sets b i m a k false d g c ex h = tt
-  answered-sets b i m true k true true g c ex h =
-      let o : Old m (splitDesc I i m (ltb (4 * i) I)) = old-desc I i m (ltb (4 * i) I) in
-      moved h (omega arith) (λ e. absurd (false≢true e)) (λ j hj e d. h .fresh j hj (o .same j (omega arith) (omega arith) ∙ e) tt) (λ j hj x y. (omega (arith, o .same j (omega arith) y), omega (arith, o .same j (omega arith) y)))
-  answered-sets b i m false k true true g c ex h = moved h (omega arith) (λ e. absurd (false≢true e)) (λ j hj e d. h .fresh j hj e tt) (λ j hj x y. (x, y))
-  answered-sets b i m true k true false true c ex h =
-      let o : Old m (splitGrand I i m) = old-grand I i m in
-      moved h (omega arith) (λ e. absurd (false≢true e)) (λ j hj e d. h .fresh j hj (o .same j (omega arith) (omega arith) ∙ e) tt) (λ j hj x y. (omega (arith, o .same j (omega arith) y), omega (arith, o .same j (omega arith) y)))
-  answered-sets b i m false k true false true c ex h = moved h (omega arith) (λ e. absurd (false≢true e)) (λ j hj e d. h .fresh j hj e tt) (λ j hj x y. (x, y))
+  answered-sets b i m true k true true g c ex h = parted h (old-desc I i m (ltb (4 * i) I))
+  answered-sets b i m false k true true g c ex h = passed h (λ j d. tt)
+  answered-sets b i m true k true false true c ex h = parted h (old-grand I i m)
+  answered-sets b i m false k true false true c ex h = passed h (λ j d. tt)
   answered-sets b i m true k true false false true ex h = moved h (omega arith) (λ e. ltb-true i I ex) (λ j hj e d. h .fresh j hj e tt) (λ j hj x y. (x, y))
   answered-sets b i m false k true false false true ex h =
       zero-sound i b h (ltb-true i I ex) refl refl refl
       (λ j hj e d. (let o : (j ≡ i → ⊥) × (getD m j 0 ≡ 3) = other-mark m i 1 j 3 e (λ q. omega arith) (omega arith) in (o .0, o .1, tt)))
-      (λ j hj x y. (let o : (j ≡ i → ⊥) × (getD m j 0 ≡ getD (set m i 1) j 0) = other-mark m i 1 j (getD (set m i 1) j 0) refl (λ q. omega arith) (omega arith) in (o .0, omega arith, omega arith)))
+      (λ j hj x y.
+      let o : (j ≡ i → ⊥) × (getD m j 0 ≡ getD (set m i 1) j 0) = other-mark m i 1 j (getD (set m i 1) j 0) refl (λ q. omega arith) (omega arith) in
+      (o .0, omega arith, omega arith))
   answered-sets b i m a k true false false false ex h = tt
 
   answered-refining : (b i : ℕ) (m : List ℕ) (a : Bool) (k : Known) (x s n : Bool) → ltb i I ≡ x → eqb (getD m i 0) 3 ≡ s → Sound I P (scan.at (suc b) refining i m) k
@@ -367,7 +374,9 @@ module _ (I P : ℕ) where
 
   pub sound-next : (s : State) (k : Known) (a : Bool) → ((t : State) → look I s ≡ silent t → ⊥) → Sound I P s k → Sound I P (next I s a) (learnAt (ask I s) s a k)
   unfolding next ask
-  sound-next s k a q h = sound-settle (tell I s a) (learnAt (asked I (look I s)) s a k) (on (look I s) refl (answered (s .left) (s .pass) (s .place) (s .pending) (s .marks) a k h))
+  sound-next s k a q h =
+      sound-settle (tell I s a) (learnAt (asked I (look I s)) s a k)
+      (on (look I s) refl (answered (s .left) (s .pass) (s .place) (s .pending) (s .marks) a k h))
     where
       on : (L : Look) → look I s ≡ L → Answered (s .left - 1) (s .pass) a k (tell I s a) L → Sound I P (tell I s a) (learnAt (asked I L) s a k)
       on over e h = h
@@ -377,6 +386,12 @@ module _ (I P : ℕ) where
   pub next-settled : (s : State) (a : Bool) (t : State) → look I (next I s a) ≡ silent t → ⊥
   unfolding next settle
   next-settled s a t e = quiet-settled I (movesLeft I (tell I s a)) (tell I s a) t (omega arith) e
+
+-- bits after bits
+pub learned-append : (N : ℕ) (s : State) (k : Known) (u v : List Bool) → learned N s k (u ++ v) ≡ learned N (reach (allOf N) s u) (learned N s k u) v
+unfolding reach learned
+learned-append N s k [] v = refl
+learned-append N s k (a ∷ u) v = learned-append N (next (allOf N) s a) (learnAt (ask (allOf N) s) s a k) u v
 
 sound-run : (N P : ℕ) (s : State) (k : Known) (u : List Bool) → ((t : State) → look (allOf N) s ≡ silent t → ⊥) → Sound (allOf N) P s k → Sound (allOf N) P (reach (allOf N) s u) (learned N s k u)
 unfolding reach learned

@@ -2,29 +2,27 @@
 use mathlib.Core.Path.{_≡_, refl, sym, ap, subst, _∙_}
 use mathlib.Core.Bool.{Bool, true, false, _&&_, _||_, true≢false, false≢true}
 use mathlib.Core.Logic.{_⊎_, inl, inr, ⊎-elim}
-use mathlib.Core.Option.{Option, none, some}
 use mathlib.Core.List.{List, [], _∷_}
-use Prim.Native.Nat.{ℕ, zero, suc, _+_, _*_, _-_, _/_, _%_, _^_, _≤_, _<_, min}
+use Prim.Native.Nat.{ℕ, zero, suc, _+_, _*_, _-_, _%_, _^_, _≤_, _<_}
 use native.Mathlib.Omega.{arith}
 use native.Mathlib.Nat.{min-le-left}
-use native.Mathlib.Decide.{ℕ-discrete, decLt}
+use native.Mathlib.Decide.{ℕ-discrete}
 use lib.Dec.{ltb, eqb}
 use lib.IntN.{ℤ, pos}
-use lib.ListN.{length, getD, set, getD-replicate}
+use lib.ListN.{getD, set, getD-replicate}
 use lib.Seq.{set-getD}
-use borrow.Author.Tests.{ltb-true, eqb-true, eqb-false}
+use borrow.Author.Tests.{ltb-true, eqb-true}
 use Rattle.sizes.specs.Sizes.{allOf, coarsestOf, Sized}
 use Rattle.sizes.proofs.Laws.{coarsest-least, coarsest-four, all-sixteen, coarsest-all}
 use Rattle.bits.specs.Bits.{bit, digit}
 use Rattle.coef.specs.Coef.{at, magAt, magnitude, negative, signed}
 use Rattle.nls.specs.Scan as scan
-use Rattle.nls.specs.Scan.{State, Look, over, silent, asks, Question, bitOf, signOf, inDesc, inGrand, Pass, pixels, sets, refining, look, lookAt, lookPixels, lookSets, lookRefining, tell, tellAt, tellSets, settle, ask, asked, next, reach}
+use Rattle.nls.specs.Scan.{State, Look, over, silent, asks, bitOf, signOf, Pass, pixels, sets, refining, look, lookAt, lookPixels, lookSets, lookRefining, tell, tellAt, tellSets, settle, ask, asked, next, reach}
 use Rattle.nls.specs.Stream.{begin, after}
-use Rattle.nls.specs.Reading.{Known, nothing, noted, learn, learnAt, learned, known, highBits, lastPlane, precisionAt}
+use Rattle.nls.specs.Reading.{Known, nothing, noted, learn, learnAt, learned, known, highBits, precisionAt}
 use Rattle.nls.specs.Judging.{Begins}
 use Rattle.nls.proofs.Arrays.{Bits, bits-of, ans}
 use Rattle.nls.proofs.Judging.Most.{told, Fits}
-use Rattle.nls.proofs.Judging.Numbers.{bit-hi}
 use Rattle.nls.proofs.Machine.Table.{Cfg, alone}
 use Rattle.nls.proofs.Machine.Cover.{Core, More, is-alone}
 use Rattle.nls.proofs.Machine.Steps.{Good-at, From, preds}

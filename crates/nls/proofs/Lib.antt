@@ -10,3 +10,4 @@ pub mod Streams
 pub mod HighBits
 pub mod Known
 pub mod KnownBits
+pub mod Values
