@@ -21,7 +21,7 @@ zeros zero y = omega arith
 zeros (suc k) zero = omega arith
 zeros (suc k) (suc y) = zeros k y
 
-ones : (D k y : ℕ) → getD (replicate D 1 ++ replicate k 0) y 0 ≤ 1
+pub ones : (D k y : ℕ) → getD (replicate D 1 ++ replicate k 0) y 0 ≤ 1
 ones zero k y = zeros k y
 ones (suc D) k zero = omega arith
 ones (suc D) k (suc y) = ones D k y

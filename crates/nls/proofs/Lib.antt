@@ -11,5 +11,9 @@ pub mod Counts
 pub mod Streams
 pub mod Signs
 pub mod Verdicts
+pub mod HighBits
+pub mod Known
+pub mod KnownBits
+pub mod Values
 pub mod Samples
 pub mod Demands

@@ -45,7 +45,7 @@ module _ (N D P : ℕ) (D-big : 4 ≤ D) (D-4 : D % 4 ≡ 0) (I-16 : 4 ^ N % 16 
   unfolding _⊑_
   known-below A u f j e h = least-below N State (ask I) (next I) A S u nothing f (λ i b y. absurd (false≢true y)) j e h
 
-  from-good : (F : Fam) (l : ℕ) (p : Pass) (i : ℕ) (s : Bool) (m : List ℕ) → Good-at D I D-big D-4 I-16 P F l p i s m → From D I D-big D-4 I-16 P F l
+  pub from-good : (F : Fam) (l : ℕ) (p : Pass) (i : ℕ) (s : Bool) (m : List ℕ) → Good-at D I D-big D-4 I-16 P F l p i s m → From D I D-big D-4 I-16 P F l
   from-good F zero p i s m g = g .0
   from-good F (suc b) pixels i false m g = g .0
   from-good F (suc b) pixels i true m g = g .0
