@@ -5,25 +5,29 @@ use mathlib.Core.Path.{_≡_, ap, subst}
 use mathlib.Core.Bool.{Bool}
 use mathlib.Core.List.{List}
 use mathlib.Core.Option.{none}
-use lib.IntN.{ℤ, pos}
+use lib.IntN.{ℤ, natAbs, _-ℤ_}
 use lib.ListN.{length, take, replicate}
 use Rattle.sizes.specs.Sizes.{allOf, Sized}
-use Rattle.coef.specs.Coef.{IsPlanes}
+use Rattle.sizes.specs.Tables.{table}
+use Rattle.coef.specs.Coef.{at, IsPlanes}
 use Rattle.nls.specs.Scan.{State, ask}
 use Rattle.nls.specs.Stream.{answers, begin, after, stream, during, worstBody}
 use Rattle.nls.specs.Parts.{sumTo, parts, partSizes, splits, splitsIn, foundIn, nonzeros}
-use Rattle.nls.specs.Judging.{Fits, Verdict, taken, Judged}
+use Rattle.nls.specs.Reading.{midpoint, valueBy, highBits, precisionAt, valuesBy, precisions, planesFinished, worstError}
+use Rattle.nls.specs.Judging.{Begins, Fits, Verdict, taken, Judged}
 use Rattle.nls.proofs.Streams as streams
 use Rattle.nls.proofs.Verdicts as verdicts
+use Rattle.nls.proofs.Values as values
 use Rattle.nls.proofs.Counts as counts
 
 module _ (N L P : ℕ) (sized : Sized N L) where
+  -- ---- DEMAND 2
   module _ (A : List ℤ) (planes : IsPlanes A P) where
-    -- DEMAND 2: "After the same bits, encoder and decoder hold equal tables."
+    -- "After the same bits, encoder and decoder hold equal tables."
     pub in-step : (n : ℕ) → (streams.sent N L A n (begin N L P)) .marks ≡ (after N L P (answers N L A n (begin N L P))) .marks
     in-step n = ap (λ (s : State). s .marks) (streams.in-step N L P A n)
 
-    -- "The encoder writes exactly the bits of the scan, up to the budget."
+    -- "The encoder writes exactly the bits of the scan, up to the budget": the smaller of the budget and the whole stream's length
     pub budget-bits : (n : ℕ) → answers N L A n (begin N L P) ≡ take n (stream N L P A)
     budget-bits n = streams.budget-bits N L sized P A (planes .below) n
 
@@ -34,7 +38,43 @@ module _ (N L P : ℕ) (sized : Sized N L) where
     pub stream-ends : ask (allOf N) (after N L P (stream N L P A)) ≡ none
     stream-ends = streams.ends N L sized P A (planes .below)
 
-    -- DEMAND 3: "The bit count of an uncut stream is parts standing, added over planes, plus splits plus nonzeros"
+  -- "A whole stream decodes to the same array": with precisions 0, all planes finished and worst error 0
+  module _ (A : List ℤ) (size : length A ≡ allOf N) (planes : IsPlanes A P) where
+    pub whole : valuesBy N L P (stream N L P A) midpoint ≡ A
+    whole = values.whole N L sized P A size planes midpoint values.midpoint-exact
+
+    pub whole-precisions : precisions N L P (stream N L P A) ≡ replicate (allOf N) 0
+    whole-precisions = values.whole-precisions N L sized P A size planes
+
+    pub whole-finished : planesFinished N L P (stream N L P A) ≡ P
+    whole-finished = values.whole-finished N L sized P A size planes
+
+    pub whole-error : worstError N L P (stream N L P A) ≡ 0
+    whole-error = values.whole-error N L sized P A size planes
+
+  -- "a shorter one by the reconstruction rule": for every array whose stream begins with the bits u, each value is the rule at that
+  -- coefficient's own bits from its precision up
+  module _ (A : List ℤ) (u : List Bool) (begins : Begins N L P A u) where
+    pub cut : valuesBy N L P u midpoint
+        ≡ table (allOf N) (λ i. valueBy midpoint (precisionAt N L P u i) (highBits (precisionAt N L P u i) (at A i)))
+    cut = values.cut N L sized P A u begins midpoint
+
+    -- "Every array whose stream begins so differs nowhere by more than the worst error."
+    pub near : (i : ℕ) → i < allOf N → natAbs (at (valuesBy N L P u midpoint) i -ℤ at A i) ≤ worstError N L P u
+    near i h = values.near N L sized P A u begins midpoint values.midpoint-between i h
+
+  -- "A body is refused by 12 or 13 exactly when no array of that N, L and P has a stream that begins with its usable bits."
+  -- Every list of bits has one verdict and no other, and it is `taken` exactly where some array fits.
+  pub judged : (u : List Bool) → (v : Verdict) × Judged N L P u v × ((w : Verdict) → Judged N L P u w → w ≡ v)
+  judged u = (verdicts.verdict N L P u, verdicts.verdict-judged N L sized P u, λ w h. verdicts.judged-only N L sized P u w (verdicts.verdict N L P u) h (verdicts.verdict-judged N L sized P u))
+
+  pub refused-exactly : (u : List Bool) (v : Verdict) → Judged N L P u v → (v ≡ taken → Fits N L P u) × (Fits N L P u → v ≡ taken)
+  refused-exactly u v h =
+      ((λ e. subst (λ (w : Verdict). Judged N L P u w) e h), λ fits. verdicts.judged-only N L sized P u v taken h fits)
+
+  -- ---- DEMAND 3
+  module _ (A : List ℤ) (planes : IsPlanes A P) where
+    -- "The bit count of an uncut stream is parts standing, added over planes, plus splits plus nonzeros"
     pub count : length (stream N L P A) ≡ sumTo P (λ b. parts N L A b) + splits N L A 0 + nonzeros N L A
     count = counts.count N L P sized A planes
 
@@ -55,12 +95,3 @@ module _ (N L P : ℕ) (sized : Sized N L) where
   -- "The sizes of the parts that stand always add up to I."
   pub sizes-add-up : (A : List ℤ) (b : ℕ) → partSizes N L A b ≡ allOf N
   sizes-add-up A b = counts.sizes-add-up N L sized A b
-
-  -- DEMAND 2: "A body is refused by 12 or 13 exactly when no array of that N, L and P has a stream that begins with its usable bits."
-  -- Every list of bits has one verdict and no other, and it is `taken` exactly where some array fits.
-  pub judged : (u : List Bool) → (v : Verdict) × Judged N L P u v × ((w : Verdict) → Judged N L P u w → w ≡ v)
-  judged u = (verdicts.verdict N L P u, verdicts.verdict-judged N L sized P u, λ w h. verdicts.judged-only N L sized P u w (verdicts.verdict N L P u) h (verdicts.verdict-judged N L sized P u))
-
-  pub refused-exactly : (u : List Bool) (v : Verdict) → Judged N L P u v → (v ≡ taken → Fits N L P u) × (Fits N L P u → v ≡ taken)
-  refused-exactly u v h =
-      ((λ e. subst (λ (w : Verdict). Judged N L P u w) e h), λ fits. verdicts.judged-only N L sized P u v taken h fits)
