@@ -5,13 +5,13 @@ use mathlib.Core.Path.{_≡_, ap, subst}
 use mathlib.Core.Bool.{Bool}
 use mathlib.Core.List.{List}
 use mathlib.Core.Option.{none}
-use lib.IntN.{ℤ, natAbs, _-ℤ_}
+use lib.IntN.{ℤ, pos, natAbs, _-ℤ_}
 use lib.ListN.{length, take, replicate}
 use Rattle.sizes.specs.Sizes.{allOf, Sized}
 use Rattle.sizes.specs.Tables.{table}
 use Rattle.coef.specs.Coef.{at, IsPlanes}
 use Rattle.nls.specs.Scan.{State, ask}
-use Rattle.nls.specs.Stream.{answers, begin, after, stream, during, worstBody}
+use Rattle.nls.specs.Stream.{answers, sent, begin, after, stream, during, worstBody}
 use Rattle.nls.specs.Parts.{sumTo, parts, partSizes, splits, splitsIn, foundIn, nonzeros}
 use Rattle.nls.specs.Reading.{midpoint, valueBy, highBits, precisionAt, valuesBy, precisions, planesFinished, worstError}
 use Rattle.nls.specs.Judging.{Begins, Fits, Verdict, taken, Judged}
@@ -24,7 +24,7 @@ module _ (N L P : ℕ) (sized : Sized N L) where
   -- ---- DEMAND 2
   module _ (A : List ℤ) (planes : IsPlanes A P) where
     -- "After the same bits, encoder and decoder hold equal tables."
-    pub in-step : (n : ℕ) → (streams.sent N L A n (begin N L P)) .marks ≡ (after N L P (answers N L A n (begin N L P))) .marks
+    pub in-step : (n : ℕ) → (sent N L A n (begin N L P)) .marks ≡ (after N L P (answers N L A n (begin N L P))) .marks
     in-step n = ap (λ (s : State). s .marks) (streams.in-step N L P A n)
 
     -- "The encoder writes exactly the bits of the scan, up to the budget": the smaller of the budget and the whole stream's length
@@ -89,7 +89,9 @@ module _ (N L P : ℕ) (sized : Sized N L) where
 
   -- "and the bound is reached for each N, L, P": by 2^(P-1) everywhere
   pub reached : 1 ≤ P
-      → (length (counts.flat N P) ≡ allOf N) × IsPlanes (counts.flat N P) P × (length (stream N L P (counts.flat N P)) ≡ worstBody N L P)
+      → (length {A = ℤ} (replicate (allOf N) (pos (2 ^ (P - 1)))) ≡ allOf N)
+      × IsPlanes (replicate (allOf N) (pos (2 ^ (P - 1)))) P
+      × (length (stream N L P (replicate (allOf N) (pos (2 ^ (P - 1))))) ≡ worstBody N L P)
   reached h = counts.reached N L P sized h
 
   -- "The sizes of the parts that stand always add up to I."

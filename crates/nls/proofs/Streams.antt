@@ -12,7 +12,7 @@ use lib.Seq.{take-all}
 use Rattle.sizes.specs.Sizes.{allOf, coarsestOf, Sized}
 use Rattle.coef.specs.Coef.{magAt, IsPlanes}
 use Rattle.nls.specs.Scan.{Question, State, over, pixels, at, look, ask, next, reach}
-use Rattle.nls.specs.Stream.{answer, answers, begin, after, stream}
+use Rattle.nls.specs.Stream.{answer, answers, sent, begin, after, stream}
 use Rattle.nls.specs.Judging.{Begins}
 use Rattle.nls.proofs.Arrays.{bits-of, answersOf}
 use Rattle.nls.proofs.Machine.Run.{Fit, fit-prefix, stream-fits, fits-stream}
@@ -20,11 +20,6 @@ use Rattle.nls.proofs.Joined.Leads.{over-none}
 use Rattle.nls.proofs.Joined.Whole as Whole
 use Rattle.nls.proofs.Kept.{kept-reach}
 use Rattle.nls.proofs.Lists.{arrOf, begin-kept, answers-same, stream-same}
-
--- the encoder's own state: what it answers from A leads it on, at most n times
-unfoldable pub sent : ℕ → ℕ → List ℤ → ℕ → State → State
-sent N L A zero s = s
-sent N L A (suc n) s = elim (ask (allOf N) s) [ none ↦ s | some q ↦ sent N L A n (next (allOf N) s (answer N L A q)) ]
 
 sent-from : (N L : ℕ) (A : List ℤ) (n : ℕ) (s : State) → sent N L A n s ≡ reach (allOf N) s (answers N L A n s)
 unfolding sent answers reach

@@ -27,6 +27,11 @@ answers N L A (suc n) s = elim (ask (allOf N) s) [
   | some q ↦ answer N L A q ∷ answers N L A n (next (allOf N) s (answer N L A q))
 ]
 
+-- the encoder's own state after at most n of these answers
+unfoldable pub sent : ℕ → ℕ → List ℤ → ℕ → State → State
+sent N L A zero s = s
+sent N L A (suc n) s = elim (ask (allOf N) s) [ none ↦ s | some q ↦ sent N L A n (next (allOf N) s (answer N L A q)) ]
+
 -- the scan before its first bit, and after the bits u
 abbrev pub begin : ℕ → ℕ → ℕ → State
 begin N L P = start (allOf N) (coarsestOf N L) P
