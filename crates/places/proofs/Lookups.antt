@@ -1,5 +1,5 @@
 -- What the code's lookups give.
-use mathlib.Core.Path.{_≡_, refl, sym}
+use mathlib.Core.Path.{_≡_, refl, sym, _∙_}
 use mathlib.Core.List.{List}
 use Prim.Native.Nat.{ℕ, _+_, _*_, _-_, _/_, _%_, _^_, _≤_, _<_}
 use native.Mathlib.Nat.{div-add-mod', pow-le-pow-right}
@@ -42,32 +42,26 @@ gathered k q above below ea eb =
       rw (ea, eb, low (rowOf k a) k (col-below k a), low (rowOf k b) k (col-below k b)) (sym (col-parts k k q)),
     )
 
--- places of up to 32 bits: the row and the column have up to 16
-pub side-sixteen : (n : ℕ) → n ≤ 16 → 2 ^ n ≤ 65536
-side-sixteen n h = pow-mono {i = n} {j = 16} h
-
-pub row-sixteen : (n p : ℕ) → n ≤ 16 → p < 4 ^ n → p / 2 ^ n < 65536
-row-sixteen n p h b = omega (arith, raster-row n p b, side-sixteen n h)
-
--- the column as the code takes it
+-- Places of up to 32 bits: rows and columns have up to 16, and the code takes the column by shifts.
 pub col-shifted : (n p : ℕ) → p < 2 ^ 32 → p - (p / 2 ^ n * 2 ^ n) % 2 ^ 32 ≡ p % 2 ^ n
 col-shifted n p h = omega (arith, div-add-mod' p (2 ^ n))
 
--- two spreads of 16 bits, put together
-pub spreads-together : (n p a b : ℕ) → n ≤ 16 → p < 4 ^ n → a ≡ spread 16 (p / 2 ^ n) → b ≡ spread 16 (p % 2 ^ n) → a * 2 + b ≡ toLinear n p
+pub side-sixteen : (n : ℕ) → n ≤ 16 → 2 ^ n ≤ 65536
+side-sixteen n h = pow-mono {i = n} {j = 16} h
+
+pub linear-spreads : (n p : ℕ) → n ≤ 16 → p < 4 ^ n → toLinear n p ≡ spread 16 (p / 2 ^ n) * 2 + spread 16 (p % 2 ^ n)
 unfolding toLinear
-spreads-together n p a b h l ea eb =
+linear-spreads n p h l =
     omega (arith, interleaved-spread n (p / 2 ^ n) (p % 2 ^ n), spread-longer n 16 (p / 2 ^ n) h (raster-row n p l), spread-longer n 16 (p % 2 ^ n) h (raster-col n p))
 
--- the entries for the two halves of a place, put together
 pub raster-fits : (n q : ℕ) → n ≤ 16 → toRaster n q < 2 ^ 32
 raster-fits n q h = omega (arith, raster-below n q, pow-le-pow-right {n = 4} (omega arith) {i = n} {j = 16} h)
 
-pub gathers-together : (n q above below : ℕ) → n ≤ 16 → q < 4 ^ n
+-- row and column out of the entries for the two halves of a place
+pub place-gathered : (n q above below : ℕ) → n ≤ 16 → q < 4 ^ n
     → above ≡ rowOf 8 (q / 65536) * 256 + colOf 8 (q / 65536)
     → below ≡ rowOf 8 (q % 65536) * 256 + colOf 8 (q % 65536)
-    → ((above / 256 * 256 + below / 256) * 2 ^ n) % 2 ^ 32 + (above % 256 * 256 + below % 256) ≡ toRaster n q
-unfolding toRaster
-gathers-together n q above below h l ea eb =
+    → (above / 256 * 256 + below / 256 ≡ rowOf n q) × (above % 256 * 256 + below % 256 ≡ colOf n q)
+place-gathered n q above below h l ea eb =
     let g = gathered 8 q above below ea eb in
-    rw (g .0, g .1, row-longer n 16 q h l, col-longer n 16 q h l) (omega (arith, raster-fits n q h))
+    (g .0 ∙ row-longer n 16 q h l, g .1 ∙ col-longer n 16 q h l)

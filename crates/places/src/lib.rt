@@ -82,7 +82,9 @@ fn interleave(entries: &[u16; 256], n: u32, p: Raster) -> Linear
     let at = p.0;
     let row = at >> n;
     let col = at - (row << n);
-    Linear(tables::spread_of(entries, row) * 2 + tables::spread_of(entries, col))
+    let rows = tables::spread_of(entries, row);
+    let cols = tables::spread_of(entries, col);
+    Linear(rows * 2 + cols)
 }
 
 fn separate(entries: &[u8; 256], n: u32, q: Linear) -> Raster
@@ -181,9 +183,9 @@ pub fn reorder_to_linear(n: u32, from: &[i32], to: &mut [i32]) -> Outcome
     match checked {
         Outcome::Done => {
             fill_linear(n, from, to);
-            Outcome::Done
+            checked
         }
-        Outcome::Refused(why) => Outcome::Refused(why),
+        Outcome::Refused(_) => checked,
     }
 }
 
@@ -195,8 +197,8 @@ pub fn reorder_to_raster(n: u32, from: &[i32], to: &mut [i32]) -> Outcome
     match checked {
         Outcome::Done => {
             fill_raster(n, from, to);
-            Outcome::Done
+            checked
         }
-        Outcome::Refused(why) => Outcome::Refused(why),
+        Outcome::Refused(_) => checked,
     }
 }

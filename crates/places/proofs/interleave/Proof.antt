@@ -1,17 +1,25 @@
-use mathlib.Core.Path.{_∙_, ap}
+use mathlib.Core.Path.{_≡_, ap}
+use Prim.Native.Nat.{_-_, _*_, _/_, _%_, _^_, _<_}
 use native.Mathlib.Nat.{div-add-mod'}
-use Rattle.places.specs.Spread.{spread}
-use Rattle.places.proofs.Laws.{spread-below, raster-col}
-use Rattle.places.proofs.Lookups.{row-sixteen, side-sixteen, col-shifted, spreads-together}
-use mathlib.Core.Path.{_≡_}
-use Prim.Native.Nat.{_-_, _*_, _/_, _%_, _^_}
 use native.Mathlib.Omega.{arith}
+use Rattle.places.specs.Spread.{spread}
+use Rattle.places.proofs.Laws.{spread-below, raster-row, raster-col}
+use Rattle.places.proofs.Lookups.{col-shifted, side-sixteen, linear-spreads}
 use borrow.Author.Needs.{needs}
 use Rattle.places.proofs.interleave.Statement.{statement}
 use Rattle.places.proofs.interleave.Tie as tie
 use Rattle.places.proofs.interleave.Reads as reads
 use Rattle.places.proofs.interleave.Lts as lts
 use Rattle.places.proofs.tables.spread_of.Reads as spread-of-reads
+
+column : (c : tie.Start) → c .args .p .0 - (c .args .p .0 / 2 ^ (c .args .n) * 2 ^ (c .args .n)) % 2 ^ 32 ≡ c .args .p .0 % 2 ^ (c .args .n)
+column c = col-shifted (c .args .n) (c .args .p .0) (search needs)
+
+fits : (c : tie.After-spread-of2) → (c .before .spread-of .result * 3 < 2 ^ 32) × (c .spread-of2 .result * 3 < 2 ^ 32)
+fits c =
+    let n = c .before .before .args .n in
+    let p = c .before .before .args .p .0 in
+    (omega (arith, spread-below 16 (p / 2 ^ n)), omega (arith, spread-below 16 (p - (p / 2 ^ n * 2 ^ n) % 2 ^ 32)))
 
 -- src/lib.rt:83:15
 shr-row : tie.Need-shr-row
@@ -25,34 +33,31 @@ shl-col c = search needs
 sub-col : tie.Need-sub-col
 sub-col c = omega (arith, div-add-mod' (c .args .p .0) (2 ^ (c .args .n)))
 
--- src/lib.rt:85:12
+-- src/lib.rt:85:9
 spread-of-requires : tie.Need-spread-of-requires
-spread-of-requires c κs = (c .pre .0, row-sixteen (c .args .n) (c .args .p .0) (c .pre .1) (c .pre .2))
+spread-of-requires c κs =
+    let n = c .args .n in
+    (c .pre .0, omega (arith, raster-row n (c .args .p .0) (c .pre .2), side-sixteen n (c .pre .1)))
 
--- src/lib.rt:85:12
-mul-t8 : tie.Need-mul-t8
-mul-t8 c = omega (arith, spread-below 16 (c .before .args .p .0 / 2 ^ (c .before .args .n)))
-
--- src/lib.rt:85:48
+-- src/lib.rt:86:9
 spread-of-requires-2 : tie.Need-spread-of-requires-2
 spread-of-requires-2 c κs =
     let n = c .before .args .n in
-    let p = c .before .args .p .0 in
-    (c .before .pre .0, omega (arith, col-shifted n p (search needs), raster-col n p, side-sixteen n (c .before .pre .1)))
+    (c .before .pre .0, omega (arith, column (c .before), raster-col n (c .before .args .p .0), side-sixteen n (c .before .pre .1)))
 
--- src/lib.rt:85:12
+-- src/lib.rt:87:12
+mul-t9 : tie.Need-mul-t9
+mul-t9 c = omega (arith, fits c)
+
+-- src/lib.rt:87:12
 add-t10 : tie.Need-add-t10
-add-t10 c =
-    let n = c .before .before .args .n in
-    let p = c .before .before .args .p .0 in
-    omega (arith, spread-below 16 (p / 2 ^ n), spread-below 16 (p - (p / 2 ^ n * 2 ^ n) % 2 ^ 32))
+add-t10 c = omega (arith, fits c)
 
 -- src/lib.rt:78:1
 returns : tie.Need-returns
 returns c =
-    let n = c .before .before .args .n in
-    let p = c .before .before .args .p .0 in
-    spreads-together n p (c .before .spread-of .result) (c .spread-of2 .result) (c .before .before .pre .1) (c .before .before .pre .2) (c .before .spread-of .ensures) (c .spread-of2 .ensures ∙ ap (spread 16) (col-shifted n p (search needs)))
+    let s = c .before .before in
+    omega (arith, linear-spreads (s .args .n) (s .args .p .0) (s .pre .1) (s .pre .2), ap (spread 16) (column s))
 
 pub interleave-spec : {M : Type 1} → statement M
 interleave-spec =
@@ -62,7 +67,7 @@ interleave-spec =
     shl-col
     sub-col
     spread-of-requires
-    mul-t8
     spread-of-requires-2
+    mul-t9
     add-t10
     returns)

@@ -1,9 +1,9 @@
-use mathlib.Core.Path.{_≡_}
-use Prim.Native.Nat.{_+_, _*_, _/_, _%_, _^_}
-use Rattle.places.specs.Order.{toRaster}
+use mathlib.Core.Path.{_≡_, ap}
+use Prim.Native.Nat.{ℕ, _+_, _*_, _/_, _%_, _^_}
+use Rattle.places.specs.Order.{rowOf, colOf, toRaster}
 use native.Mathlib.Omega.{arith}
 use Rattle.places.proofs.Laws.{row-below, col-below}
-use Rattle.places.proofs.Lookups.{gathers-together, raster-fits}
+use Rattle.places.proofs.Lookups.{place-gathered, raster-fits}
 use borrow.Author.Needs.{needs}
 use Rattle.places.proofs.separate.Statement.{statement}
 use Rattle.places.proofs.separate.Tie as tie
@@ -11,12 +11,11 @@ use Rattle.places.proofs.separate.Reads as reads
 use Rattle.places.proofs.separate.Lts as lts
 use Rattle.places.proofs.tables.gather_of.Reads as gather-of-reads
 
-together : (c : tie.After-gather-of2) →
-    ((c .before .gather-of .result / 256 * 256 + c .gather-of2 .result / 256) * 2 ^ (c .before .before .args .n)) % 2 ^ 32
-    + (c .before .gather-of .result % 256 * 256 + c .gather-of2 .result % 256)
-    ≡ toRaster (c .before .before .args .n) (c .before .before .args .q .0)
-together c =
-    gathers-together (c .before .before .args .n) (c .before .before .args .q .0) (c .before .gather-of .result) (c .gather-of2 .result)
+parts : (c : tie.After-gather-of2) →
+    (c .before .gather-of .result / 256 * 256 + c .gather-of2 .result / 256 ≡ rowOf (c .before .before .args .n) (c .before .before .args .q .0))
+    × (c .before .gather-of .result % 256 * 256 + c .gather-of2 .result % 256 ≡ colOf (c .before .before .args .n) (c .before .before .args .q .0))
+parts c =
+    place-gathered (c .before .before .args .n) (c .before .before .args .q .0) (c .before .gather-of .result) (c .gather-of2 .result)
     (c .before .before .pre .1) (c .before .before .pre .2) (c .before .gather-of .ensures) (c .gather-of2 .ensures)
 
 -- src/lib.rt:93:9
@@ -51,11 +50,19 @@ shl-t9 c = search needs
 
 -- src/lib.rt:97:12
 add-t10 : tie.Need-add-t10
-add-t10 c = rw (together c) (omega (arith, raster-fits (c .before .before .args .n) (c .before .before .args .q .0) (c .before .before .pre .1)))
+unfolding toRaster
+add-t10 c =
+    let a = c .before .before .args in
+    let g = parts c in
+    omega (arith, g .1, ap (λ (x : ℕ). x * 2 ^ (a .n)) (g .0), raster-fits (a .n) (a .q .0) (c .before .before .pre .1))
 
 -- src/lib.rt:88:1
 returns : tie.Need-returns
-returns c = together c
+unfolding toRaster
+returns c =
+    let a = c .before .before .args in
+    let g = parts c in
+    omega (arith, g .1, ap (λ (x : ℕ). x * 2 ^ (a .n)) (g .0), raster-fits (a .n) (a .q .0) (c .before .before .pre .1))
 
 pub separate-spec : {M : Type 1} → statement M
 separate-spec =
