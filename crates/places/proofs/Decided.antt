@@ -1,11 +1,6 @@
 -- Each public call's contract decides its outcome: two outcomes that the contract allows are equal. An outcome is the answer and, of the reorderings, what the output holds afterwards.
-use mathlib.Core.Path.{_≡_, sym, _∙_, ap}
-use mathlib.Core.List.{List}
-use lib.IntN.{ℤ}
+use mathlib.Core.Path.{_≡_, sym, _∙_}
 use denote.Ref.{now}
-use Rattle.refusals.specs.declared.Outcome.{Outcome}
-use Rattle.refusals.specs.Checks.{lentAfter}
-use Rattle.places.specs.Order.{linearly, rasterly}
 use Rattle.places.proofs.linear_at.Reads as linear-at
 use Rattle.places.proofs.linear_number.Reads as linear-number
 use Rattle.places.proofs.raster_at.Reads as raster-at

@@ -1,10 +1,11 @@
 -- The laws of the index layer.
 use mathlib.Core.Path.{_≡_, refl, sym, _∙_, ap}
-use mathlib.Core.Bool.{false}
+use mathlib.Core.Bool.{Bool, true, false}
 use mathlib.Core.List.{List}
-use Prim.Native.Nat.{ℕ, zero, suc, _+_, _-_, _*_, _/_, _%_, _^_, _<_, _≤_}
+use Prim.Native.Nat.{ℕ, zero, suc, _+_, _*_, _/_, _%_, _^_, _<_, _≤_}
 use native.Mathlib.Nat.{pow-suc, pow-succ', mul-assoc, div-add-mod', mod-lt, div-div-eq-div-mul, zero-div, zero-add, suc-add}
 use native.Mathlib.Omega.{arith}
+use borrow.Author.Tests.{eqb-true, eqb-false}
 use lib.Arith.{digits-lt}
 use lib.Bits.{block-half, block-odd}
 use lib.Dec.{eqb}
@@ -31,6 +32,19 @@ bit-low x y e = let h : x / 1 % 2 ≡ y / 1 % 2 = omega arith in rw h
 bit-up : (x b : ℕ) → bit x (suc b) ≡ bit (x / 2) b
 unfolding bit
 bit-up x b = ap (λ (y : ℕ). eqb (y % 2) 1) (ap (λ (m : ℕ). x / m) (pow-succ' 2 b) ∙ sym (div-div-eq-div-mul x 2 (2 ^ b)))
+
+low-bit : (x y : ℕ) → bit x 0 ≡ bit y 0 → x % 2 ≡ y % 2
+unfolding bit
+low-bit x y e = tell (eqb (y / 1 % 2) 1) refl
+  where
+    tell : (t : Bool) → eqb (y / 1 % 2) 1 ≡ t → x % 2 ≡ y % 2
+    tell true f = omega (arith, eqb-true (x / 1 % 2) 1 (e ∙ f), eqb-true (y / 1 % 2) 1 f)
+    tell false f = omega (arith, eqb-false (x / 1 % 2) 1 (e ∙ f), eqb-false (y / 1 % 2) 1 f)
+
+no-bits : (m y : ℕ) → y ≤ m → ((b : ℕ) → bit y b ≡ false) → y ≡ 0
+no-bits zero y h f = omega arith
+no-bits (suc m) y h f =
+    omega (arith, no-bits m (y / 2) (omega arith) (λ b. sym (bit-up y b) ∙ f (suc b)), low-bit y 0 (f 0 ∙ sym (bit-zero 0)))
 
 -- Spreading.
 pub spread-below : (n x : ℕ) → spread n x * 3 < 4 ^ n
@@ -64,6 +78,40 @@ odd-at (suc n) x (suc k) =
 
 pub spread-rule : (n x : ℕ) → x < 2 ^ n → Spreads x (spread n x)
 spread-rule n x h = record { even = λ k. even-at n x k h; odd = λ k. odd-at n x k }
+
+-- and no other number obeys the rule
+rule-up : (x y : ℕ) → Spreads x y → Spreads (x / 2) (y / 4)
+rule-up x y s =
+    let d : y / 2 / 2 ≡ y / 4 = omega arith in
+    let up : (b : ℕ) → bit (y / 4) b ≡ bit y (suc (suc b)) =
+    λ b. sym (bit-up y (suc b) ∙ bit-up (y / 2) b ∙ ap (λ (z : ℕ). bit z b) d) in
+    record {
+      even = λ k.
+          let e : suc (suc (2 * k)) ≡ 2 * suc k = omega arith in
+          up (2 * k) ∙ ap (bit y) e ∙ s .even (suc k) ∙ bit-up x k;
+      odd = λ k.
+          let e : suc (suc (2 * k + 1)) ≡ 2 * suc k + 1 = omega arith in
+          up (2 * k + 1) ∙ ap (bit y) e ∙ s .odd (suc k);
+    }
+
+rule-none : (y b : ℕ) → Spreads 0 y → bit y b ≡ false
+rule-none y b s = tell (eqb (b % 2) 0) refl
+  where
+    tell : (t : Bool) → eqb (b % 2) 0 ≡ t → bit y b ≡ false
+    tell true f =
+        let e : b ≡ 2 * (b / 2) = omega (arith, eqb-true (b % 2) 0 f) in
+        ap (bit y) e ∙ s .even (b / 2) ∙ bit-zero (b / 2)
+    tell false f =
+        let e : b ≡ 2 * (b / 2) + 1 = omega (arith, eqb-false (b % 2) 0 f) in
+        ap (bit y) e ∙ s .odd (b / 2)
+
+pub spread-only : (n x y : ℕ) → x < 2 ^ n → Spreads x y → y ≡ spread n x
+unfolding spread
+spread-only zero x y h s =
+    let e : x ≡ 0 = omega arith in
+    no-bits y y (omega arith) (λ b. rule-none y b (rw e at s))
+spread-only (suc n) x y h s =
+    omega (arith, spread-only n (x / 2) (y / 4) (omega (arith, pow-suc 2 n)) (rule-up x y s), low-bit y x (s .even 0), low-bit (y / 2) 0 (sym (bit-up y 0) ∙ s .odd 0 ∙ sym (bit-zero 0)))
 
 spread-zero : (n : ℕ) → spread n 0 ≡ 0
 unfolding spread
@@ -257,15 +305,15 @@ pub raster-below : (N q : ℕ) → toRaster N q < allOf N
 unfolding toRaster
 raster-below N q = rw (← four N, pow-add 2 N N) (digits-lt (row-below N q) (col-below N q))
 
-pub there-and-back : (N p : ℕ) → p < allOf N → toRaster N (toLinear N p) ≡ p
+pub raster-of-linear : (N p : ℕ) → p < allOf N → toRaster N (toLinear N p) ≡ p
 unfolding toLinear toRaster
-there-and-back N p h =
+raster-of-linear N p h =
     rw (row-interleaved N (p / 2 ^ N) (p % 2 ^ N) (raster-row N p h), col-interleaved N (p / 2 ^ N) (p % 2 ^ N) (raster-col N p))
     (div-add-mod' p (2 ^ N))
 
-pub back-and-there : (N q : ℕ) → q < allOf N → toLinear N (toRaster N q) ≡ q
+pub linear-of-raster : (N q : ℕ) → q < allOf N → toLinear N (toRaster N q) ≡ q
 unfolding toLinear toRaster
-back-and-there N q h =
+linear-of-raster N q h =
     rw (high (rowOf N q) N (col-below N q), low (rowOf N q) N (col-below N q)) (interleaved-again N q h)
 
 -- Whole arrays: there and back is the array.
@@ -290,11 +338,11 @@ rasterly-linearly N A e =
     ext-getD (pos 0) (rasterly N (linearly N A)) A (rasterly-length N (linearly N A) ∙ sym e)
     (λ p k.
     let h : p < allOf N = omega (arith, rasterly-length N (linearly N A)) in
-    rasterly-at N (linearly N A) p h ∙ linearly-at N A (toLinear N p) (linear-below N p) ∙ ap (λ (j : ℕ). getD A j (pos 0)) (there-and-back N p h))
+    rasterly-at N (linearly N A) p h ∙ linearly-at N A (toLinear N p) (linear-below N p) ∙ ap (λ (j : ℕ). getD A j (pos 0)) (raster-of-linear N p h))
 
 pub linearly-rasterly : (N : ℕ) (A : List ℤ) → length A ≡ allOf N → linearly N (rasterly N A) ≡ A
 linearly-rasterly N A e =
     ext-getD (pos 0) (linearly N (rasterly N A)) A (linearly-length N (rasterly N A) ∙ sym e)
     (λ q k.
     let h : q < allOf N = omega (arith, linearly-length N (rasterly N A)) in
-    linearly-at N (rasterly N A) q h ∙ rasterly-at N A (toRaster N q) (raster-below N q) ∙ ap (λ (j : ℕ). getD A j (pos 0)) (back-and-there N q h))
+    linearly-at N (rasterly N A) q h ∙ rasterly-at N A (toRaster N q) (raster-below N q) ∙ ap (λ (j : ℕ). getD A j (pos 0)) (linear-of-raster N q h))

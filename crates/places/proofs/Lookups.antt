@@ -11,7 +11,7 @@ use Rattle.places.specs.Spread.{Spreads, spread, spreader}
 use Rattle.places.specs.Order.{rowOf, colOf, toLinear, toRaster, gatherer}
 use Rattle.places.proofs.Laws.{spread-rule, spread-below, spread-longer, interleaved-spread, raster-row, raster-col, raster-below, row-longer, col-longer, row-below, col-below, row-parts, col-parts}
 
--- an entry of a table that was tested whole
+-- An entry of a table that was tested whole.
 pub spread-entry : (t : List ℕ) (x : ℕ) → t ≡ spreader → x < 256 → getD t x 0 ≡ spread 8 x
 unfolding spreader
 spread-entry t x e h = rw e (table-at 256 (λ y. spread 8 y) x 0 h)
@@ -26,11 +26,11 @@ spread-entry-below t x e h = omega (arith, spread-entry t x e h, spread-below 8 
 pub gather-entry-below : (t : List ℕ) (x : ℕ) → t ≡ gatherer → x < 256 → getD t x 0 < 256
 gather-entry-below t x e h = omega (arith, gather-entry t x e h, row-below 4 x, col-below 4 x)
 
--- the rule of every entry of the spreader
+-- The rule at every entry of the spreader: "bit k goes to bit 2k, the others are 0".
 pub spreader-rule : (x : ℕ) → x < 256 → Spreads x (getD spreader x 0)
 spreader-rule x h = rw (spread-entry spreader x refl h) (spread-rule 8 x h)
 
--- row and column out of the entries for the k digits above and for the low k digits
+-- Row and column out of the entries for the k digits above and for the low k digits.
 pub gathered : (k q above below : ℕ)
     → above ≡ rowOf k (q / 4 ^ k) * 2 ^ k + colOf k (q / 4 ^ k)
     → below ≡ rowOf k (q % 4 ^ k) * 2 ^ k + colOf k (q % 4 ^ k)
@@ -57,7 +57,7 @@ linear-spreads n p h l =
 pub raster-fits : (n q : ℕ) → n ≤ 16 → toRaster n q < 2 ^ 32
 raster-fits n q h = omega (arith, raster-below n q, pow-le-pow-right {n = 4} (omega arith) {i = n} {j = 16} h)
 
--- row and column out of the entries for the two halves of a place
+-- Row and column out of the entries for the two halves of a place.
 pub place-gathered : (n q above below : ℕ) → n ≤ 16 → q < 4 ^ n
     → above ≡ rowOf 8 (q / 65536) * 256 + colOf 8 (q / 65536)
     → below ≡ rowOf 8 (q % 65536) * 256 + colOf 8 (q % 65536)

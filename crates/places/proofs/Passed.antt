@@ -6,9 +6,10 @@ use Prim.Native.Nat.{ℕ, _≤_, _<_}
 use native.Mathlib.Omega.{arith}
 use borrow.Author.Tests.{ltb-true, leb-true, eqb-true}
 use lib.Dec.{ltb, leb, eqb}
-use Rattle.refusals.specs.Checks.{Check, need, firstOf}
+use Rattle.refusals.specs.Checks.{Check, need, firstOf, lentAfter}
 use Rattle.refusals.specs.declared.Refusal.{Refusal}
 use Rattle.refusals.specs.declared.Refusal.the-variants.{Side, Length, Lent}
+use Rattle.refusals.specs.declared.Outcome.{Outcome}
 use Rattle.refusals.specs.declared.Outcome.the-variants.{Done}
 use Rattle.sizes.specs.Sizes.{mostN, allOf, sideFits}
 use Rattle.sizes.proofs.Laws.{side-most}
@@ -32,3 +33,7 @@ arrays-passed N input output e =
     let two = passed (eqb input (allOf N)) Length (need (leb (allOf N) output) Lent ∷ []) (one .1) in
     let three = passed (leb (allOf N) output) Lent [] (two .1) in
     (side-most N (one .0), eqb-true input (allOf N) (two .0), leb-true (allOf N) output (three .0))
+
+-- and a lent table holds what a call that is done leaves
+pub lent-done : {A : Type 0} (o : Outcome) (own held after : List A) → o ≡ Done → after ≡ lentAfter Done own held → after ≡ lentAfter o own held
+lent-done o own held after e h = rw e h

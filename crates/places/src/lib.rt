@@ -4,10 +4,10 @@ mod tables;
 use refusals::Outcome;
 use refusals::Refusal;
 ghost use mathlib.Core.Path.{_≡_};
-ghost use mathlib.Core.List.{_++_};
 ghost use Prim.Native.Nat.{_≤_, _<_, _^_};
-ghost use lib.ListN.{length, drop};
+ghost use lib.ListN.{length};
 ghost use Rattle.refusals.specs.Checks.{firstOf, lentAfter};
+ghost use Rattle.refusals.specs.declared.Outcome.the-variants.{Done};
 ghost use Rattle.places.specs.Spread.{spreader};
 ghost use Rattle.places.specs.Order.{gatherer, toLinear, toRaster, linearly, rasterly};
 ghost use Rattle.places.specs.Answers.{placeChecks, reorderChecks, rasterIf, linearIf};
@@ -146,7 +146,7 @@ fn check_arrays(n: u32, input: usize, output: usize) -> Outcome
 // The output is filled from its front.
 fn fill_linear(n: u32, from: &[i32], to: &mut [i32])
     requires { ⌜ (n ≤ 16) × (length (now from) ≡ 4 ^ n) × (4 ^ n ≤ length (now to)) ⌝ }
-    ensures { λ r. ⌜ now (to .exit) ≡ linearly n (now (from .entry)) ++ drop (4 ^ n) (now (to .entry)) ⌝ }
+    ensures { λ r. ⌜ now (to .exit) ≡ lentAfter Done (linearly n (now (from .entry))) (now (to .entry)) ⌝ }
 {
     let entries = tables::gather_table();
     let mut q: usize = 0;
@@ -161,7 +161,7 @@ fn fill_linear(n: u32, from: &[i32], to: &mut [i32])
 
 fn fill_raster(n: u32, from: &[i32], to: &mut [i32])
     requires { ⌜ (n ≤ 16) × (length (now from) ≡ 4 ^ n) × (4 ^ n ≤ length (now to)) ⌝ }
-    ensures { λ r. ⌜ now (to .exit) ≡ rasterly n (now (from .entry)) ++ drop (4 ^ n) (now (to .entry)) ⌝ }
+    ensures { λ r. ⌜ now (to .exit) ≡ lentAfter Done (rasterly n (now (from .entry))) (now (to .entry)) ⌝ }
 {
     let entries = tables::spread_table();
     let mut p: usize = 0;

@@ -2,25 +2,18 @@ use mathlib.Core.Path.{_≡_, sym, _∙_}
 use mathlib.Core.Bool.{true}
 use native.Mathlib.Omega.{arith}
 use borrow.Author.Tests.{eq-eqb, ne-eqb, le-leb, lt-leb}
+use borrow.Author.Needs.{needs}
 use Rattle.refusals.specs.Checks.{firstOf}
 use Rattle.sizes.specs.Sizes.{allOf, sideFits}
-use borrow.Author.Needs.{needs}
 use Rattle.places.proofs.check_arrays.Statement.{statement}
 use Rattle.places.proofs.check_arrays.Tie as tie
-use Rattle.places.proofs.check_arrays.Reads as reads
-use Rattle.places.proofs.check_arrays.Lts as lts
-use Rattle.sizes.proofs.all_of.Reads as all-of-reads
-use Rattle.sizes.proofs.side_fits.Reads as side-fits-reads
 
--- src/lib.rt:131:8
 side-fits-requires : tie.Need-side-fits-requires
 side-fits-requires c κs = search needs
 
--- src/lib.rt:132:13
 all-of-requires : tie.Need-all-of-requires
 all-of-requires c κs = search needs
 
--- src/lib.rt:134:13
 returns : tie.Need-returns
 unfolding firstOf
 returns c =
@@ -29,7 +22,6 @@ returns c =
     let all = rw e at (c .before .all-of .ensures) in
     rw (e, ne-eqb (a .input) (allOf (a .n)) (λ s. c .if2 .taken (s ∙ sym all)))
 
--- src/lib.rt:137:13
 returns-2 : tie.Need-returns-2
 unfolding firstOf
 returns-2 c =
@@ -38,7 +30,6 @@ returns-2 c =
     let all = rw e at (c .before .before .all-of .ensures) in
     rw (e, eq-eqb (a .input) (allOf (a .n)) (omega arith), lt-leb (allOf (a .n)) (a .output) (omega arith))
 
--- src/lib.rt:139:9
 returns-3 : tie.Need-returns-3
 unfolding firstOf
 returns-3 c =
@@ -47,7 +38,6 @@ returns-3 c =
     let all = rw e at (c .before .before .all-of .ensures) in
     rw (e, eq-eqb (a .input) (allOf (a .n)) (omega arith), le-leb (allOf (a .n)) (a .output) (omega arith))
 
--- src/lib.rt:128:1
 returns-4 : tie.Need-returns-4
 unfolding firstOf
 returns-4 c = rw (sym (c .before .side-fits .ensures) ∙ c .if1 .left)

@@ -2,25 +2,18 @@ use mathlib.Core.Path.{_≡_, sym, _∙_}
 use mathlib.Core.Bool.{true}
 use native.Mathlib.Omega.{arith}
 use borrow.Author.Tests.{lt-ltb, le-ltb}
+use borrow.Author.Needs.{needs}
 use Rattle.refusals.specs.Checks.{firstOf}
 use Rattle.sizes.specs.Sizes.{allOf, sideFits}
-use borrow.Author.Needs.{needs}
 use Rattle.places.proofs.check_place.Statement.{statement}
 use Rattle.places.proofs.check_place.Tie as tie
-use Rattle.places.proofs.check_place.Reads as reads
-use Rattle.places.proofs.check_place.Lts as lts
-use Rattle.sizes.proofs.all_of.Reads as all-of-reads
-use Rattle.sizes.proofs.side_fits.Reads as side-fits-reads
 
--- src/lib.rt:47:8
 side-fits-requires : tie.Need-side-fits-requires
 side-fits-requires c κs = search needs
 
--- src/lib.rt:48:31
 all-of-requires : tie.Need-all-of-requires
 all-of-requires c κs = search needs
 
--- src/lib.rt:49:13
 returns : tie.Need-returns
 unfolding firstOf
 returns c =
@@ -29,7 +22,6 @@ returns c =
     let all = rw e at (c .before .all-of .ensures) in
     rw (e, lt-ltb (c .before .before .before .before .args .place) (allOf n) (omega arith))
 
--- src/lib.rt:51:9
 returns-2 : tie.Need-returns-2
 unfolding firstOf
 returns-2 c =
@@ -38,7 +30,6 @@ returns-2 c =
     let all = rw e at (c .before .all-of .ensures) in
     rw (e, le-ltb (c .before .before .before .before .args .place) (allOf n) (omega arith))
 
--- src/lib.rt:44:1
 returns-3 : tie.Need-returns-3
 unfolding firstOf
 returns-3 c = rw (sym (c .before .side-fits .ensures) ∙ c .if1 .left)

@@ -1,25 +1,21 @@
-use Prim.Native.Nat.{ℕ, _+_, _-_, _≤_, _<_, _^_}
-use mathlib.Core.Path.{_≡_, refl, sym, _∙_, ap}
-use mathlib.Core.List.{List, _++_}
+use mathlib.Core.Path.{_≡_, refl, _∙_, ap}
+use mathlib.Core.List.{_++_}
+use Prim.Native.Nat.{ℕ, _-_, _≤_, _^_}
 use native.Mathlib.Nat.{pow-le-pow-right}
 use native.Mathlib.Numerals.{add-one}
 use native.Mathlib.Omega.{arith}
 use borrow.Author.Needs.{needs}
 use lib.IntN.{ℤ, pos}
-use lib.ListN.{length, getD, set, drop, length-set}
+use lib.ListN.{length, getD, drop, length-set}
 use mir.Syntax.{w32}
 use mir.Val.{toZ, ofZ}
 use mir.Facts.{toZ-ofZ}
 use Rattle.sizes.specs.Tables.{table}
 use Rattle.sizes.proofs.Tables.{fill-step}
 use Rattle.places.specs.Order.{toLinear, rasterly}
-use Rattle.places.proofs.Laws.{linear-below}
+use Rattle.places.proofs.Laws.{rasterly-length, linear-below}
 use Rattle.places.proofs.fill_raster.Statement.{statement}
 use Rattle.places.proofs.fill_raster.Tie as tie
-use Rattle.places.proofs.fill_raster.Reads as reads
-use Rattle.places.proofs.fill_raster.Lts as lts
-use Rattle.places.proofs.interleave.Reads as interleave-reads
-use Rattle.places.proofs.tables.spread_table.Reads as spread-table-reads
 
 abbrev Inv-loop : tie.InvT-loop
 Inv-loop n from to₀ entries p₀ to p = (p ≤ length from) × (length to ≡ length to₀) × (to ≡ table p (λ k. getD from (toLinear n k) (pos 0)) ++ drop p to₀)
@@ -27,52 +23,40 @@ Inv-loop n from to₀ entries p₀ to p = (p ≤ length from) × (length to ≡ 
 abbrev μ-loop : tie.MeasureT-loop
 μ-loop n from to₀ entries p₀ to p = length from - p
 
--- src/lib.rt:164:19
 spread-table-requires : tie.Need-spread-table-requires Inv-loop μ-loop
 spread-table-requires c κs = search needs
 
--- src/lib.rt:166:5
 loop-holds : tie.Need-loop-holds Inv-loop μ-loop
 unfolding table
 loop-holds c = (search needs, search needs, refl)
 
--- src/lib.rt:167:48
 cast-t13 : tie.Need-cast-t13 Inv-loop μ-loop
 cast-t13 c = omega (arith, pow-le-pow-right {n = 4} (omega arith) {i = c .before .before .before .before .args .n} {j = 16} (c .before .before .before .before .pre .0))
 
--- src/lib.rt:167:13
 interleave-requires : tie.Need-interleave-requires Inv-loop μ-loop
 interleave-requires c κs = (c .before .before .before .spread-table .ensures, c .before .before .before .before .pre .0, omega arith)
 
--- src/lib.rt:168:18
 cast-at : tie.Need-cast-at Inv-loop μ-loop
 cast-at c = search needs
 
--- src/lib.rt:169:17
 mul-v : tie.Need-mul-v Inv-loop μ-loop
 mul-v c = search needs
 
--- src/lib.rt:169:17
 shared-slice-copy-out-v : tie.Need-shared-slice-copy-out-v Inv-loop μ-loop
 shared-slice-copy-out-v c = omega (arith, linear-below (c .before .before .before .before .before .before .args .n) (c .before .before .before .before .loop .p), c .before .interleave .ensures)
 
--- src/lib.rt:170:9
 mul-v-2 : tie.Need-mul-v-2 Inv-loop μ-loop
 mul-v-2 c = search needs
 
--- src/lib.rt:170:9
 slice-set-from-v : tie.Need-slice-set-from-v Inv-loop μ-loop
 slice-set-from-v c = search needs
 
--- src/lib.rt:171:9
 add-p : tie.Need-add-p Inv-loop μ-loop
 add-p c = search needs
 
--- src/lib.rt:166:5
 loop-less : tie.Need-loop-less Inv-loop μ-loop
 loop-less c = search needs
 
--- src/lib.rt:166:5
 loop-again : tie.Need-loop-again Inv-loop μ-loop
 loop-again c =
     let a = c .before .before .before .before .before .before .before .args in
@@ -83,17 +67,16 @@ loop-again c =
     let v : toZ w32 (ofZ w32 (getD A at (pos 0))) ≡ f (l .p) = toZ-ofZ (record { sfits = c .v .given }) ∙ ap (λ (x : ℕ). getD A x (pos 0)) (c .before .before .interleave .ensures) in
     (search needs, simp length-set (search needs), rw (l .inv .2, add-one (l .p)) (fill-step (l .p) f (a .to .now) (toZ w32 (ofZ w32 (getD A at (pos 0)))) (omega arith) v))
 
--- src/lib.rt:160:1
 same-length : tie.Need-same-length Inv-loop μ-loop
 same-length c = search needs
 
--- src/lib.rt:160:1
 returns : tie.Need-returns Inv-loop μ-loop
 unfolding rasterly
 returns c =
+    let a = c .before .before .before .args in
     let l = c .before .loop in
-    let e : l .p ≡ 4 ^ (c .before .before .before .args .n) = omega arith in
-    rw (← e) (l .inv .2)
+    let e : l .p ≡ 4 ^ (a .n) = omega arith in
+    rw (rasterly-length (a .n) (a .from .now), ← e) (l .inv .2)
 
 pub fill-raster-spec : {M : Type 1} → statement M
 fill-raster-spec =

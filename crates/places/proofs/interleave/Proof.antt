@@ -2,15 +2,12 @@ use mathlib.Core.Path.{_≡_, ap}
 use Prim.Native.Nat.{_-_, _*_, _/_, _%_, _^_, _<_}
 use native.Mathlib.Nat.{div-add-mod'}
 use native.Mathlib.Omega.{arith}
+use borrow.Author.Needs.{needs}
 use Rattle.places.specs.Spread.{spread}
 use Rattle.places.proofs.Laws.{spread-below, raster-row, raster-col}
 use Rattle.places.proofs.Lookups.{col-shifted, side-sixteen, linear-spreads}
-use borrow.Author.Needs.{needs}
 use Rattle.places.proofs.interleave.Statement.{statement}
 use Rattle.places.proofs.interleave.Tie as tie
-use Rattle.places.proofs.interleave.Reads as reads
-use Rattle.places.proofs.interleave.Lts as lts
-use Rattle.places.proofs.tables.spread_of.Reads as spread-of-reads
 
 column : (c : tie.Start) → c .args .p .0 - (c .args .p .0 / 2 ^ (c .args .n) * 2 ^ (c .args .n)) % 2 ^ 32 ≡ c .args .p .0 % 2 ^ (c .args .n)
 column c = col-shifted (c .args .n) (c .args .p .0) (search needs)
@@ -21,39 +18,31 @@ fits c =
     let p = c .before .before .args .p .0 in
     (omega (arith, spread-below 16 (p / 2 ^ n)), omega (arith, spread-below 16 (p - (p / 2 ^ n * 2 ^ n) % 2 ^ 32)))
 
--- src/lib.rt:83:15
 shr-row : tie.Need-shr-row
 shr-row c = search needs
 
--- src/lib.rt:84:21
 shl-col : tie.Need-shl-col
 shl-col c = search needs
 
--- src/lib.rt:84:15
 sub-col : tie.Need-sub-col
 sub-col c = omega (arith, div-add-mod' (c .args .p .0) (2 ^ (c .args .n)))
 
--- src/lib.rt:85:9
 spread-of-requires : tie.Need-spread-of-requires
 spread-of-requires c κs =
     let n = c .args .n in
     (c .pre .0, omega (arith, raster-row n (c .args .p .0) (c .pre .2), side-sixteen n (c .pre .1)))
 
--- src/lib.rt:86:9
 spread-of-requires-2 : tie.Need-spread-of-requires-2
 spread-of-requires-2 c κs =
     let n = c .before .args .n in
     (c .before .pre .0, omega (arith, column (c .before), raster-col n (c .before .args .p .0), side-sixteen n (c .before .pre .1)))
 
--- src/lib.rt:87:12
 mul-t9 : tie.Need-mul-t9
 mul-t9 c = omega (arith, fits c)
 
--- src/lib.rt:87:12
 add-t10 : tie.Need-add-t10
 add-t10 c = omega (arith, fits c)
 
--- src/lib.rt:78:1
 returns : tie.Need-returns
 returns c =
     let s = c .before .before in

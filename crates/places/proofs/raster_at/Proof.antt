@@ -2,27 +2,19 @@ use mathlib.Core.Path.{sym, _∙_}
 use borrow.Author.Needs.{needs}
 use Rattle.places.proofs.raster_at.Statement.{statement}
 use Rattle.places.proofs.raster_at.Tie as tie
-use Rattle.places.proofs.raster_at.Reads as reads
-use Rattle.places.proofs.raster_at.Lts as lts
-use Rattle.places.proofs.check_place.Reads as check-place-reads
 
--- src/lib.rt:60:9
 check-place-requires : tie.Need-check-place-requires
 check-place-requires c κs = search needs
 
--- src/lib.rt:62:46
 enum-told : tie.Need-enum-told
 enum-told c = search needs
 
--- src/lib.rt:63:26
 enum-known-checked : tie.Need-enum-known-checked
 enum-known-checked c = search needs
 
--- src/lib.rt:57:1
 returns : tie.Need-returns
 returns c = rw (sym (c .before .before .check-place .ensures) ∙ c .enum-told .given .1)
 
--- src/lib.rt:57:1
 returns-2 : tie.Need-returns-2
 returns-2 c = rw (sym (c .before .before .before .check-place .ensures) ∙ c .before .checked .given .1)
 

@@ -1,15 +1,12 @@
 use mathlib.Core.Path.{_≡_, ap}
 use Prim.Native.Nat.{ℕ, _+_, _*_, _/_, _%_, _^_}
-use Rattle.places.specs.Order.{rowOf, colOf, toRaster}
 use native.Mathlib.Omega.{arith}
+use borrow.Author.Needs.{needs}
+use Rattle.places.specs.Order.{rowOf, colOf, toRaster}
 use Rattle.places.proofs.Laws.{row-below, col-below}
 use Rattle.places.proofs.Lookups.{place-gathered, raster-fits}
-use borrow.Author.Needs.{needs}
 use Rattle.places.proofs.separate.Statement.{statement}
 use Rattle.places.proofs.separate.Tie as tie
-use Rattle.places.proofs.separate.Reads as reads
-use Rattle.places.proofs.separate.Lts as lts
-use Rattle.places.proofs.tables.gather_of.Reads as gather-of-reads
 
 parts : (c : tie.After-gather-of2) →
     (c .before .gather-of .result / 256 * 256 + c .gather-of2 .result / 256 ≡ rowOf (c .before .before .args .n) (c .before .before .args .q .0))
@@ -18,37 +15,29 @@ parts c =
     place-gathered (c .before .before .args .n) (c .before .before .args .q .0) (c .before .gather-of .result) (c .gather-of2 .result)
     (c .before .before .pre .1) (c .before .before .pre .2) (c .before .gather-of .ensures) (c .gather-of2 .ensures)
 
--- src/lib.rt:93:9
 gather-of-requires : tie.Need-gather-of-requires
 gather-of-requires c κs = search needs
 
--- src/lib.rt:94:9
 gather-of-requires-2 : tie.Need-gather-of-requires-2
 gather-of-requires-2 c κs = search needs
 
--- src/lib.rt:95:15
 mul-row : tie.Need-mul-row
 mul-row c = search needs
 
--- src/lib.rt:95:15
 add-row : tie.Need-add-row
 add-row c =
     let q = c .before .before .args .q .0 in
     omega (arith, row-below 8 (q / 65536), col-below 8 (q / 65536), row-below 8 (q % 65536), col-below 8 (q % 65536))
 
--- src/lib.rt:96:15
 mul-col : tie.Need-mul-col
 mul-col c = search needs
 
--- src/lib.rt:96:15
 add-col : tie.Need-add-col
 add-col c = search needs
 
--- src/lib.rt:97:13
 shl-t9 : tie.Need-shl-t9
 shl-t9 c = search needs
 
--- src/lib.rt:97:12
 add-t10 : tie.Need-add-t10
 unfolding toRaster
 add-t10 c =
@@ -56,7 +45,6 @@ add-t10 c =
     let g = parts c in
     omega (arith, g .1, ap (λ (x : ℕ). x * 2 ^ (a .n)) (g .0), raster-fits (a .n) (a .q .0) (c .before .before .pre .1))
 
--- src/lib.rt:88:1
 returns : tie.Need-returns
 unfolding toRaster
 returns c =

@@ -1,45 +1,33 @@
-use mathlib.Core.Path.{_≡_, sym, _∙_, ap}
-use native.Mathlib.Omega.{arith}
+use mathlib.Core.Path.{sym, _∙_, ap}
 use Prim.Native.Nat.{ℕ}
+use native.Mathlib.Omega.{arith}
+use borrow.Author.Needs.{needs}
 use Rattle.places.specs.declared.LinearAnswer.the-variants.{Place}
 use Rattle.places.proofs.Passed.{place-passed}
-use borrow.Author.Needs.{needs}
 use Rattle.places.proofs.to_linear.Statement.{statement}
 use Rattle.places.proofs.to_linear.Tie as tie
-use Rattle.places.proofs.to_linear.Reads as reads
-use Rattle.places.proofs.to_linear.Lts as lts
-use Rattle.places.proofs.check_place.Reads as check-place-reads
-use Rattle.places.proofs.interleave.Reads as interleave-reads
-use Rattle.places.proofs.tables.spread_table.Reads as spread-table-reads
 
--- src/lib.rt:104:9
 check-place-requires : tie.Need-check-place-requires
 check-place-requires c κs = search needs
 
--- src/lib.rt:107:25
 enum-told : tie.Need-enum-told
 enum-told c = search needs
 
--- src/lib.rt:107:25
 spread-table-requires : tie.Need-spread-table-requires
 spread-table-requires c κs = search needs
 
--- src/lib.rt:108:33
 interleave-requires : tie.Need-interleave-requires
 interleave-requires c κs =
     let a = c .before .before .before .before .before .args in
     let e = place-passed (a .n) (a .p .0) (sym (c .before .before .before .before .check-place .ensures) ∙ c .before .before .enum-told .given .1) in
     (c .before .spread-table .ensures, omega (arith, e), e .1)
 
--- src/lib.rt:110:26
 enum-known-checked : tie.Need-enum-known-checked
 enum-known-checked c = search needs
 
--- src/lib.rt:101:1
 returns : tie.Need-returns
 returns c = rw (sym (c .before .before .before .before .before .check-place .ensures) ∙ c .before .before .before .enum-told .given .1) (ap (λ (q : ℕ). Place (record { 0 = q })) (c .interleave .ensures))
 
--- src/lib.rt:101:1
 returns-2 : tie.Need-returns-2
 returns-2 c = rw (sym (c .before .before .before .check-place .ensures) ∙ c .before .checked .given .1)
 

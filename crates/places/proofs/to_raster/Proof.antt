@@ -1,45 +1,33 @@
-use mathlib.Core.Path.{_≡_, sym, _∙_, ap}
-use native.Mathlib.Omega.{arith}
+use mathlib.Core.Path.{sym, _∙_, ap}
 use Prim.Native.Nat.{ℕ}
+use native.Mathlib.Omega.{arith}
+use borrow.Author.Needs.{needs}
 use Rattle.places.specs.declared.RasterAnswer.the-variants.{Place}
 use Rattle.places.proofs.Passed.{place-passed}
-use borrow.Author.Needs.{needs}
 use Rattle.places.proofs.to_raster.Statement.{statement}
 use Rattle.places.proofs.to_raster.Tie as tie
-use Rattle.places.proofs.to_raster.Reads as reads
-use Rattle.places.proofs.to_raster.Lts as lts
-use Rattle.places.proofs.check_place.Reads as check-place-reads
-use Rattle.places.proofs.separate.Reads as separate-reads
-use Rattle.places.proofs.tables.gather_table.Reads as gather-table-reads
 
--- src/lib.rt:117:9
 check-place-requires : tie.Need-check-place-requires
 check-place-requires c κs = search needs
 
--- src/lib.rt:120:25
 enum-told : tie.Need-enum-told
 enum-told c = search needs
 
--- src/lib.rt:120:25
 gather-table-requires : tie.Need-gather-table-requires
 gather-table-requires c κs = search needs
 
--- src/lib.rt:121:33
 separate-requires : tie.Need-separate-requires
 separate-requires c κs =
     let a = c .before .before .before .before .before .args in
     let e = place-passed (a .n) (a .q .0) (sym (c .before .before .before .before .check-place .ensures) ∙ c .before .before .enum-told .given .1) in
     (c .before .gather-table .ensures, omega (arith, e), e .1)
 
--- src/lib.rt:123:26
 enum-known-checked : tie.Need-enum-known-checked
 enum-known-checked c = search needs
 
--- src/lib.rt:114:1
 returns : tie.Need-returns
 returns c = rw (sym (c .before .before .before .before .before .check-place .ensures) ∙ c .before .before .before .enum-told .given .1) (ap (λ (p : ℕ). Place (record { 0 = p })) (c .separate .ensures))
 
--- src/lib.rt:114:1
 returns-2 : tie.Need-returns-2
 returns-2 c = rw (sym (c .before .before .before .check-place .ensures) ∙ c .before .checked .given .1)
 

@@ -1,13 +1,10 @@
-use mathlib.Core.Path.{_≡_}
 use Prim.Native.Nat.{_/_, _%_, _<_}
 use native.Mathlib.Omega.{arith}
+use borrow.Author.Needs.{needs}
 use lib.ListN.{getD}
 use Rattle.places.proofs.Lookups.{gather-entry, gather-entry-below, gathered}
-use borrow.Author.Needs.{needs}
 use Rattle.places.proofs.tables.gather_of.Statement.{statement}
 use Rattle.places.proofs.tables.gather_of.Tie as tie
-use Rattle.places.proofs.tables.gather_of.Reads as reads
-use Rattle.places.proofs.tables.gather_of.Lts as lts
 
 high-below : (c : tie.After-low) → getD (c .before .before .args .entries .now) (c .before .before .args .x / 256) 0 < 256
 high-below c =
@@ -17,55 +14,42 @@ low-below : (c : tie.After-low) → getD (c .before .before .args .entries .now)
 low-below c =
     gather-entry-below (c .before .before .args .entries .now) (c .before .before .args .x % 256) (c .before .before .pre .0) (omega arith)
 
--- src/tables.rt:555:22
 cast-high : tie.Need-cast-high
 cast-high c = search needs
 
--- src/tables.rt:555:16
 element-copy-out-high : tie.Need-element-copy-out-high
 element-copy-out-high c = search needs
 
--- src/tables.rt:555:16
 cast-high-2 : tie.Need-cast-high-2
 cast-high-2 c = omega (arith, gather-entry-below (c .before .args .entries .now) (c .before .args .x / 256) (c .before .pre .0) (omega arith))
 
--- src/tables.rt:556:21
 cast-low : tie.Need-cast-low
 cast-low c = search needs
 
--- src/tables.rt:556:15
 element-copy-out-low : tie.Need-element-copy-out-low
 element-copy-out-low c = search needs
 
--- src/tables.rt:556:15
 cast-low-2 : tie.Need-cast-low-2
 cast-low-2 c = omega (arith, low-below c)
 
--- src/tables.rt:557:6
 mul-result : tie.Need-mul-result
 mul-result c = omega (arith, high-below c)
 
--- src/tables.rt:557:6
 add-result : tie.Need-add-result
 add-result c = omega (arith, high-below c, low-below c)
 
--- src/tables.rt:557:5
 mul-result-2 : tie.Need-mul-result-2
 mul-result-2 c = omega (arith, high-below c, low-below c)
 
--- src/tables.rt:557:42
 mul-result-3 : tie.Need-mul-result-3
 mul-result-3 c = search needs
 
--- src/tables.rt:557:42
 add-result-2 : tie.Need-add-result-2
 add-result-2 c = search needs
 
--- src/tables.rt:557:5
 add-result-3 : tie.Need-add-result-3
 add-result-3 c = omega (arith, high-below c, low-below c)
 
--- src/tables.rt:551:1
 returns : tie.Need-returns
 returns c =
     let t = c .before .before .args .entries .now in

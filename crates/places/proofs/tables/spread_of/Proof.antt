@@ -1,51 +1,38 @@
-use mathlib.Core.Path.{_≡_}
 use Prim.Native.Nat.{_/_, _%_}
 use native.Mathlib.Omega.{arith}
+use borrow.Author.Needs.{needs}
 use Rattle.places.proofs.Laws.{spread-parts}
 use Rattle.places.proofs.Lookups.{spread-entry, spread-entry-below}
-use borrow.Author.Needs.{needs}
 use Rattle.places.proofs.tables.spread_of.Statement.{statement}
 use Rattle.places.proofs.tables.spread_of.Tie as tie
-use Rattle.places.proofs.tables.spread_of.Reads as reads
-use Rattle.places.proofs.tables.spread_of.Lts as lts
 
--- src/tables.rt:545:22
 cast-high : tie.Need-cast-high
 cast-high c = search needs
 
--- src/tables.rt:545:16
 mul-high : tie.Need-mul-high
 mul-high c = search needs
 
--- src/tables.rt:545:16
 element-copy-out-high : tie.Need-element-copy-out-high
 element-copy-out-high c = search needs
 
--- src/tables.rt:545:16
 cast-high-2 : tie.Need-cast-high-2
 cast-high-2 c = omega (arith, spread-entry-below (c .before .args .entries .now) (c .before .args .x / 256) (c .before .pre .0) (omega arith))
 
--- src/tables.rt:546:21
 cast-low : tie.Need-cast-low
 cast-low c = search needs
 
--- src/tables.rt:546:15
 mul-low : tie.Need-mul-low
 mul-low c = search needs
 
--- src/tables.rt:546:15
 element-copy-out-low : tie.Need-element-copy-out-low
 element-copy-out-low c = search needs
 
--- src/tables.rt:546:15
 cast-low-2 : tie.Need-cast-low-2
 cast-low-2 c = omega (arith, spread-entry-below (c .before .before .args .entries .now) (c .before .before .args .x % 256) (c .before .before .pre .0) (omega arith))
 
--- src/tables.rt:547:5
 mul-result : tie.Need-mul-result
 mul-result c = omega (arith, spread-entry-below (c .before .before .args .entries .now) (c .before .before .args .x / 256) (c .before .before .pre .0) (omega arith))
 
--- src/tables.rt:547:5
 add-result : tie.Need-add-result
 add-result c =
     let t = c .before .before .args .entries .now in
@@ -53,7 +40,6 @@ add-result c =
     let e = c .before .before .pre .0 in
     omega (arith, spread-entry-below t (x / 256) e (omega arith), spread-entry-below t (x % 256) e (omega arith))
 
--- src/tables.rt:541:1
 returns : tie.Need-returns
 returns c =
     let t = c .before .before .args .entries .now in

@@ -1,12 +1,10 @@
+-- The spreader's rule is tested here over the whole table, once, by computation. `Lookups` carries it to each lookup.
 use mathlib.Core.Path.{refl}
 use Rattle.sizes.specs.Tables.{table}
 use Rattle.places.specs.Spread.{spread, spreader}
 use Rattle.places.proofs.tables.spread_table.Statement.{statement}
 use Rattle.places.proofs.tables.spread_table.Tie as tie
-use Rattle.places.proofs.tables.spread_table.Reads as reads
-use Rattle.places.proofs.tables.spread_table.Lts as lts
 
--- src/tables.rt:528:1
 returns : tie.Need-returns
 unfolding table spread spreader
 returns c = refl
