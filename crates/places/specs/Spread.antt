@@ -1,8 +1,10 @@
 -- The spreader (document 01, "Linear order": "bit k goes to bit 2k, the others are 0").
 use Prim.Native.Nat.{ℕ, zero, suc, _+_, _*_, _/_, _%_}
+use mathlib.Core.List.{List}
 use mathlib.Core.Path.{_≡_}
 use mathlib.Core.Bool.{Bool, false}
 use Rattle.bits.specs.Bits.{bit}
+use Rattle.sizes.specs.Tables.{table}
 
 -- the rule
 pub record Spreads (x y : ℕ) : Type 0 where
@@ -13,3 +15,7 @@ pub record Spreads (x y : ℕ) : Type 0 where
 unfoldable pub spread : ℕ → ℕ → ℕ
 spread zero x = 0
 spread (suc n) x = spread n (x / 2) * 4 + x % 2
+
+-- "a constant table of 256 entries from one byte to two"
+unfoldable pub spreader : List ℕ
+spreader = table 256 (λ x. spread 8 x)

@@ -1,0 +1,5 @@
+pub mod Laws
+pub mod Sample
+pub mod Decided
+pub mod Lookups
+pub mod Passed
