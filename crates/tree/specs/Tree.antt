@@ -1,14 +1,17 @@
 -- Children and descendants of a place (document 01, "Linear order").
 use Prim.Native.Nat.{ℕ, zero, suc, _+_, _*_, _/_}
-use mathlib.Core.Bool.{Bool, _&&_, cond}
+use mathlib.Core.Bool.{Bool, false, _&&_, _||_, cond}
 use mathlib.Core.List.{List, [], _∷_, _++_, flatMap}
 use lib.Dec.{leb, ltb}
 use Rattle.sizes.specs.Sizes.{allOf, coarsestOf}
 
+-- 4i to 4i+3
+abbrev pub fours : ℕ → List ℕ
+fours i = (4 * i) ∷ (4 * i + 1) ∷ (4 * i + 2) ∷ (4 * i + 3) ∷ []
+
 -- "Children of place i are 4i to 4i+3, for i from D/4 to I/4-1. Places 0 to D/4-1 have none."
 unfoldable pub children : ℕ → ℕ → ℕ → List ℕ
-children N L i =
-    cond (leb (coarsestOf N L / 4) i && ltb i (allOf N / 4)) ((4 * i) ∷ (4 * i + 1) ∷ (4 * i + 2) ∷ (4 * i + 3) ∷ []) []
+children N L i = cond (leb (coarsestOf N L / 4) i && ltb i (allOf N / 4)) (fours i) []
 
 -- the descendants of place i, at most n generations down
 unfoldable pub descendants : ℕ → ℕ → ℕ → ℕ → List ℕ
@@ -22,3 +25,13 @@ desc N L i = descendants N L N i
 -- "GRAND(i) is DESC(i) without the children": what descends from them
 unfoldable pub grand : ℕ → ℕ → ℕ → List ℕ
 grand N L i = flatMap (λ c. desc N L c) (children N L i)
+
+-- some member of a list has p
+unfoldable pub anyIn : (ℕ → Bool) → List ℕ → Bool
+anyIn p [] = false
+anyIn p (j ∷ rest) = p j || anyIn p rest
+
+-- the sum of g over the members of a list
+unfoldable pub sumOver : (ℕ → ℕ) → List ℕ → ℕ
+sumOver g [] = 0
+sumOver g (j ∷ rest) = g j + sumOver g rest

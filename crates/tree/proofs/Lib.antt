@@ -1,0 +1,5 @@
+pub mod Lists
+pub mod Laws
+pub mod Members
+pub mod Sums
+pub mod Ors

@@ -1,0 +1,65 @@
+-- Sums over DESC and GRAND.
+use mathlib.Core.Path.{_≡_, refl, sym, ap, _∙_}
+use mathlib.Core.Logic.{⊎-elim}
+use mathlib.Core.List.{List, [], _++_, flatMap}
+use Prim.Native.Nat.{ℕ, _+_, _*_, _/_, _≤_, _<_}
+use native.Mathlib.Omega.{arith}
+use Rattle.sizes.specs.Sizes.{allOf, coarsestOf, Sized}
+use Rattle.sizes.proofs.Laws.{all-sixteen}
+use Rattle.tree.specs.Tree.{fours, children, desc, grand, sumOver}
+use Rattle.tree.proofs.Lists.{order, Each, each-to, sum-append, sum-flat, sum-four, sum-same, sum-le}
+use Rattle.tree.proofs.Laws.{children-some, desc-is, desc-low, desc-high, grand-low, grand-high}
+use Rattle.tree.proofs.Members.{InDesc, InGrand, each-desc, each-grand}
+
+module _ (N L : ℕ) (z : Sized N L) (g : ℕ → ℕ) where
+  -- nothing below D/4
+  pub desc-sum-low : (i : ℕ) → i < coarsestOf N L / 4 → sumOver g (desc N L i) ≡ 0
+  unfolding sumOver
+  desc-sum-low i p = rw (desc-low N L i p)
+
+  pub grand-sum-low : (i : ℕ) → i < coarsestOf N L / 4 → sumOver g (grand N L i) ≡ 0
+  unfolding sumOver
+  grand-sum-low i p = rw (grand-low N L i p)
+
+  -- nothing for places without children, or without grandchildren
+  pub desc-sum-high : (i : ℕ) → allOf N / 4 ≤ i → sumOver g (desc N L i) ≡ 0
+  unfolding sumOver
+  desc-sum-high i p = rw (desc-high N L i p)
+
+  pub grand-sum-high : (i : ℕ) → allOf N / 16 ≤ i → sumOver g (grand N L i) ≡ 0
+  unfolding sumOver
+  grand-sum-high i p = rw (grand-high N L z i p)
+
+  -- DESC is the four children and GRAND
+  pub desc-sum : (i : ℕ) → coarsestOf N L / 4 ≤ i → i < allOf N / 4
+      → sumOver g (desc N L i) ≡ g (4 * i) + g (4 * i + 1) + g (4 * i + 2) + g (4 * i + 3) + sumOver g (grand N L i)
+  desc-sum i p q =
+      ap (λ (l : List ℕ). sumOver g l) (desc-is N L z i) ∙ sum-append g (children N L i) (grand N L i)
+      ∙ rw (children-some N L i p q, sum-four g i)
+
+  -- GRAND is DESC of the four children
+  pub grand-sum : (i : ℕ) → coarsestOf N L / 4 ≤ i
+      → sumOver g (grand N L i) ≡ sumOver g (desc N L (4 * i)) + sumOver g (desc N L (4 * i + 1)) + sumOver g (desc N L (4 * i + 2)) + sumOver g (desc N L (4 * i + 3))
+  grand-sum i p = ⊎-elim none some (order (allOf N / 4) i)
+    where
+      some : i < allOf N / 4 → sumOver g (grand N L i) ≡ sumOver g (desc N L (4 * i)) + sumOver g (desc N L (4 * i + 1)) + sumOver g (desc N L (4 * i + 2)) + sumOver g (desc N L (4 * i + 3))
+      some q =
+          let e : grand N L i ≡ flatMap (λ c. desc N L c) (fours i) = unfold grand in rw (children-some N L i p q) in
+          rw e (sum-flat g (λ c. desc N L c) (fours i) ∙ sum-four (λ c. sumOver g (desc N L c)) i)
+      none : allOf N / 4 ≤ i → sumOver g (grand N L i) ≡ sumOver g (desc N L (4 * i)) + sumOver g (desc N L (4 * i + 1)) + sumOver g (desc N L (4 * i + 2)) + sumOver g (desc N L (4 * i + 3))
+      none q = omega (arith, grand-sum-high i (omega arith), desc-sum-high (4 * i) (omega arith), desc-sum-high (4 * i + 1) (omega arith), desc-sum-high (4 * i + 2) (omega arith), desc-sum-high (4 * i + 3) (omega arith))
+
+-- over the same members, a larger function has a larger sum
+module _ (N L : ℕ) (z : Sized N L) (g h : ℕ → ℕ) (le : (j : ℕ) → coarsestOf N L ≤ j → j < allOf N → g j ≤ h j) where
+  pub desc-sum-le : (i : ℕ) → sumOver g (desc N L i) ≤ sumOver h (desc N L i)
+  desc-sum-le i = sum-le g h (desc N L i) (each-to (InDesc N L i) (λ j. g j ≤ h j) (λ j m. le j (m .0) (m .1)) (desc N L i) (each-desc N L z i))
+
+  pub grand-sum-le : (i : ℕ) → sumOver g (grand N L i) ≤ sumOver h (grand N L i)
+  grand-sum-le i = sum-le g h (grand N L i) (each-to (InGrand N L i) (λ j. g j ≤ h j) (λ j m. le j (m .0) (m .1)) (grand N L i) (each-grand N L z i))
+
+module _ (N L : ℕ) (z : Sized N L) (g h : ℕ → ℕ) (same : (j : ℕ) → coarsestOf N L ≤ j → j < allOf N → g j ≡ h j) where
+  pub desc-sum-same : (i : ℕ) → sumOver g (desc N L i) ≡ sumOver h (desc N L i)
+  desc-sum-same i = sum-same g h (desc N L i) (each-to (InDesc N L i) (λ j. g j ≡ h j) (λ j m. same j (m .0) (m .1)) (desc N L i) (each-desc N L z i))
+
+  pub grand-sum-same : (i : ℕ) → sumOver g (grand N L i) ≡ sumOver h (grand N L i)
+  grand-sum-same i = sum-same g h (grand N L i) (each-to (InGrand N L i) (λ j. g j ≡ h j) (λ j m. same j (m .0) (m .1)) (grand N L i) (each-grand N L z i))
