@@ -41,7 +41,10 @@ packed u = table (bytesFor (length u)) (λ j. number 8 (λ k. getD u (8 * j + k)
 abbrev pub fetched : List ℕ → ℕ → Next
 fetched body k = cond (ltb (k / 8) (length body)) (Bit (bitAt body k)) NoMore
 
--- a body with x put at bit k: what lies above it in its byte stays, what lies below is 0; past the end nothing is put
+-- a byte with x put at its bit k, counted from the highest: what lies above it stays, what lies below is 0
+unfoldable pub byteWith : ℕ → ℕ → Bool → ℕ
+byteWith v k x = v / 2 ^ (8 - k) % 2 ^ k * 2 ^ (8 - k) + digit x * 2 ^ (7 - k)
+
+-- a body with x put at bit k; past the end nothing is put
 unfoldable pub withBit : List ℕ → ℕ → Bool → List ℕ
-withBit body k x =
-    set body (k / 8) (getD body (k / 8) 0 / 2 ^ (8 - k % 8) * 2 ^ (8 - k % 8) + digit x * 2 ^ (7 - k % 8))
+withBit body k x = set body (k / 8) (byteWith (getD body (k / 8) 0) (k % 8) x)

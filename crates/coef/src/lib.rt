@@ -1,7 +1,10 @@
 // Coefficients: sign and magnitude, the limit, planes, the float.
 use refusals::Refusal;
+use sizes::LIMIT;
 ghost use mathlib.Core.Path.{_≡_};
-ghost use Rattle.coef.specs.Coef.{negative, magnitude, partedOf, joinedOf, firstOver, IsPlanes, floatOf, Exactly};
+ghost use Prim.Native.Nat.{ℕ, _≤_, _<_, _^_, max};
+ghost use Rattle.sizes.specs.Sizes.{limit};
+ghost use Rattle.coef.specs.Coef.{negative, magnitude, signed, within, magAt, partedOf, joinedOf, firstOver, IsPlanes, floatOf, Exactly};
 
 pub struct Signed {
     pub negative: bool,
@@ -21,4 +24,153 @@ pub enum Joined {
 pub enum Float {
     Is(f32),
     Refused(Refusal),
+}
+
+// The least 32-bit signed number, which has no negative in its type.
+const LEAST: i32 = -2147483648;
+
+// Whether x is below 0.
+pub fn is_negative(x: i32) -> bool
+    ensures { λ r. ⌜ r ≡ negative x ⌝ }
+{
+    x < 0
+}
+
+// The magnitude of a number that has a negative in its type.
+fn negated_if_below(x: i32) -> u32
+    requires { ⌜ magnitude x < 2 ^ 31 ⌝ }
+    ensures { λ r. ⌜ r ≡ magnitude x ⌝ }
+{
+    if x < 0 {
+        return (-x) as u32;
+    }
+    x as u32
+}
+
+// The magnitude of any number. The least one is told apart before any negation.
+pub fn magnitude(x: i32) -> u32
+    ensures { λ r. ⌜ r ≡ magnitude x ⌝ }
+{
+    if x == LEAST {
+        return 2147483648;
+    }
+    negated_if_below(x)
+}
+
+// Sign and magnitude of a coefficient. The least number is refused before any negation.
+pub fn part_of(x: i32) -> Parted
+    ensures { λ r. ⌜ r ≡ partedOf x ⌝ }
+{
+    if x == LEAST {
+        return Parted::TooLarge;
+    }
+    let size = negated_if_below(x);
+    if size <= LIMIT {
+        return Parted::Is(Signed {
+            negative: x < 0,
+            magnitude: size,
+        });
+    }
+    Parted::TooLarge
+}
+
+// A magnitude within the limit, with a sign.
+fn with_sign(below: bool, size: u32) -> i32
+    requires { ⌜ size ≤ limit ⌝ }
+    ensures { λ r. ⌜ r ≡ signed below size ⌝ }
+{
+    let value = size as i32;
+    if below {
+        return -value;
+    }
+    value
+}
+
+// The coefficient with this sign and magnitude.
+pub fn join_of(s: Signed) -> Joined
+    ensures { λ r. ⌜ r ≡ joinedOf s ⌝ }
+{
+    let size = s.magnitude;
+    if size <= LIMIT {
+        return Joined::Is(with_sign(s.negative, size));
+    }
+    Joined::TooLarge
+}
+
+// Whether a coefficient is within the limit.
+fn is_within(x: i32) -> bool
+    ensures { λ r. ⌜ r ≡ within x ⌝ }
+{
+    magnitude(x) <= LIMIT
+}
+
+// The first place of a coefficient over the limit, or the length where there is none.
+pub fn first_over(a: &[i32]) -> usize
+    ensures { λ r. ⌜ r ≡ firstOver (now (a .entry)) ⌝ }
+{
+    let mut i = 0;
+    while i < a.len() {
+        let x = a[i];
+        if !is_within(x) {
+            return i;
+        }
+        i += 1;
+    }
+    i
+}
+
+// The larger of two.
+fn larger(a: u32, b: u32) -> u32
+    ensures { λ r. ⌜ r ≡ max a b ⌝ }
+{
+    if a < b {
+        return b;
+    }
+    a
+}
+
+// The largest magnitude.
+fn largest(a: &[i32]) -> u32
+    ensures above { λ r. ⌜ ((i : ℕ) → magAt (now (a .entry)) i ≤ r) ⌝ }
+    ensures least { λ r. ⌜ ((m : ℕ) → ((i : ℕ) → magAt (now (a .entry)) i ≤ m) → r ≤ m) ⌝ }
+{
+    let mut most = 0u32;
+    let mut i = 0;
+    while i < a.len() {
+        let x = a[i];
+        most = larger(most, magnitude(x));
+        i += 1;
+    }
+    most
+}
+
+// The least k with x below 2^k.
+fn width(x: u32) -> u32
+    ensures above { λ r. ⌜ x < 2 ^ r ⌝ }
+    ensures least { λ r. ⌜ ((k : ℕ) → x < 2 ^ k → r ≤ k) ⌝ }
+{
+    let mut k = 0u32;
+    let mut left = x;
+    while 0 < left {
+        left = left / 2;
+        k += 1;
+    }
+    k
+}
+
+// The planes of an array: the least P with every magnitude below 2^P.
+pub fn planes(a: &[i32]) -> u32
+    ensures { λ r. ⌜ IsPlanes (now (a .entry)) r ⌝ }
+{
+    width(largest(a))
+}
+
+// A coefficient as a float, which is exactly that whole number; 0 gives plus zero.
+pub fn float_of(x: i32) -> Float
+    ensures { λ r. ⌜ (r ≡ floatOf x) × Exactly x r ⌝ }
+{
+    if is_within(x) {
+        return Float::Is(x as f32);
+    }
+    Float::Refused(Refusal::Coefficient(0))
 }

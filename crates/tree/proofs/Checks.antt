@@ -1,8 +1,8 @@
 -- The checks of `summaries`, one way at a time.
-use mathlib.Core.Path.{_≡_, refl, sym, ap, _∙_}
-use mathlib.Core.Bool.{Bool, true, false, _&&_, cond}
-use mathlib.Core.List.{List, [], _∷_}
-use Prim.Native.Nat.{ℕ, zero, suc, _/_, _≤_, _<_}
+use mathlib.Core.Path.{_≡_, refl, sym, _∙_}
+use mathlib.Core.Bool.{Bool, true, false, _&&_}
+use mathlib.Core.List.{List, _∷_}
+use Prim.Native.Nat.{ℕ, _/_, _≤_, _<_}
 use native.Mathlib.Omega.{arith}
 use borrow.Author.Tests.{eqb-true, eq-eqb, ne-eqb, leb-true, le-leb, lt-leb}
 use lib.Dec.{leb, eqb}
@@ -15,18 +15,10 @@ use Rattle.refusals.specs.declared.Outcome.{Outcome}
 use Rattle.refusals.specs.declared.Outcome.the-variants.{Done, Refused}
 use Rattle.sizes.specs.Sizes.{allOf, sideFits, levelsFit}
 use Rattle.sizes.proofs.Laws.{both-left, both-right}
-use Rattle.coef.specs.Coef.{within, firstOver}
+use Rattle.coef.specs.Coef.{firstOver}
+use Rattle.coef.proofs.Laws.{first-le}
 use Rattle.tree.specs.Summaries.{summaryChecks}
 use Rattle.tree.specs.Filling.{Ready}
-
-over-most : (A : List ℤ) → firstOver A ≤ length A
-unfolding firstOver
-over-most [] = omega arith
-over-most (x ∷ A) = tell (within x) (over-most A)
-  where
-    tell : (t : Bool) → firstOver A ≤ length A → cond t (suc (firstOver A)) 0 ≤ length (x ∷ A)
-    tell true h = omega arith
-    tell false h = omega arith
 
 -- done is what is left where every check holds
 first-done : (t : Bool) (why : Refusal) (rest : List Check) → firstOf (need t why ∷ rest) ≡ Done → (t ≡ true) × (firstOf rest ≡ Done)
@@ -56,7 +48,7 @@ module _ (N L : ℕ) (A : List ℤ) (descs grands : ℕ) where
 
         module _ (o : length A ≤ firstOver A) where
           within-limit : eqb (firstOver A) (length A) ≡ true
-          within-limit = eq-eqb (firstOver A) (length A) (omega (arith, over-most A))
+          within-limit = eq-eqb (firstOver A) (length A) (omega (arith, first-le A))
 
           pub no-desc : descs < allOf N / 4 → Refused Lent ≡ firstOf (summaryChecks N L A descs grands)
           unfolding firstOf
@@ -71,9 +63,10 @@ module _ (N L : ℕ) (A : List ℤ) (descs grands : ℕ) where
             unfolding firstOf
             all-well g = rw (s, l, eq-eqb (length A) (allOf N) w, within-limit, le-leb (allOf N / 4) descs d, le-leb (allOf N / 16) grands g)
 
-  pub ready : firstOf (summaryChecks N L A descs grands) ≡ Done → Ready N L A descs grands
-  ready e =
-      let a = first-done (sideFits N) Side _ e in
+  -- the answer that all is well says what the fill asks
+  pub ready : (r : Outcome) → r ≡ firstOf (summaryChecks N L A descs grands) → r ≡ Done → Ready N L A descs grands
+  ready r is done =
+      let a = first-done (sideFits N) Side _ (sym is ∙ done) in
       let b = first-done (levelsFit N L) Levels _ (a .1) in
       let c = first-done (eqb (length A) (allOf N)) Length _ (b .1) in
       let d = first-done (eqb (firstOver A) (length A)) (Coefficient (firstOver A)) _ (c .1) in
@@ -83,5 +76,5 @@ module _ (N L : ℕ) (A : List ℤ) (descs grands : ℕ) where
         levels = b .0;
         whole = eqb-true (length A) (allOf N) (c .0);
         descRoom = leb-true (allOf N / 4) descs (both-left (leb (allOf N / 4) descs) (leb (allOf N / 16) grands) (f .0));
-        grandRoom = leb-true (allOf N / 16) grands (both-right (leb (allOf N / 4) descs) (leb (allOf N / 16) grands) (f .0))
+        grandRoom = leb-true (allOf N / 16) grands (both-right (leb (allOf N / 4) descs) (leb (allOf N / 16) grands) (f .0));
       }

@@ -1,11 +1,11 @@
 -- A table that is filled from its end: what it holds on the way.
 use mathlib.Core.Path.{_≡_, refl, sym, ap, _∙_}
 use mathlib.Core.List.{List, [], _∷_, _++_, map, append-assoc}
-use Prim.Native.Nat.{ℕ, zero, suc, _+_, _*_, _-_, _≤_, _<_}
+use Prim.Native.Nat.{ℕ, suc, _+_, _*_, _-_, _≤_, _<_}
 use native.Mathlib.Omega.{arith}
 use lib.Bits.{bitOr, or-zero-r}
 use lib.ListN.{length, getD, take, drop, set, length-append, length-drop, take-append-drop, List·getD-append}
-use lib.Seq.{length-take-le, take-suc, drop-cons, set-at, drop-at, getD-append-add, getD-drop, getD-take, take-append-le, take-take, take-all, drop-append-le, drop-append-add, drop-drop, ext-getD}
+use lib.Seq.{length-take-le, take-suc, drop-cons, set-at, drop-at, getD-append-add, getD-drop, getD-take, take-append-le, take-take, drop-append-le, drop-append-add, drop-drop, ext-getD}
 use Rattle.sizes.specs.Tables.{table}
 use Rattle.sizes.proofs.Tables.{table-length, table-at, table-is}
 use Rattle.tree.specs.Tree.{fours}
@@ -22,9 +22,6 @@ module _ (own held : List ℕ) (room : length own ≤ length held) where
 
   front : (i : ℕ) → i ≤ length own → length (take i held) ≡ i
   front i h = length-take-le i held (omega arith)
-
-  filled-length : (i : ℕ) → i ≤ length own → length (filledFrom i own held) ≡ length held
-  filled-length i h = omega (arith, length-append (take i held) (drop i (own ++ drop (length own) held)), length-drop i (own ++ drop (length own) held), full-length, front i h)
 
   -- nothing yet
   filled-none : filledFrom (length own) own held ≡ held
@@ -83,9 +80,6 @@ module _ (n : ℕ) (f : ℕ → ℕ) (held : List ℕ) (room : n ≤ length held
   read i j l h k e =
       ap (λ (x : List ℕ). getD x j 0) e ∙ filled-at (table n f) held fits i j h (omega (arith, table-length n f)) ∙ table-at n f j 0 k
 
-  pub same-size : (i : ℕ) (l : List ℕ) → i ≤ n → l ≡ filledFrom i (table n f) held → length l ≡ length held
-  same-size i l h e = ap (λ (x : List ℕ). length x) e ∙ filled-length (table n f) held fits i (omega (arith, table-length n f))
-
   pub on : (i j : ℕ) → j ≤ i → i ≤ n → filledFrom j (table n f) (filledFrom i (table n f) held) ≡ filledFrom j (table n f) held
   on i j h k = filled-again (table n f) held fits i j h (omega (arith, table-length n f))
 
@@ -102,12 +96,17 @@ table-drop n i f g h =
 pub filled-same : (n i : ℕ) (f g : ℕ → ℕ) (held : List ℕ) → i ≤ n → ((k : ℕ) → i ≤ k → k < n → f k ≡ g k)
     → filledFrom i (table n f) held ≡ filledFrom i (table n g) held
 filled-same n i f g held l h =
-    rw (table-length n f, table-length n g, drop-append-le i (table n f) (drop n held) (omega (arith, table-length n f)),
-      drop-append-le i (table n g) (drop n held) (omega (arith, table-length n g)), table-drop n i f g h)
+    rw (
+      table-length n f,
+      table-length n g,
+      drop-append-le i (table n f) (drop n held) (omega (arith, table-length n f)),
+      drop-append-le i (table n g) (drop n held) (omega (arith, table-length n g)),
+      table-drop n i f g h,
+    )
 
 -- what is left to the front is 0
 pub filled-whole : (n i : ℕ) (f : ℕ → ℕ) (held : List ℕ) → n ≤ length held → i ≤ n → ((k : ℕ) → k < i → f k ≡ 0)
-    → table i (λ k. 0) ++ drop i (filledFrom i (table n f) held) ≡ table n f ++ drop (length (table n f)) held
+    → table i (λ k. 0) ++ drop i (filledFrom i (table n f) held) ≡ filledFrom 0 (table n f) held
 filled-whole n i f held room l h =
     let full = table n f ++ drop (length (table n f)) held in
     let e : drop i (filledFrom i (table n f) held) ≡ drop i full =

@@ -6,3 +6,5 @@ pub mod Ors
 pub mod Filling
 pub mod Parts
 pub mod Checks
+pub mod Decided
+pub mod Folds

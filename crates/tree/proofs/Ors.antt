@@ -1,8 +1,8 @@
 -- The summaries: what their bits say, and how an entry follows from those past it.
-use mathlib.Core.Path.{_≡_, refl, sym, ap, _∙_}
-use mathlib.Core.Bool.{Bool, false}
-use mathlib.Core.List.{List, [], _++_, map, flatMap}
-use Prim.Native.Nat.{ℕ, suc, _+_, _*_, _/_, _^_, _≤_, _<_}
+use mathlib.Core.Path.{_≡_, sym, ap, _∙_}
+use mathlib.Core.Bool.{false}
+use mathlib.Core.List.{List, _++_, map, flatMap}
+use Prim.Native.Nat.{ℕ, suc, _/_, _^_, _≤_, _<_}
 use native.Mathlib.Omega.{arith}
 use lib.Bits.{bitOr, or-zero-r}
 use lib.Dec.{leb}
@@ -12,7 +12,7 @@ use Rattle.sizes.specs.Sizes.{allOf, coarsestOf, Sized}
 use Rattle.sizes.proofs.Laws.{coarsest-least}
 use Rattle.bits.specs.Bits.{bit}
 use Rattle.coef.specs.Coef.{magAt}
-use Rattle.tree.specs.Tree.{fours, children, desc, grand, anyIn}
+use Rattle.tree.specs.Tree.{fours, desc, grand, anyIn}
 use Rattle.tree.specs.Summaries.{orAll, descOr, grandOr}
 use Rattle.tree.specs.Filling.{childrenOr, entriesOr}
 use Rattle.tree.proofs.Lists.{each-four, or-append, or-flat, or-same, all-bit, all-top}

@@ -1,7 +1,7 @@
 -- The parts of the fill, put together.
-use mathlib.Core.Path.{_≡_, refl, sym, ap, _∙_}
+use mathlib.Core.Path.{_≡_, sym, ap, _∙_}
 use mathlib.Core.List.{List, _++_}
-use Prim.Native.Nat.{ℕ, _/_, _≤_, _<_}
+use Prim.Native.Nat.{ℕ, _/_, _≤_}
 use native.Mathlib.Omega.{arith}
 use lib.IntN.{ℤ}
 use lib.ListN.{length, drop}
@@ -9,7 +9,7 @@ use Rattle.sizes.specs.Sizes.{allOf, coarsestOf, Sized}
 use Rattle.sizes.specs.Tables.{table}
 use Rattle.sizes.proofs.Laws.{coarsest-all}
 use Rattle.tree.specs.Summaries.{descOr, grandOr, descTable, grandTable}
-use Rattle.tree.specs.Filling.{childrenOr, filledFrom}
+use Rattle.tree.specs.Filling.{childrenOr, childrenTable, filledFrom}
 use Rattle.tree.proofs.Filling.{on, filled-same, filled-whole}
 use Rattle.tree.proofs.Ors.{desc-last, desc-zero, grand-zero}
 
@@ -19,7 +19,7 @@ module _ (N L : ℕ) (A : List ℤ) (z : Sized N L) where
   low-most = omega (arith, coarsest-all N L z)
 
   module _ (whole : length A ≡ allOf N) (held : List ℕ) (room : allOf N / 4 ≤ length held) (first : List ℕ)
-      (filled : first ≡ filledFrom (length A / 16) (table (length A / 4) (λ i. childrenOr A i)) held) where
+      (filled : first ≡ filledFrom (length A / 16) (childrenTable A) held) where
     -- the places whose children have none
     last-part : first ≡ filledFrom (allOf N / 16) (descTable N L A) held
     last-part =
@@ -37,7 +37,7 @@ module _ (N L : ℕ) (A : List ℤ) (z : Sized N L) where
 
     pub desc-all : (second third : List ℕ) (low : ℕ) → second ≡ filledFrom (coarsestOf N L / 4) (descTable N L A) first
         → low ≡ coarsestOf N L / 4 → third ≡ table low (λ k. 0) ++ drop low second
-        → third ≡ descTable N L A ++ drop (length (descTable N L A)) held
+        → third ≡ filledFrom 0 (descTable N L A) held
     desc-all second third low e f g =
         let h : second ≡ filledFrom (coarsestOf N L / 4) (descTable N L A) held =
         e ∙ ap (λ (l : List ℕ). filledFrom (coarsestOf N L / 4) (descTable N L A) l) last-part
@@ -46,6 +46,6 @@ module _ (N L : ℕ) (A : List ℤ) (z : Sized N L) where
 
   pub grand-all : (held second third : List ℕ) (low : ℕ) → allOf N / 16 ≤ length held → second ≡ filledFrom (coarsestOf N L / 4) (grandTable N L A) held
       → low ≡ coarsestOf N L / 4 → third ≡ table low (λ k. 0) ++ drop low second
-      → third ≡ grandTable N L A ++ drop (length (grandTable N L A)) held
+      → third ≡ filledFrom 0 (grandTable N L A) held
   grand-all held second third low room e f g =
       g ∙ rw (f, e) (filled-whole (allOf N / 16) (coarsestOf N L / 4) (λ i. grandOr N L A i) held room low-most (λ k h. grand-zero N L A k h))

@@ -6,6 +6,7 @@ use mathlib.Core.List.{List, _++_, map}
 use lib.IntN.{ℤ}
 use lib.ListN.{length, getD, take, drop}
 use Rattle.sizes.specs.Sizes.{allOf, sideFits, levelsFit}
+use Rattle.sizes.specs.Tables.{table}
 use Rattle.coef.specs.Coef.{magAt}
 use Rattle.tree.specs.Tree.{fours}
 use Rattle.tree.specs.Summaries.{orAll}
@@ -16,6 +17,10 @@ childrenOr A i = orAll (map (λ j. magAt A j) (fours i))
 
 abbrev pub entriesOr : List ℕ → ℕ → ℕ
 entriesOr held i = orAll (map (λ j. getD held j 0) (fours i))
+
+-- what DESC is at places whose children have none
+abbrev pub childrenTable : List ℤ → List ℕ
+childrenTable A = table (length A / 4) (λ i. childrenOr A i)
 
 -- a lent table that holds `own` from entry i on, and the rest as it was
 abbrev pub filledFrom : ℕ → List ℕ → List ℕ → List ℕ

@@ -10,8 +10,9 @@ ghost use Rattle.sizes.specs.Sizes.{allOf, coarsestOf};
 ghost use Rattle.sizes.specs.Tables.{table};
 ghost use Rattle.coef.specs.Coef.{magAt};
 ghost use Rattle.tree.specs.Summaries.{descTable, grandTable, summaryChecks};
-ghost use Rattle.tree.specs.Filling.{childrenOr, entriesOr, filledFrom, Ready};
+ghost use Rattle.tree.specs.Filling.{childrenOr, childrenTable, entriesOr, filledFrom, Ready};
 
+// The magnitude of the coefficient at place j.
 fn magnitude_at(coefs: &[i32], j: usize) -> u32
     requires { ⌜ j < length (now coefs) ⌝ }
     ensures { λ r. ⌜ r ≡ magAt (now (coefs .entry)) j ⌝ }
@@ -44,10 +45,10 @@ fn entries_or(held: &[u32], i: usize) -> u32
     a | (b | (c | d))
 }
 
-// DESC of the places whose children have none, from the last.
+// Fills DESC of the places whose children have none, from the last.
 fn fill_last(coefs: &[i32], desc: &mut [u32])
     requires { ⌜ length (now coefs) / 4 ≤ length (now desc) ⌝ }
-    ensures { λ r. ⌜ now (desc .exit) ≡ filledFrom (length (now (coefs .entry)) / 16) (table (length (now (coefs .entry)) / 4) (λ i. childrenOr (now (coefs .entry)) i)) (now (desc .entry)) ⌝ }
+    ensures { λ r. ⌜ now (desc .exit) ≡ filledFrom (length (now (coefs .entry)) / 16) (childrenTable (now (coefs .entry))) (now (desc .entry)) ⌝ }
 {
     let end = coefs.len() / 16;
     let mut i = coefs.len() / 4;
@@ -58,7 +59,7 @@ fn fill_last(coefs: &[i32], desc: &mut [u32])
     }
 }
 
-// DESC and GRAND of the other places that have children, from the last.
+// Fills DESC and GRAND of the other places that have children, from the last.
 fn fill_inner(n: u32, l: u32, coefs: &[i32], desc: &mut [u32], grand: &mut [u32])
     requires { ⌜ Ready n l (now coefs) (length (now desc)) (length (now grand)) × (now desc ≡ filledFrom (allOf n / 16) (descTable n l (now coefs)) (now desc)) ⌝ }
     ensures { λ r. ⌜ now (desc .exit) ≡ filledFrom (coarsestOf n l / 4) (descTable n l (now (coefs .entry))) (now (desc .entry)) ⌝ }
@@ -75,7 +76,7 @@ fn fill_inner(n: u32, l: u32, coefs: &[i32], desc: &mut [u32], grand: &mut [u32]
     }
 }
 
-// 0 in the first entries.
+// Puts 0 into the first entries.
 fn clear(held: &mut [u32], count: usize)
     requires { ⌜ count ≤ length (now held) ⌝ }
     ensures { λ r. ⌜ now (held .exit) ≡ table count (λ k. 0) ++ drop count (now (held .entry)) ⌝ }
@@ -87,11 +88,11 @@ fn clear(held: &mut [u32], count: usize)
     }
 }
 
-// Both tables, from whatever they held.
+// Fills both tables, from whatever they held.
 fn fill(n: u32, l: u32, coefs: &[i32], desc: &mut [u32], grand: &mut [u32])
     requires { ⌜ Ready n l (now coefs) (length (now desc)) (length (now grand)) ⌝ }
-    ensures { λ r. ⌜ now (desc .exit) ≡ descTable n l (now (coefs .entry)) ++ drop (length (descTable n l (now (coefs .entry)))) (now (desc .entry)) ⌝ }
-    ensures { λ r. ⌜ now (grand .exit) ≡ grandTable n l (now (coefs .entry)) ++ drop (length (grandTable n l (now (coefs .entry)))) (now (grand .entry)) ⌝ }
+    ensures { λ r. ⌜ now (desc .exit) ≡ filledFrom 0 (descTable n l (now (coefs .entry))) (now (desc .entry)) ⌝ }
+    ensures { λ r. ⌜ now (grand .exit) ≡ filledFrom 0 (grandTable n l (now (coefs .entry))) (now (grand .entry)) ⌝ }
 {
     fill_last(coefs, desc);
     fill_inner(n, l, coefs, desc, grand);
@@ -100,7 +101,7 @@ fn fill(n: u32, l: u32, coefs: &[i32], desc: &mut [u32], grand: &mut [u32])
     clear(grand, low);
 }
 
-// Refusals 1 to 5, in that order.
+// The first of refusals 1 to 5 that holds, if any.
 fn check(n: u32, l: u32, coefs: &[i32], descs: usize, grands: usize) -> Outcome
     ensures { λ r. ⌜ r ≡ firstOf (summaryChecks n l (now (coefs .entry)) descs grands) ⌝ }
 {

@@ -1,53 +1,39 @@
 use Prim.Native.Nat.{ℕ, _≤_, _/_}
-use mathlib.Core.Path.{ap}
+use mathlib.Core.Path.{ap, _≡_, sym, _∙_}
 use Rattle.refusals.specs.declared.Refusal.the-variants.{Coefficient}
 use Rattle.refusals.specs.declared.Outcome.the-variants.{Refused}
-use Rattle.sizes.specs.Sizes.{sideFits, levelsFit}
+use Rattle.sizes.specs.Sizes.{sideFits, levelsFit, allOf}
 use Rattle.coef.specs.Coef.{firstOver}
-use mathlib.Core.Path.{_≡_, sym, _∙_}
-use mathlib.Core.Bool.{Bool, true, false}
+use mathlib.Core.Bool.{true}
 use native.Mathlib.Omega.{arith}
 use borrow.Author.Tests.{not-true, not-false}
 use lib.ListN.{length}
-use Rattle.sizes.specs.Sizes.{allOf, mostN}
 use Rattle.sizes.proofs.Laws.{side-most, all-most}
 use Rattle.tree.proofs.Checks.{no-side, no-levels, no-length, no-coefficient, no-desc, no-grand, all-well}
 use borrow.Author.Needs.{needs}
 use Rattle.tree.proofs.check.Statement.{statement}
 use Rattle.tree.proofs.check.Tie as tie
-use Rattle.tree.proofs.check.Reads as reads
-use Rattle.tree.proofs.check.Lts as lts
-use Rattle.coef.proofs.first_over.Reads as first-over-reads
-use Rattle.sizes.proofs.all_of.Reads as all-of-reads
-use Rattle.sizes.proofs.levels_fit.Reads as levels-fit-reads
-use Rattle.sizes.proofs.side_fits.Reads as side-fits-reads
 
--- src/lib.rt:107:9
 side-fits-requires : tie.Need-side-fits-requires
 side-fits-requires c κs = search needs
 
--- src/lib.rt:108:9
 returns : tie.Need-returns
 returns c =
     let a = c .before .before .args in
     no-side (a .n) (a .l) (a .coefs .now) (a .descs) (a .grands) (sym (c .before .side-fits .ensures) ∙ not-true (c .before .side-fits .result) (c .if1 .taken))
 
--- src/lib.rt:110:9
 levels-fit-requires : tie.Need-levels-fit-requires
 levels-fit-requires c κs = search needs
 
--- src/lib.rt:111:9
 returns-2 : tie.Need-returns-2
 returns-2 c =
     let a = c .before .before .before .before .args in
     let s : sideFits (a .n) ≡ true = sym (c .before .before .before .side-fits .ensures) ∙ not-false (c .before .before .before .side-fits .result) (c .before .before .if1 .left) in
     no-levels (a .n) (a .l) (a .coefs .now) (a .descs) (a .grands) s (sym (c .before .levels-fit .ensures) ∙ not-true (c .before .levels-fit .result) (c .if2 .taken))
 
--- src/lib.rt:113:9
 all-of-requires : tie.Need-all-of-requires
 all-of-requires c κs = search needs
 
--- src/lib.rt:115:9
 returns-3 : tie.Need-returns-3
 returns-3 c =
     let a = c .before .before .before .before .before .before .args in
@@ -56,11 +42,9 @@ returns-3 c =
     let all : c .before .all-of .result ≡ allOf (a .n) = c .before .all-of .ensures ∙ rw s in
     no-length (a .n) (a .l) (a .coefs .now) (a .descs) (a .grands) s l (λ (w : length (a .coefs .now) ≡ allOf (a .n)). c .if3 .taken (w ∙ sym all))
 
--- src/lib.rt:117:9
 first-over-requires : tie.Need-first-over-requires
 first-over-requires c κs = search needs
 
--- src/lib.rt:119:54
 cast-t14 : tie.Need-cast-t14
 cast-t14 c =
     let a = c .before .before .before .before .before .before .before .before .args in
@@ -69,7 +53,6 @@ cast-t14 c =
     let all : c .before .before .before .all-of .result ≡ allOf (a .n) = c .before .before .before .all-of .ensures ∙ rw s in
     record { fits = omega (arith, all-most (a .n) (side-most (a .n) s), c .if4 .taken) }
 
--- src/lib.rt:119:9
 returns-4 : tie.Need-returns-4
 returns-4 c =
     let a = c .before .before .before .before .before .before .before .before .args in
@@ -79,7 +62,6 @@ returns-4 c =
     let w : length (a .coefs .now) ≡ allOf (a .n) = c .before .before .if3 .left ∙ all in
     ap (λ (x : ℕ). Refused (Coefficient x)) (c .before .first-over .ensures) ∙ no-coefficient (a .n) (a .l) (a .coefs .now) (a .descs) (a .grands) s l w (omega (arith, c .before .first-over .ensures, c .if4 .taken))
 
--- src/lib.rt:122:9
 returns-5 : tie.Need-returns-5
 returns-5 c =
     let a = c .before .before .before .before .before .before .before .before .before .args in
@@ -90,7 +72,6 @@ returns-5 c =
     let o : length (a .coefs .now) ≤ firstOver (a .coefs .now) = omega (arith, c .before .before .first-over .ensures, c .before .if4 .left) in
     no-desc (a .n) (a .l) (a .coefs .now) (a .descs) (a .grands) s l w o (omega (arith, c .if5 .taken))
 
--- src/lib.rt:125:9
 returns-6 : tie.Need-returns-6
 returns-6 c =
     let a = c .before .before .before .before .before .before .before .before .before .before .args in
@@ -102,7 +83,6 @@ returns-6 c =
     let d : allOf (a .n) / 4 ≤ a .descs = omega (arith, c .before .if5 .left) in
     no-grand (a .n) (a .l) (a .coefs .now) (a .descs) (a .grands) s l w o d (omega (arith, c .if6 .taken))
 
--- src/lib.rt:104:1
 returns-7 : tie.Need-returns-7
 returns-7 c =
     let a = c .before .before .before .before .before .before .before .before .before .before .args in

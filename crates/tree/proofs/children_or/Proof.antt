@@ -3,55 +3,40 @@ use Rattle.tree.proofs.Filling.{or-four}
 use borrow.Author.Needs.{needs}
 use Rattle.tree.proofs.children_or.Statement.{statement}
 use Rattle.tree.proofs.children_or.Tie as tie
-use Rattle.tree.proofs.children_or.Reads as reads
-use Rattle.tree.proofs.children_or.Lts as lts
-use Rattle.tree.proofs.magnitude_at.Reads as magnitude-at-reads
 
--- src/lib.rt:28:33
 mul-magnitude-at : tie.Need-mul-magnitude-at
 mul-magnitude-at c = search needs
 
--- src/lib.rt:28:9
 magnitude-at-requires : tie.Need-magnitude-at-requires
 magnitude-at-requires c κs = search needs
 
--- src/lib.rt:29:33
 mul-magnitude-at-2 : tie.Need-mul-magnitude-at-2
 mul-magnitude-at-2 c = search needs
 
--- src/lib.rt:29:33
 add-magnitude-at : tie.Need-add-magnitude-at
 add-magnitude-at c = search needs
 
--- src/lib.rt:29:9
 magnitude-at-requires-2 : tie.Need-magnitude-at-requires-2
 magnitude-at-requires-2 c κs = search needs
 
--- src/lib.rt:30:33
 mul-magnitude-at-3 : tie.Need-mul-magnitude-at-3
 mul-magnitude-at-3 c = search needs
 
--- src/lib.rt:30:33
 add-magnitude-at-2 : tie.Need-add-magnitude-at-2
 add-magnitude-at-2 c = search needs
 
--- src/lib.rt:30:9
 magnitude-at-requires-3 : tie.Need-magnitude-at-requires-3
 magnitude-at-requires-3 c κs = search needs
 
--- src/lib.rt:31:33
 mul-magnitude-at-4 : tie.Need-mul-magnitude-at-4
 mul-magnitude-at-4 c = search needs
 
--- src/lib.rt:31:33
 add-magnitude-at-3 : tie.Need-add-magnitude-at-3
 add-magnitude-at-3 c = search needs
 
--- src/lib.rt:31:9
 magnitude-at-requires-4 : tie.Need-magnitude-at-requires-4
 magnitude-at-requires-4 c κs = search needs
 
--- src/lib.rt:24:1
 returns : tie.Need-returns
 returns c = cc (or-four (λ j. magAt (c .before .before .before .before .args .coefs .now) j) (c .before .before .before .before .args .i))
 

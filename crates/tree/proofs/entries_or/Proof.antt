@@ -3,70 +3,52 @@ use Rattle.tree.proofs.Filling.{or-four}
 use borrow.Author.Needs.{needs}
 use Rattle.tree.proofs.entries_or.Statement.{statement}
 use Rattle.tree.proofs.entries_or.Tie as tie
-use Rattle.tree.proofs.entries_or.Reads as reads
-use Rattle.tree.proofs.entries_or.Lts as lts
 
--- src/lib.rt:40:18
 mul-a : tie.Need-mul-a
 mul-a c = search needs
 
--- src/lib.rt:40:13
 mul-a-2 : tie.Need-mul-a-2
 mul-a-2 c = search needs
 
--- src/lib.rt:40:13
 shared-slice-read-a : tie.Need-shared-slice-read-a
 shared-slice-read-a c = search needs
 
--- src/lib.rt:41:18
 mul-b : tie.Need-mul-b
 mul-b c = search needs
 
--- src/lib.rt:41:18
 add-b : tie.Need-add-b
 add-b c = search needs
 
--- src/lib.rt:41:13
 mul-b-2 : tie.Need-mul-b-2
 mul-b-2 c = search needs
 
--- src/lib.rt:41:13
 shared-slice-read-b : tie.Need-shared-slice-read-b
 shared-slice-read-b c = search needs
 
--- src/lib.rt:42:18
 mul-c : tie.Need-mul-c
 mul-c c = search needs
 
--- src/lib.rt:42:18
 add-c : tie.Need-add-c
 add-c c = search needs
 
--- src/lib.rt:42:13
 mul-c-2 : tie.Need-mul-c-2
 mul-c-2 c = search needs
 
--- src/lib.rt:42:13
 shared-slice-read-c : tie.Need-shared-slice-read-c
 shared-slice-read-c c = search needs
 
--- src/lib.rt:43:18
 mul-d : tie.Need-mul-d
 mul-d c = search needs
 
--- src/lib.rt:43:18
 add-d : tie.Need-add-d
 add-d c = search needs
 
--- src/lib.rt:43:13
 mul-d-2 : tie.Need-mul-d-2
 mul-d-2 c = search needs
 
--- src/lib.rt:43:13
 shared-slice-read-d : tie.Need-shared-slice-read-d
 shared-slice-read-d c = search needs
 
--- src/lib.rt:36:1
 returns : tie.Need-returns
 returns c = or-four (λ j. getD (c .before .before .before .before .args .held .now) j 0) (c .before .before .before .before .args .i)
 

@@ -1,40 +1,28 @@
-use Prim.Native.Nat.{ℕ, _≤_, _/_}
+use Prim.Native.Nat.{ℕ, _/_}
 use mathlib.Core.Path.{_≡_, ap, _∙_}
 use native.Mathlib.Omega.{arith}
-use lib.ListN.{length}
-use Rattle.sizes.specs.Sizes.{allOf, coarsestOf}
+use Rattle.sizes.specs.Sizes.{coarsestOf}
 use Rattle.sizes.proofs.Laws.{sized}
 use Rattle.tree.proofs.Parts.{low-most, last-fixed, desc-all, grand-all}
 use borrow.Author.Needs.{needs}
 use Rattle.tree.proofs.fill.Statement.{statement}
 use Rattle.tree.proofs.fill.Tie as tie
-use Rattle.tree.proofs.fill.Reads as reads
-use Rattle.tree.proofs.fill.Lts as lts
-use Rattle.sizes.proofs.coarsest_of.Reads as coarsest-of-reads
-use Rattle.tree.proofs.clear.Reads as clear-reads
-use Rattle.tree.proofs.fill_inner.Reads as fill-inner-reads
-use Rattle.tree.proofs.fill_last.Reads as fill-last-reads
 
--- src/lib.rt:96:5
 fill-last-requires : tie.Need-fill-last-requires
 fill-last-requires c κs = search needs
 
--- src/lib.rt:97:5
 fill-inner-requires : tie.Need-fill-inner-requires
 fill-inner-requires c κs =
     let a = c .before .before .before .before .before .before .before .before .args in
     let p = c .before .before .before .before .before .before .before .before .pre in
-    let z = sized (a .n) (a .l) (p .levels) in
-    (
+    let z = sized (a .n) (a .l) (p .levels) in (
       record { side = p .side; levels = p .levels; whole = p .whole; descRoom = omega (arith, p .descRoom, c .before .before .before .before .fill-last .kept .1 .0); grandRoom = p .grandRoom },
       last-fixed (a .n) (a .l) (a .coefs .now) z (p .whole) (a .desc .now) (p .descRoom) (c .before .before .before .before .fill-last .last .1 .0) (c .before .before .before .before .fill-last .ensures),
     )
 
--- src/lib.rt:98:15
 coarsest-of-requires : tie.Need-coarsest-of-requires
 coarsest-of-requires c κs = search needs
 
--- src/lib.rt:99:5
 clear-requires : tie.Need-clear-requires
 clear-requires c κs =
     let a = c .before .before .before .before .before .before .before .before .before .before .before .before .before .before .before .args in
@@ -42,7 +30,6 @@ clear-requires c κs =
     let d : c .before .coarsest-of .result ≡ coarsestOf (a .n) (a .l) = c .before .coarsest-of .ensures ∙ rw (p .side, p .levels) in
     omega (arith, low-most (a .n) (a .l) (a .coefs .now) (sized (a .n) (a .l) (p .levels)), p .descRoom, c .before .before .before .before .before .before .before .before .before .before .before .fill-last .kept .1 .0, c .before .before .before .before .before .before .fill-inner .kept .1 .1 .1 .0)
 
--- src/lib.rt:100:5
 clear-requires-2 : tie.Need-clear-requires-2
 clear-requires-2 c κs =
     let a = c .before .before .before .before .before .before .before .before .before .before .before .before .before .before .before .before .before .before .before .args in
@@ -50,23 +37,19 @@ clear-requires-2 c κs =
     let d : c .before .before .before .before .before .coarsest-of .result ≡ coarsestOf (a .n) (a .l) = c .before .before .before .before .before .coarsest-of .ensures ∙ rw (p .side, p .levels) in
     omega (arith, low-most (a .n) (a .l) (a .coefs .now) (sized (a .n) (a .l) (p .levels)), p .grandRoom, c .before .before .before .before .before .before .before .before .before .before .fill-inner .kept .1 .1 .1 .1 .0)
 
--- src/lib.rt:91:1
 same-length : tie.Need-same-length
 same-length c = search needs
 
--- src/lib.rt:91:1
 same-length-2 : tie.Need-same-length-2
 same-length-2 c = search needs
 
--- src/lib.rt:91:1
 returns : tie.Need-returns
 returns c =
     let a = c .before .before .before .before .before .before .before .before .before .before .before .before .before .before .before .before .before .before .before .before .before .before .args in
     let p = c .before .before .before .before .before .before .before .before .before .before .before .before .before .before .before .before .before .before .before .before .before .before .pre in
     let z = sized (a .n) (a .l) (p .levels) in
     let d : c .before .before .before .before .before .before .before .before .coarsest-of .result ≡ coarsestOf (a .n) (a .l) = c .before .before .before .before .before .before .before .before .coarsest-of .ensures ∙ rw (p .side, p .levels) in
-    let low : c .before .before .before .before .before .before .before .before .coarsest-of .result / 4 ≡ coarsestOf (a .n) (a .l) / 4 = ap (λ (x : ℕ). x / 4) d in
-    (
+    let low : c .before .before .before .before .before .before .before .before .coarsest-of .result / 4 ≡ coarsestOf (a .n) (a .l) / 4 = ap (λ (x : ℕ). x / 4) d in (
       desc-all (a .n) (a .l) (a .coefs .now) z (p .whole) (a .desc .now) (p .descRoom) (c .before .before .before .before .before .before .before .before .before .before .before .before .before .before .before .before .before .before .fill-last .last .1 .0) (c .before .before .before .before .before .before .before .before .before .before .before .before .before .before .before .before .before .before .fill-last .ensures) (c .before .before .before .before .before .before .before .before .before .before .before .before .before .fill-inner .last .1 .1 .1 .0) (c .before .before .before .before .before .before .clear .last .0) (c .before .before .before .before .before .before .before .before .coarsest-of .result / 4) (c .before .before .before .before .before .before .before .before .before .before .before .before .before .fill-inner .ensures .0) low (c .before .before .before .before .before .before .clear .ensures),
       grand-all (a .n) (a .l) (a .coefs .now) z (a .grand .now) (c .before .before .before .before .before .before .before .before .before .before .before .before .before .fill-inner .last .1 .1 .1 .1 .0) (c .before .before .clear2 .last .0) (c .before .before .before .before .before .before .before .before .coarsest-of .result / 4) (p .grandRoom) (c .before .before .before .before .before .before .before .before .before .before .before .before .before .fill-inner .ensures .1) low (c .before .before .clear2 .ensures),
     )

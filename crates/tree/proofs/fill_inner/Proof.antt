@@ -1,24 +1,17 @@
 use lib.Bits.{bitOr}
 use Prim.Native.Nat.{ℕ, _≤_, _<_, _/_, _-_}
-use mathlib.Core.Path.{_≡_, ap, sym, _∙_}
-use mathlib.Core.List.{List}
+use mathlib.Core.Path.{_≡_, ap, _∙_}
 use native.Mathlib.Omega.{arith}
 use borrow.Author.Needs.{needs}
 use lib.ListN.{length, getD, length-set}
-use Rattle.sizes.specs.Sizes.{allOf, coarsestOf, Sized}
-use Rattle.sizes.specs.Tables.{table}
-use Rattle.sizes.proofs.Laws.{sized, coarsest-all, all-sixteen}
+use Rattle.sizes.specs.Sizes.{allOf, coarsestOf}
+use Rattle.sizes.proofs.Laws.{sized, coarsest-all}
 use Rattle.tree.specs.Summaries.{descOr, grandOr, descTable, grandTable}
 use Rattle.tree.specs.Filling.{filledFrom}
 use Rattle.tree.proofs.Filling.{begun, more, read}
 use Rattle.tree.proofs.Ors.{grand-entry, desc-entry}
 use Rattle.tree.proofs.fill_inner.Statement.{statement}
 use Rattle.tree.proofs.fill_inner.Tie as tie
-use Rattle.tree.proofs.fill_inner.Reads as reads
-use Rattle.tree.proofs.fill_inner.Lts as lts
-use Rattle.sizes.proofs.coarsest_of.Reads as coarsest-of-reads
-use Rattle.tree.proofs.children_or.Reads as children-or-reads
-use Rattle.tree.proofs.entries_or.Reads as entries-or-reads
 
 abbrev Inv-loop : tie.InvT-loop
 Inv-loop n l coefs desc₀ grand₀ low i₀ desc grand i =
@@ -28,19 +21,16 @@ Inv-loop n l coefs desc₀ grand₀ low i₀ desc grand i =
 abbrev μ-loop : tie.MeasureT-loop
 μ-loop n l coefs desc₀ grand₀ low i₀ desc grand i = i
 
--- src/lib.rt:67:15
 coarsest-of-requires : tie.Need-coarsest-of-requires Inv-loop μ-loop
 coarsest-of-requires c κs = search needs
 
--- src/lib.rt:69:5
 loop-holds : tie.Need-loop-holds Inv-loop μ-loop
 loop-holds c =
     let a = c .before .before .before .args in
     let p = c .before .before .before .pre in
     let z = sized (a .n) (a .l) (p .0 .levels) in
     let d : c .coarsest-of .result ≡ coarsestOf (a .n) (a .l) = c .coarsest-of .ensures ∙ rw (p .0 .side, p .0 .levels) in
-    let w : length (a .coefs .now) ≡ allOf (a .n) = p .0 .whole in
-    (
+    let w : length (a .coefs .now) ≡ allOf (a .n) = p .0 .whole in (
       ap (λ (x : ℕ). x / 4) d,
       omega (arith, coarsest-all (a .n) (a .l) z),
       omega arith,
@@ -50,39 +40,30 @@ loop-holds c =
       rw w (begun (allOf (a .n) / 16) (λ k. grandOr (a .n) (a .l) (a .coefs .now) k) (a .grand .now) (p .0 .grandRoom)),
     )
 
--- src/lib.rt:70:9
 sub-i : tie.Need-sub-i Inv-loop μ-loop
 sub-i c = search needs
 
--- src/lib.rt:71:13
 entries-or-requires : tie.Need-entries-or-requires Inv-loop μ-loop
 entries-or-requires c κs = omega (arith, c .before .before .before .before .before .before .pre .0 .descRoom)
 
--- src/lib.rt:72:13
 children-or-requires : tie.Need-children-or-requires Inv-loop μ-loop
 children-or-requires c κs = omega (arith, c .before .before .before .before .before .before .before .pre .0 .whole)
 
--- src/lib.rt:73:9
 mul-grand : tie.Need-mul-grand Inv-loop μ-loop
 mul-grand c = search needs
 
--- src/lib.rt:73:9
 slice-write-grand : tie.Need-slice-write-grand Inv-loop μ-loop
 slice-write-grand c = omega (arith, c .before .before .before .before .before .before .before .before .pre .0 .grandRoom)
 
--- src/lib.rt:74:9
 mul-desc : tie.Need-mul-desc Inv-loop μ-loop
 mul-desc c = search needs
 
--- src/lib.rt:74:9
 slice-write-desc : tie.Need-slice-write-desc Inv-loop μ-loop
 slice-write-desc c = omega (arith, c .before .before .before .before .before .before .before .before .pre .0 .descRoom)
 
--- src/lib.rt:69:5
 loop-less : tie.Need-loop-less Inv-loop μ-loop
 loop-less c = search needs
 
--- src/lib.rt:69:5
 loop-again : tie.Need-loop-again Inv-loop μ-loop
 loop-again c =
     let a = c .before .before .before .before .before .before .before .before .args in
@@ -98,8 +79,7 @@ loop-again c =
     let below : c .before .entries-or .result ≡ grandOr (a .n) (a .l) A i =
     c .before .entries-or .ensures ∙ grand-entry (a .n) (a .l) A z (l .desc) i low high past in
     let whole : bitOr (c .children-or .result) (c .before .entries-or .result) ≡ descOr (a .n) (a .l) A i =
-    rw (c .children-or .ensures, c .before .entries-or .ensures) (desc-entry (a .n) (a .l) A z (l .desc) i low high past) in
-    (
+    rw (c .children-or .ensures, c .before .entries-or .ensures) (desc-entry (a .n) (a .l) A z (l .desc) i low high past) in (
       l .inv .0,
       omega (arith, l .inv .0),
       omega arith,
@@ -109,15 +89,12 @@ loop-again c =
       more (allOf (a .n) / 16) (λ k. grandOr (a .n) (a .l) A k) (a .grand .now) (p .0 .grandRoom) (l .i) (c .before .entries-or .result) (l .grand) (omega arith) (omega arith) (l .inv .6) below,
     )
 
--- src/lib.rt:62:1
 same-length : tie.Need-same-length Inv-loop μ-loop
 same-length c = c .before .loop .inv .3
 
--- src/lib.rt:62:1
 same-length-2 : tie.Need-same-length-2 Inv-loop μ-loop
 same-length-2 c = c .before .loop .inv .4
 
--- src/lib.rt:62:1
 returns : tie.Need-returns Inv-loop μ-loop
 returns c =
     let l = c .before .loop in

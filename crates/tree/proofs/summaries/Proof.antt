@@ -1,45 +1,33 @@
-use mathlib.Core.Path.{_≡_, refl, sym, _∙_}
+use mathlib.Core.Path.{refl, sym, _∙_}
 use lib.ListN.{length}
 use Rattle.tree.proofs.Checks.{ready}
 use borrow.Author.Needs.{needs}
 use Rattle.tree.proofs.summaries.Statement.{statement}
 use Rattle.tree.proofs.summaries.Tie as tie
-use Rattle.tree.proofs.summaries.Reads as reads
-use Rattle.tree.proofs.summaries.Lts as lts
-use Rattle.tree.proofs.check.Reads as check-reads
-use Rattle.tree.proofs.fill.Reads as fill-reads
 
--- src/lib.rt:136:9
 check-requires : tie.Need-check-requires
 check-requires c κs = search needs
 
--- src/lib.rt:139:31
 enum-told : tie.Need-enum-told
 enum-told c = search needs
 
--- src/lib.rt:139:13
 fill-requires : tie.Need-fill-requires
 fill-requires c κs =
     let a = c .before .before .before .before .before .before .before .args in
-    ready (a .n) (a .l) (a .coefs .now) (length (a .desc .now)) (length (a .grand .now)) (sym (c .before .before .before .before .check .ensures) ∙ c .before .before .enum-told .given .1)
+    ready (a .n) (a .l) (a .coefs .now) (length (a .desc .now)) (length (a .grand .now)) (c .before .before .before .before .check .result) (c .before .before .before .before .check .ensures) (c .before .before .enum-told .given .1)
 
--- src/lib.rt:142:26
 enum-known-checked : tie.Need-enum-known-checked
 enum-known-checked c = search needs
 
--- src/lib.rt:131:1
 same-length : tie.Need-same-length
 same-length c = search needs
 
--- src/lib.rt:131:1
 same-length-2 : tie.Need-same-length-2
 same-length-2 c = search needs
 
--- src/lib.rt:131:1
 returns : tie.Need-returns
 returns c = (sym (c .before .before .before .before .before .before .before .enum-told .given .1) ∙ c .before .before .before .before .before .before .before .before .before .check .ensures, (c .before .before .before .before .fill .ensures .0, c .before .before .before .before .fill .ensures .1))
 
--- src/lib.rt:131:1
 returns-2 : tie.Need-returns-2
 returns-2 c = (sym (c .before .checked .given .1) ∙ c .before .before .before .check .ensures, (refl, refl))
 

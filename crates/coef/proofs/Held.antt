@@ -1,0 +1,104 @@
+-- What the machine does with a signed number. A local holds its bits, so that a goal speaks of `toZ w32 (ofZ w32 z)`.
+use mathlib.Core.Path.{_≡_, refl, sym, _∙_, ap, subst}
+use mathlib.Core.Bool.{Bool, true, false, true≢false, false≢true}
+use Prim.Native.Nat.{ℕ, zero, suc, _<_, _≤_, _^_}
+use native.Mathlib.Omega.{arith}
+use lib.Arith.{lt-of-le-ne}
+use lib.Dec.{T, leb·suc-zero, le→leb, lt→ltb}
+use lib.Ieee.{binary32, inFloat}
+use lib.IntN.{ℤ, pos, negsuc, negℤ, _-ℤ_, +ℤ-idl}
+use lib.Signed.{ltZ, nonNeg, mag}
+use mir.Facts.{toZ-ofZ, toZ-pos}
+use mir.Syntax.{w32}
+use mir.Val.{SFits, Fits, ofZ, toZ}
+use Rattle.sizes.specs.Sizes.{limit}
+use Rattle.coef.specs.Coef.{negative, magnitude, signed}
+
+-- an element of a `&[i32]`, as a read hands it over
+pub read-back : (z : ℤ) → mag z < 2 ^ 31 → toZ w32 (ofZ w32 z) ≡ z
+read-back z h = toZ-ofZ {w = w32} {z = z} (record { sfits = h })
+
+-- the test `x < 0`
+pub lt-zero : (z : ℤ) → SFits w32 z → ltZ (toZ w32 (ofZ w32 z)) (pos 0) ≡ negative z
+lt-zero z f = ap (λ (y : ℤ). ltZ y (pos 0)) (toZ-ofZ f) ∙ go z
+  where
+    go : (z : ℤ) → ltZ z (pos 0) ≡ negative z
+    go (pos a) = leb·suc-zero a
+    go (negsuc a) = refl
+
+-- the least number, by its bits
+pub not-least : (z : ℤ) → SFits w32 z → (ofZ w32 z ≡ 2147483648 → ⊥) → magnitude z < 2 ^ 31
+not-least (pos a) f n = f .sfits
+not-least (negsuc a) f n = lt-of-le-ne (f .sfits) (λ (e : suc a ≡ 2147483648). n (omega arith))
+
+pub least : (z : ℤ) → SFits w32 z → ofZ w32 z ≡ 2147483648 → magnitude z ≡ 2147483648
+least (pos a) f e = omega (arith, f .sfits)
+least (negsuc a) f e = omega (arith, f .sfits)
+
+-- a checked negation
+neg-fits : (z : ℤ) → magnitude z < 2 ^ 31 → SFits w32 (negℤ z)
+neg-fits (pos zero) h = record { sfits = h }
+neg-fits (pos (suc n)) h = record { sfits = omega arith }
+neg-fits (negsuc n) h = record { sfits = h }
+
+neg-size : (z : ℤ) → magnitude (negℤ z) ≡ magnitude z
+neg-size (pos zero) = refl
+neg-size (pos (suc n)) = refl
+neg-size (negsuc n) = refl
+
+neg-nonNeg : (z : ℤ) → negative z ≡ true → T (nonNeg (negℤ z))
+neg-nonNeg (pos n) h = absurd (false≢true h)
+neg-nonNeg (negsuc n) h = tt
+
+module _ (z : ℤ) (f : SFits w32 z) (h : magnitude z < 2 ^ 31) where
+  gone : pos 0 -ℤ toZ w32 (ofZ w32 z) ≡ negℤ z
+  gone = ap (λ (y : ℤ). pos 0 -ℤ y) (toZ-ofZ f) ∙ +ℤ-idl (negℤ z)
+
+  negated : toZ w32 (ofZ w32 (pos 0 -ℤ toZ w32 (ofZ w32 z))) ≡ negℤ z
+  negated = ap (λ (y : ℤ). toZ w32 (ofZ w32 y)) gone ∙ toZ-ofZ (neg-fits z h)
+
+  pub neg-sfits : SFits w32 (pos 0 -ℤ toZ w32 (ofZ w32 z))
+  neg-sfits = subst (λ (y : ℤ). SFits w32 y) (sym gone) (neg-fits z h)
+
+  pub neg-is : magnitude (toZ w32 (ofZ w32 (pos 0 -ℤ toZ w32 (ofZ w32 z)))) ≡ magnitude z
+  neg-is = ap magnitude negated ∙ neg-size z
+
+  -- what its cast to `u32` asks
+  pub neg-cast : negative z ≡ true
+      → T (nonNeg (toZ w32 (ofZ w32 (pos 0 -ℤ toZ w32 (ofZ w32 z))))) × Fits w32 (magnitude (toZ w32 (ofZ w32 (pos 0 -ℤ toZ w32 (ofZ w32 z)))))
+  neg-cast n =
+      subst (λ (y : ℤ). T (nonNeg y) × Fits w32 (magnitude y)) (sym negated)
+      (neg-nonNeg z n, record { fits = omega (arith, neg-size z) })
+
+-- what the cast of a number that is not below 0 asks
+pub pos-cast : (z : ℤ) → SFits w32 z → negative z ≡ false
+    → T (nonNeg (toZ w32 (ofZ w32 z))) × Fits w32 (magnitude (toZ w32 (ofZ w32 z)))
+pos-cast z f n = subst (λ (y : ℤ). T (nonNeg y) × Fits w32 (magnitude y)) (sym (toZ-ofZ f)) (go z f n)
+  where
+    go : (z : ℤ) → SFits w32 z → negative z ≡ false → T (nonNeg z) × Fits w32 (magnitude z)
+    go (pos a) f n = (tt, record { fits = omega (arith, f .sfits) })
+    go (negsuc a) f n = absurd (true≢false n)
+
+-- a magnitude within the limit as an `i32`, and its negative
+module _ (n : ℕ) (h : n ≤ limit) where
+  pub sign-plus : toZ w32 n ≡ signed false n
+  sign-plus = toZ-pos w32 (omega arith)
+
+  minus : pos 0 -ℤ toZ w32 n ≡ negℤ (pos n)
+  minus = ap (λ (y : ℤ). pos 0 -ℤ y) sign-plus ∙ +ℤ-idl (negℤ (pos n))
+
+  pub sign-fits : SFits w32 (pos 0 -ℤ toZ w32 n)
+  sign-fits = subst (λ (y : ℤ). SFits w32 y) (sym minus) (neg-fits (pos n) (omega arith))
+
+  pub sign-minus : toZ w32 (ofZ w32 (pos 0 -ℤ toZ w32 n)) ≡ signed true n
+  sign-minus = ap (λ (y : ℤ). toZ w32 (ofZ w32 y)) minus ∙ toZ-ofZ (neg-fits (pos n) (omega arith))
+
+pub signed-fits : (s : Bool) (n : ℕ) → n ≤ limit → SFits w32 (signed s n)
+signed-fits true n h = neg-fits (pos n) (omega arith)
+signed-fits false n h = record { sfits = omega arith }
+
+-- what the cast to `f32` asks
+pub in-float : (z : ℤ) → magnitude z ≤ limit → T (inFloat binary32 z)
+unfolding inFloat
+in-float (pos n) h = le→leb n 16777216 (omega arith)
+in-float (negsuc n) h = lt→ltb n 16777216 (omega arith)
