@@ -44,8 +44,9 @@ unfolding Each flatMap
 flat-none f [] e = refl
 flat-none f (c ∷ l) e = rw (e .0, flat-none f l (e .1))
 
--- SOME MEMBER
--- a test that two make
+-- ---- some member
+
+-- a test made of two
 pub either : {A : Type 0} (s t : Bool) → (s || t) ≡ true → (s ≡ true → A) → (t ≡ true → A) → A
 either true t e f g = f refl
 either false t e f g = g e
@@ -126,7 +127,8 @@ each-four P i h = (
   ),
 )
 
--- SUMS
+-- ---- sums
+
 pub sum-append : (g : ℕ → ℕ) (s t : List ℕ) → sumOver g (s ++ t) ≡ sumOver g s + sumOver g t
 unfolding sumOver
 sum-append g [] t = omega arith
@@ -156,7 +158,8 @@ unfolding sumOver
 sum-add g h [] = refl
 sum-add g h (j ∷ l) = omega (arith, sum-add g h l)
 
--- OR
+-- ---- the bitwise OR
+
 pub or-assoc : (a b c : ℕ) → bitOr (bitOr a b) c ≡ bitOr a (bitOr b c)
 or-assoc a = bin-ind (λ (a : ℕ). (b c : ℕ) → bitOr (bitOr a b) c ≡ bitOr a (bitOr b c)) (λ b c. refl) (λ n ih b c. step n b c (ih (b / 2) (c / 2))) a
   where

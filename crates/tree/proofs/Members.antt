@@ -48,12 +48,13 @@ under-down (suc n) i j h =
     ⊎-elim (λ e. inr (j / 4, e, under-child n (j / 4) j refl)) (λ r. inr (r .0, r .1, under-more n (r .0) j (r .2)))
     (under-down n i (j / 4) k))
 
--- whose parent descends from i descends from a child of i
+-- one whose parent descends from i descends from a child of i
 pub under-back : (n i j : ℕ) → under n i (j / 4) ≡ true → (c : ℕ) × (c / 4 ≡ i) × (under n c j ≡ true)
 under-back zero i j h = absurd (false≢true (unfold under in h))
 under-back (suc n) i j h =
     ⊎-elim (λ e. (j / 4, e, under-child n (j / 4) j refl)) (λ r. (r .0, r .1, under-more n (r .0) j (r .2))) (under-down n i (j / 4) h)
 
+-- a descendant's place is at least four times i, and its parent descends from i's parent
 pub under-least : (n i j : ℕ) → under n i j ≡ true → 4 * i ≤ j
 under-least zero i j h = absurd (false≢true (unfold under in h))
 under-least (suc n) i j h = under-last n i j h (λ e. omega arith) (λ k. omega (arith, under-least n i (j / 4) k))
@@ -97,7 +98,7 @@ module _ (N L : ℕ) (z : Sized N L) where
       (λ c e. each-to (InDesc N L c) (InGrand N L i) (λ j m. (m .0, m .1, rw (← e) (under-across N c j (m .2)))) (desc N L c) (each-desc c))
 
   module _ (p : ℕ → Bool) where
-    -- some member has p: a place, and back
+    -- some member has p: which
     pub desc-find : (i : ℕ) → anyIn p (desc N L i) ≡ true → (j : ℕ) × InDesc N L i j × (p j ≡ true)
     desc-find i h = any-find p (InDesc N L i) (desc N L i) (each-desc i) h
 
@@ -128,6 +129,7 @@ module _ (N L : ℕ) (z : Sized N L) where
       (descendants-has p n (r .0) j (omega (arith, r .1)) high (r .2) h)))
       (under-down n i j u)
 
+  -- for i from D/4 on: where a place below I that descends from i has p, some member has it
   module _ (p : ℕ → Bool) where
     pub desc-has : (i j : ℕ) → coarsestOf N L / 4 ≤ i → j < allOf N → under N i j ≡ true → p j ≡ true → anyIn p (desc N L i) ≡ true
     unfolding desc

@@ -1,6 +1,6 @@
+use borrow.Author.Needs.{needs}
 use Rattle.coef.specs.Coef.{magAt}
 use Rattle.tree.proofs.Filling.{or-four}
-use borrow.Author.Needs.{needs}
 use Rattle.tree.proofs.children_or.Statement.{statement}
 use Rattle.tree.proofs.children_or.Tie as tie
 

@@ -1,6 +1,6 @@
+use borrow.Author.Needs.{needs}
 use lib.ListN.{getD}
 use Rattle.tree.proofs.Filling.{or-four}
-use borrow.Author.Needs.{needs}
 use Rattle.tree.proofs.entries_or.Statement.{statement}
 use Rattle.tree.proofs.entries_or.Tie as tie
 

@@ -1,10 +1,10 @@
-use Prim.Native.Nat.{ℕ, _/_}
 use mathlib.Core.Path.{_≡_, ap, _∙_}
+use Prim.Native.Nat.{ℕ, _/_}
 use native.Mathlib.Omega.{arith}
+use borrow.Author.Needs.{needs}
 use Rattle.sizes.specs.Sizes.{coarsestOf}
 use Rattle.sizes.proofs.Laws.{sized}
 use Rattle.tree.proofs.Parts.{low-most, last-fixed, desc-all, grand-all}
-use borrow.Author.Needs.{needs}
 use Rattle.tree.proofs.fill.Statement.{statement}
 use Rattle.tree.proofs.fill.Tie as tie
 

@@ -1,8 +1,8 @@
-use lib.Bits.{bitOr}
-use Prim.Native.Nat.{ℕ, _≤_, _<_, _/_, _-_}
 use mathlib.Core.Path.{_≡_, ap, _∙_}
+use Prim.Native.Nat.{ℕ, _≤_, _<_, _/_, _-_}
 use native.Mathlib.Omega.{arith}
 use borrow.Author.Needs.{needs}
+use lib.Bits.{bitOr}
 use lib.ListN.{length, getD, length-set}
 use Rattle.sizes.specs.Sizes.{allOf, coarsestOf}
 use Rattle.sizes.proofs.Laws.{sized, coarsest-all}

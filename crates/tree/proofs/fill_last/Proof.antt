@@ -1,10 +1,10 @@
-use Rattle.tree.proofs.Filling.{begun, more}
-use Prim.Native.Nat.{ℕ, _≤_, _/_}
 use mathlib.Core.Path.{_≡_, ap, _∙_}
+use Prim.Native.Nat.{ℕ, _≤_, _/_}
 use native.Mathlib.Omega.{arith}
 use borrow.Author.Needs.{needs}
 use lib.ListN.{length, length-set}
 use Rattle.tree.specs.Filling.{childrenOr, childrenTable, filledFrom}
+use Rattle.tree.proofs.Filling.{begun, more}
 use Rattle.tree.proofs.fill_last.Statement.{statement}
 use Rattle.tree.proofs.fill_last.Tie as tie
 

@@ -1,8 +1,8 @@
-use Rattle.coef.proofs.Held.{read-back}
-use lib.ListN.{getD}
-use lib.IntN.{pos, natAbs}
 use mathlib.Core.Path.{_∙_, ap}
 use borrow.Author.Needs.{needs}
+use lib.ListN.{getD}
+use lib.IntN.{pos, natAbs}
+use Rattle.coef.proofs.Held.{read-back}
 use Rattle.tree.proofs.magnitude_at.Statement.{statement}
 use Rattle.tree.proofs.magnitude_at.Tie as tie
 

@@ -1,7 +1,7 @@
 use mathlib.Core.Path.{refl, sym, _∙_}
+use borrow.Author.Needs.{needs}
 use lib.ListN.{length}
 use Rattle.tree.proofs.Checks.{ready}
-use borrow.Author.Needs.{needs}
 use Rattle.tree.proofs.summaries.Statement.{statement}
 use Rattle.tree.proofs.summaries.Tie as tie
 
