@@ -3,3 +3,8 @@ pub mod Laws
 pub mod Members
 pub mod Sums
 pub mod Ors
+pub mod Filling
+pub mod Parts
+pub mod Checks
+pub mod Decided
+pub mod Folds

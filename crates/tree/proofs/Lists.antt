@@ -1,25 +1,17 @@
 -- Every member, some member, sum and OR, over lists of places put together.
 use mathlib.Core.Path.{_≡_, refl, sym, ap, _∙_}
 use mathlib.Core.Bool.{Bool, true, false, _||_, true≢false, false≢true}
-use mathlib.Core.Logic.{_⊎_, inl, inr}
 use mathlib.Core.List.{List, [], _∷_, _++_, map, flatMap}
 use Prim.Native.Nat.{ℕ, zero, suc, _+_, _*_, _/_, _%_, _^_, _≤_, _<_, max}
-use native.Mathlib.Nat.{zero-div, pow-succ', div-eq-of-lt, div-eq-of-lt-le}
 use native.Mathlib.Omega.{arith}
-use borrow.Author.Tests.{leb-true, leb-false, lt-leb, le-leb}
+use borrow.Author.Tests.{leb-true, leb-false}
 use lib.Arith.{bin-ind}
-use lib.Bits.{bitOr, or-step, or-shr, or-zero-l}
-use lib.Dec.{leb, eqb}
+use lib.Bits.{bitOr, or-step}
+use lib.Dec.{leb}
 use Rattle.bits.specs.Bits.{bit}
+use Rattle.bits.proofs.Laws.{bit-none, bit-or, bit-top, bit-high}
 use Rattle.tree.specs.Tree.{fours, anyIn, sumOver}
 use Rattle.tree.specs.Summaries.{orAll}
-
-pub order : (m n : ℕ) → (m ≤ n) ⊎ (n < m)
-order m n = tell (leb m n) refl
-  where
-    tell : (t : Bool) → leb m n ≡ t → (m ≤ n) ⊎ (n < m)
-    tell true e = inl (leb-true m n e)
-    tell false e = inr (leb-false m n e)
 
 -- every member of a list has P
 unfoldable pub Each : (ℕ → Type 0) → List ℕ → Type 0
@@ -52,8 +44,9 @@ unfolding Each flatMap
 flat-none f [] e = refl
 flat-none f (c ∷ l) e = rw (e .0, flat-none f l (e .1))
 
--- SOME MEMBER
--- a test that two make
+-- ---- some member
+
+-- a test made of two
 pub either : {A : Type 0} (s t : Bool) → (s || t) ≡ true → (s ≡ true → A) → (t ≡ true → A) → A
 either true t e f g = f refl
 either false t e f g = g e
@@ -134,7 +127,8 @@ each-four P i h = (
   ),
 )
 
--- SUMS
+-- ---- sums
+
 pub sum-append : (g : ℕ → ℕ) (s t : List ℕ) → sumOver g (s ++ t) ≡ sumOver g s + sumOver g t
 unfolding sumOver
 sum-append g [] t = omega arith
@@ -164,7 +158,8 @@ unfolding sumOver
 sum-add g h [] = refl
 sum-add g h (j ∷ l) = omega (arith, sum-add g h l)
 
--- OR
+-- ---- the bitwise OR
+
 pub or-assoc : (a b c : ℕ) → bitOr (bitOr a b) c ≡ bitOr a (bitOr b c)
 or-assoc a = bin-ind (λ (a : ℕ). (b c : ℕ) → bitOr (bitOr a b) c ≡ bitOr a (bitOr b c)) (λ b c. refl) (λ n ih b c. step n b c (ih (b / 2) (c / 2))) a
   where
@@ -192,44 +187,19 @@ unfolding orAll Each
 or-same f g [] e = refl
 or-same f g (j ∷ l) e = rw (e .0, or-same f g l (e .1))
 
--- bit b of an OR
-pub or-bit : (x y b : ℕ) → bit (bitOr x y) b ≡ (bit x b || bit y b)
-unfolding bit
-or-bit x y b =
-    rw (or-shr x y b) (last (x / 2 ^ b) (y / 2 ^ b))
-  where
-    digits : (s t : ℕ) → s < 2 → t < 2 → eqb (max s t) 1 ≡ (eqb s 1 || eqb t 1)
-    digits zero t h k = let e : max 0 t ≡ t = omega arith in rw e
-    digits (suc zero) zero h k = refl
-    digits (suc zero) (suc zero) h k = refl
-    digits (suc zero) (suc (suc t)) h k = absurd (omega arith)
-    digits (suc (suc s)) t h k = absurd (omega arith)
-
-    last : (u v : ℕ) → eqb (bitOr u v % 2) 1 ≡ (eqb (u % 2) 1 || eqb (v % 2) 1)
-    last u v =
-        let e : bitOr u v % 2 ≡ max (u % 2) (v % 2) = omega (arith, or-step u v) in
-        rw e (digits (u % 2) (v % 2) (omega arith) (omega arith))
-
-pub bit-zero : (b : ℕ) → bit 0 b ≡ false
-unfolding bit
-bit-zero b = rw (zero-div (2 ^ b))
-
 -- bit b of the OR of a list is set exactly if it is set in a member
 pub all-bit : (f : ℕ → ℕ) (l : List ℕ) (b : ℕ) → bit (orAll (map f l)) b ≡ anyIn (λ j. bit (f j) b) l
 unfolding orAll anyIn
-all-bit f [] b = bit-zero b
-all-bit f (j ∷ l) b = or-bit (f j) (orAll (map f l)) b ∙ ap (λ (t : Bool). bit (f j) b || t) (all-bit f l b)
+all-bit f [] b = bit-none b
+all-bit f (j ∷ l) b = bit-or (f j) (orAll (map f l)) b ∙ ap (λ (t : Bool). bit (f j) b || t) (all-bit f l b)
 
 -- of a number below 2^(b+1), bit b says whether it is 2^b or more
 pub top-bit : (x b : ℕ) → leb (2 ^ suc b) x ≡ false → bit x b ≡ leb (2 ^ b) x
-unfolding bit
 top-bit x b h = tell (leb (2 ^ b) x) refl
   where
-    tell : (s : Bool) → leb (2 ^ b) x ≡ s → eqb (x / 2 ^ b % 2) 1 ≡ leb (2 ^ b) x
-    tell true e =
-        let one : x / 2 ^ b ≡ 1 = div-eq-of-lt-le (2 ^ b) (omega (arith, leb-true (2 ^ b) x e)) (omega (arith, leb-false (2 ^ suc b) x h, pow-succ' 2 b)) in
-        rw (e, one)
-    tell false e = let none : x / 2 ^ b ≡ 0 = div-eq-of-lt (leb-false (2 ^ b) x e) in rw (e, none)
+    tell : (t : Bool) → leb (2 ^ b) x ≡ t → bit x b ≡ leb (2 ^ b) x
+    tell true e = rw e (bit-top x b (leb-true (2 ^ b) x e) (leb-false (2 ^ suc b) x h))
+    tell false e = rw e (bit-high b x b (leb-false (2 ^ b) x e) (omega arith))
 
 pub all-top : (f : ℕ → ℕ) (l : List ℕ) (b : ℕ) → anyIn (λ j. leb (2 ^ suc b) (f j)) l ≡ false
     → bit (orAll (map f l)) b ≡ anyIn (λ j. leb (2 ^ b) (f j)) l

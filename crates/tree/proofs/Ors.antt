@@ -1,18 +1,21 @@
 -- The summaries: what their bits say, and how an entry follows from those past it.
-use mathlib.Core.Path.{_≡_, refl, sym, ap, _∙_}
-use mathlib.Core.Bool.{Bool, false}
-use mathlib.Core.List.{List, [], _++_, map, flatMap}
-use Prim.Native.Nat.{ℕ, suc, _*_, _/_, _^_, _≤_, _<_}
+use mathlib.Core.Path.{_≡_, sym, ap, _∙_}
+use mathlib.Core.Bool.{false}
+use mathlib.Core.List.{List, _++_, map, flatMap}
+use Prim.Native.Nat.{ℕ, suc, _/_, _^_, _≤_, _<_}
 use native.Mathlib.Omega.{arith}
 use lib.Bits.{bitOr, or-zero-r}
 use lib.Dec.{leb}
 use lib.IntN.{ℤ}
+use lib.ListN.{getD}
 use Rattle.sizes.specs.Sizes.{allOf, coarsestOf, Sized}
+use Rattle.sizes.proofs.Laws.{coarsest-least}
 use Rattle.bits.specs.Bits.{bit}
 use Rattle.coef.specs.Coef.{magAt}
-use Rattle.tree.specs.Tree.{fours, children, desc, grand, anyIn}
+use Rattle.tree.specs.Tree.{fours, desc, grand, anyIn}
 use Rattle.tree.specs.Summaries.{orAll, descOr, grandOr}
-use Rattle.tree.proofs.Lists.{or-append, or-flat, all-bit, all-top}
+use Rattle.tree.specs.Filling.{childrenOr, entriesOr}
+use Rattle.tree.proofs.Lists.{each-four, or-append, or-flat, or-same, all-bit, all-top}
 use Rattle.tree.proofs.Laws.{children-some, desc-is, desc-low, grand-low, grand-high}
 
 module _ (N L : ℕ) (A : List ℤ) where
@@ -64,3 +67,15 @@ module _ (N L : ℕ) (A : List ℤ) where
     pub desc-last : (i : ℕ) → coarsestOf N L / 4 ≤ i → allOf N / 16 ≤ i → i < allOf N / 4 → descOr N L A i ≡ orAll (map (λ j. magAt A j) (fours i))
     unfolding grandOr orAll
     desc-last i p r q = desc-step i p q ∙ rw (grand-high N L z i r) (or-zero-r (orAll (map (λ j. magAt A j) (fours i))))
+
+-- what the code puts at place i, where the entries past it are right
+module _ (N L : ℕ) (A : List ℤ) (z : Sized N L) (held : List ℕ) (i : ℕ) (low : coarsestOf N L / 4 ≤ i) (high : i < allOf N / 16)
+    (past : (j : ℕ) → i < j → j < allOf N / 4 → getD held j 0 ≡ descOr N L A j) where
+  pub grand-entry : entriesOr held i ≡ grandOr N L A i
+  grand-entry =
+      or-same (λ j. getD held j 0) (λ c. descOr N L A c) (fours i)
+      (each-four (λ j. getD held j 0 ≡ descOr N L A j) i (λ c p q. past c (omega (arith, coarsest-least N L z)) (omega arith)))
+      ∙ sym (grand-step N L A i low (omega arith))
+
+  pub desc-entry : bitOr (childrenOr A i) (entriesOr held i) ≡ descOr N L A i
+  desc-entry = ap (bitOr (childrenOr A i)) grand-entry ∙ sym (desc-step N L A z i low (omega arith))

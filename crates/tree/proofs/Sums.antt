@@ -1,13 +1,12 @@
 -- Sums over DESC and GRAND.
-use mathlib.Core.Path.{_≡_, refl, sym, ap, _∙_}
-use mathlib.Core.Logic.{⊎-elim}
-use mathlib.Core.List.{List, [], _++_, flatMap}
+use mathlib.Core.Path.{_≡_, ap, _∙_}
+use mathlib.Core.List.{List, flatMap}
 use Prim.Native.Nat.{ℕ, _+_, _*_, _/_, _≤_, _<_}
+use native.Mathlib.Decide.{decLt}
 use native.Mathlib.Omega.{arith}
 use Rattle.sizes.specs.Sizes.{allOf, coarsestOf, Sized}
-use Rattle.sizes.proofs.Laws.{all-sixteen}
 use Rattle.tree.specs.Tree.{fours, children, desc, grand, sumOver}
-use Rattle.tree.proofs.Lists.{order, Each, each-to, sum-append, sum-flat, sum-four, sum-same, sum-le}
+use Rattle.tree.proofs.Lists.{each-to, sum-append, sum-flat, sum-four, sum-same, sum-le}
 use Rattle.tree.proofs.Laws.{children-some, desc-is, desc-low, desc-high, grand-low, grand-high}
 use Rattle.tree.proofs.Members.{InDesc, InGrand, each-desc, each-grand}
 
@@ -40,15 +39,14 @@ module _ (N L : ℕ) (z : Sized N L) (g : ℕ → ℕ) where
   -- GRAND is DESC of the four children
   pub grand-sum : (i : ℕ) → coarsestOf N L / 4 ≤ i
       → sumOver g (grand N L i) ≡ sumOver g (desc N L (4 * i)) + sumOver g (desc N L (4 * i + 1)) + sumOver g (desc N L (4 * i + 2)) + sumOver g (desc N L (4 * i + 3))
-  grand-sum i p = ⊎-elim none some (order (allOf N / 4) i)
+  grand-sum i p = tell (decLt i (allOf N / 4))
     where
-      some : i < allOf N / 4 → sumOver g (grand N L i) ≡ sumOver g (desc N L (4 * i)) + sumOver g (desc N L (4 * i + 1)) + sumOver g (desc N L (4 * i + 2)) + sumOver g (desc N L (4 * i + 3))
-      some q =
+      tell : Dec (i < allOf N / 4)
+          → sumOver g (grand N L i) ≡ sumOver g (desc N L (4 * i)) + sumOver g (desc N L (4 * i + 1)) + sumOver g (desc N L (4 * i + 2)) + sumOver g (desc N L (4 * i + 3))
+      tell (yes q) =
           let e : grand N L i ≡ flatMap (λ c. desc N L c) (fours i) = unfold grand in rw (children-some N L i p q) in
           rw e (sum-flat g (λ c. desc N L c) (fours i) ∙ sum-four (λ c. sumOver g (desc N L c)) i)
-
-      none : allOf N / 4 ≤ i → sumOver g (grand N L i) ≡ sumOver g (desc N L (4 * i)) + sumOver g (desc N L (4 * i + 1)) + sumOver g (desc N L (4 * i + 2)) + sumOver g (desc N L (4 * i + 3))
-      none q = omega (arith, grand-sum-high i (omega arith), desc-sum-high (4 * i) (omega arith), desc-sum-high (4 * i + 1) (omega arith), desc-sum-high (4 * i + 2) (omega arith), desc-sum-high (4 * i + 3) (omega arith))
+      tell (no q) = omega (arith, grand-sum-high i (omega arith), desc-sum-high (4 * i) (omega arith), desc-sum-high (4 * i + 1) (omega arith), desc-sum-high (4 * i + 2) (omega arith), desc-sum-high (4 * i + 3) (omega arith))
 
 -- over the same members, a larger function has a larger sum
 module _ (N L : ℕ) (z : Sized N L) (g h : ℕ → ℕ) (le : (j : ℕ) → coarsestOf N L ≤ j → j < allOf N → g j ≤ h j) where
