@@ -1,0 +1,143 @@
+-- What the summaries say of a level: an OR is at least 2^b exactly if some member is.
+use mathlib.Core.Path.{_≡_, refl, sym, ap, _∙_}
+use mathlib.Core.Bool.{Bool, true, false, not, _&&_, _||_}
+use mathlib.Core.List.{List, [], _∷_, map}
+use Prim.Native.Nat.{ℕ, suc, _+_, _*_, _/_, _^_, _≤_, _<_}
+use native.Mathlib.Decide.{decLt}
+use native.Mathlib.Nat.{pow-succ'}
+use native.Mathlib.Omega.{arith}
+use borrow.Author.Tests.{leb-true, leb-false, le-leb, lt-leb}
+use lib.Bits.{bitOr, or-lt, or-add-and, and-le-l, and-le-r}
+use lib.Dec.{leb}
+use lib.IntN.{ℤ}
+use lib.ListN.{length, getD, List·getD-eq-default}
+use lib.Pow.{pow-pos}
+use Rattle.sizes.specs.Sizes.{allOf, Sized}
+use Rattle.sizes.proofs.Tables.{table-length, table-at}
+use Rattle.bits.specs.Bits.{digit}
+use Rattle.coef.specs.Coef.{magAt}
+use Rattle.tree.specs.Tree.{desc, grand, anyIn}
+use Rattle.tree.specs.Summaries.{orAll, descOr, grandOr, descTable, grandTable}
+use Rattle.tree.proofs.Laws.{desc-high, grand-high}
+use Rattle.nls.specs.Parts.{countTo, found, descSplit, grandSplit, splits, founds, splitsIn, foundIn}
+use Rattle.figures.specs.Tables.{atLevel}
+use Rattle.figures.proofs.Sums.{sum-same, sum-add, sum-short}
+
+or-reaches : (b x y : ℕ) → leb (2 ^ b) (bitOr x y) ≡ (leb (2 ^ b) x || leb (2 ^ b) y)
+or-reaches b x y = tell (leb (2 ^ b) x) (leb (2 ^ b) y) refl refl
+  where
+    tell : (s t : Bool) → leb (2 ^ b) x ≡ s → leb (2 ^ b) y ≡ t → leb (2 ^ b) (bitOr x y) ≡ (s || t)
+    tell true t e f = le-leb (2 ^ b) (bitOr x y) (omega (arith, leb-true (2 ^ b) x e, or-add-and x y, and-le-r x y))
+    tell false true e f = le-leb (2 ^ b) (bitOr x y) (omega (arith, leb-true (2 ^ b) y f, or-add-and x y, and-le-l x y))
+    tell false false e f = lt-leb (2 ^ b) (bitOr x y) (or-lt b x y (leb-false (2 ^ b) x e) (leb-false (2 ^ b) y f))
+
+zero-below : (b : ℕ) → leb (2 ^ b) 0 ≡ false
+zero-below b = lt-leb (2 ^ b) 0 (pow-pos b)
+
+-- an OR is at least 2^b exactly if some member is
+pub all-reaches : (b : ℕ) (f : ℕ → ℕ) (l : List ℕ) → leb (2 ^ b) (orAll (map f l)) ≡ anyIn (λ j. leb (2 ^ b) (f j)) l
+unfolding orAll anyIn
+all-reaches b f [] = zero-below b
+all-reaches b f (j ∷ l) = or-reaches b (f j) (orAll (map f l)) ∙ ap (λ (t : Bool). leb (2 ^ b) (f j) || t) (all-reaches b f l)
+
+module _ (N L : ℕ) (A : List ℤ) where
+  -- a set is split after plane b exactly if its summary is at least 2^b
+  pub desc-reaches : (b i : ℕ) → descSplit N L A b i ≡ leb (2 ^ b) (descOr N L A i)
+  unfolding descSplit found descOr
+  desc-reaches b i = sym (all-reaches b (λ j. magAt A j) (desc N L i))
+
+  pub grand-reaches : (b i : ℕ) → grandSplit N L A b i ≡ leb (2 ^ b) (grandOr N L A i)
+  unfolding grandSplit found grandOr
+  grand-reaches b i = sym (all-reaches b (λ j. magAt A j) (grand N L i))
+
+  -- nothing past the tables
+  desc-past : (i : ℕ) → allOf N / 4 ≤ i → descOr N L A i ≡ 0
+  unfolding descOr orAll
+  desc-past i p = rw (desc-high N L i p)
+
+  grand-past : Sized N L → (i : ℕ) → allOf N / 16 ≤ i → grandOr N L A i ≡ 0
+  unfolding grandOr orAll
+  grand-past z i p = rw (grand-high N L z i p)
+
+  -- so the tables, read with 0 past their ends, hold the summary of every place
+  pub desc-held : (i : ℕ) → getD (descTable N L A) i 0 ≡ descOr N L A i
+  desc-held i = tell (decLt i (allOf N / 4))
+    where
+      tell : Dec (i < allOf N / 4) → getD (descTable N L A) i 0 ≡ descOr N L A i
+      tell (yes p) = table-at (allOf N / 4) (λ k. descOr N L A k) i 0 p
+      tell (no p) =
+          List·getD-eq-default (descTable N L A) 0 {n = i} (omega (arith, table-length (allOf N / 4) (λ k. descOr N L A k)))
+          ∙ sym (desc-past i (omega arith))
+
+  pub grand-held : Sized N L → (i : ℕ) → getD (grandTable N L A) i 0 ≡ grandOr N L A i
+  grand-held z i = tell (decLt i (allOf N / 16))
+    where
+      tell : Dec (i < allOf N / 16) → getD (grandTable N L A) i 0 ≡ grandOr N L A i
+      tell (yes p) = table-at (allOf N / 16) (λ k. grandOr N L A k) i 0 p
+      tell (no p) =
+          List·getD-eq-default (grandTable N L A) 0 {n = i} (omega (arith, table-length (allOf N / 16) (λ k. grandOr N L A k)))
+          ∙ sym (grand-past z i (omega arith))
+
+-- at least 2^b: at least 2^(b+1), or in between
+at-least : (b x : ℕ) → digit (leb (2 ^ b) x) ≡ digit (leb (2 ^ suc b) x) + digit (atLevel (2 ^ b) x)
+unfolding atLevel
+at-least b x = rw (pow-succ' 2 b) (tell (leb (2 ^ b) x) (leb (2 * 2 ^ b) x) refl refl)
+  where
+    tell : (s t : Bool) → leb (2 ^ b) x ≡ s → leb (2 * 2 ^ b) x ≡ t → digit s ≡ digit t + digit (s && not t)
+    tell true true e f = refl
+    tell true false e f = refl
+    tell false true e f = absurd (omega (arith, leb-false (2 ^ b) x e, leb-true (2 * 2 ^ b) x f))
+    tell false false e f = refl
+
+-- what plane b adds to those that are at least its level
+pub level-count : (n b : ℕ) (x : ℕ → ℕ)
+    → countTo n (λ i. leb (2 ^ b) (x i)) ≡ countTo n (λ i. leb (2 ^ suc b) (x i)) + countTo n (λ i. atLevel (2 ^ b) (x i))
+level-count n b x =
+    sum-same n (λ i. digit (leb (2 ^ b) (x i))) (λ i. digit (leb (2 ^ suc b) (x i)) + digit (atLevel (2 ^ b) (x i))) (λ i. at-least b (x i))
+    ∙ sum-add n (λ i. digit (leb (2 ^ suc b) (x i))) (λ i. digit (atLevel (2 ^ b) (x i)))
+
+none-at : (b : ℕ) → atLevel (2 ^ b) 0 ≡ false
+unfolding atLevel
+none-at b = rw (zero-below b)
+
+-- nothing counts past the end of a table
+held-count : (n m b : ℕ) (x : ℕ → ℕ) (held : List ℕ) → length held ≡ m → m ≤ n → ((i : ℕ) → m ≤ i → x i ≡ 0) → ((i : ℕ) → getD held i 0 ≡ x i)
+    → countTo n (λ i. atLevel (2 ^ b) (x i)) ≡ countTo (length held) (λ i. atLevel (2 ^ b) (getD held i 0))
+held-count n m b x held e h none same =
+    sum-short n m (λ i. digit (atLevel (2 ^ b) (x i))) h (λ i p. rw (none i p, none-at b))
+    ∙ sum-same m (λ i. digit (atLevel (2 ^ b) (x i))) (λ i. digit (atLevel (2 ^ b) (getD held i 0))) (λ i. rw (same i))
+    ∙ ap (λ (k : ℕ). countTo k (λ i. atLevel (2 ^ b) (getD held i 0))) (sym e)
+
+-- WHAT PLANE b FINDS AND SPLITS
+module _ (N L : ℕ) (A : List ℤ) (b : ℕ) where
+  pub found-by : foundIn N L A b ≡ countTo (allOf N) (λ i. atLevel (2 ^ b) (magAt A i))
+  unfolding founds found
+  found-by = omega (arith, level-count (allOf N) b (λ i. magAt A i))
+
+  desc-count : (k : ℕ) → countTo (allOf N) (λ i. descSplit N L A k i) ≡ countTo (allOf N) (λ i. leb (2 ^ k) (descOr N L A i))
+  desc-count k =
+      sum-same (allOf N) (λ i. digit (descSplit N L A k i)) (λ i. digit (leb (2 ^ k) (descOr N L A i))) (λ i. ap digit (desc-reaches N L A k i))
+
+  grand-count : (k : ℕ) → countTo (allOf N) (λ i. grandSplit N L A k i) ≡ countTo (allOf N) (λ i. leb (2 ^ k) (grandOr N L A i))
+  grand-count k =
+      sum-same (allOf N) (λ i. digit (grandSplit N L A k i)) (λ i. digit (leb (2 ^ k) (grandOr N L A i))) (λ i. ap digit (grand-reaches N L A k i))
+
+  pub splits-by : Sized N L
+      → splitsIn N L A b
+      ≡ countTo (length (descTable N L A)) (λ i. atLevel (2 ^ b) (getD (descTable N L A) i 0))
+      + countTo (length (grandTable N L A)) (λ i. atLevel (2 ^ b) (getD (grandTable N L A) i 0))
+  unfolding splits
+  splits-by z =
+      omega (
+        arith,
+        desc-count b,
+        desc-count (suc b),
+        level-count (allOf N) b (λ i. descOr N L A i),
+        held-count (allOf N) (allOf N / 4) b (λ i. descOr N L A i) (descTable N L A) (table-length (allOf N / 4) (λ i. descOr N L A i))
+            (omega arith) (λ i p. desc-past N L A i p) (λ i. desc-held N L A i),
+        grand-count b,
+        grand-count (suc b),
+        level-count (allOf N) b (λ i. grandOr N L A i),
+        held-count (allOf N) (allOf N / 16) b (λ i. grandOr N L A i) (grandTable N L A) (table-length (allOf N / 16) (λ i. grandOr N L A i))
+            (omega arith) (λ i p. grand-past N L A z i p) (λ i. grand-held N L A z i),
+      )

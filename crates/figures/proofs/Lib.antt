@@ -1,0 +1,7 @@
+pub mod Sums
+pub mod Levels
+pub mod Standing
+pub mod Counted
+pub mod Checks
+pub mod Laws
+pub mod Decided

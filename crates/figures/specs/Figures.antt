@@ -1,0 +1,40 @@
+-- The figures of one plane, from the values alone, and the checks of the call that counts them:
+-- those of the summaries, and after them number 9 for a plane that no array has.
+use Prim.Native.Nat.{ℕ, _+_}
+use mathlib.Core.List.{List, [], _∷_, _++_}
+use lib.Dec.{ltb}
+use lib.IntN.{ℤ}
+use Rattle.refusals.specs.declared.Refusal.the-variants.{Planes}
+use Rattle.refusals.specs.declared.Outcome.{Outcome}
+use Rattle.refusals.specs.declared.Outcome.the-variants as outcome
+use Rattle.refusals.specs.Checks.{Check, need}
+use Rattle.sizes.specs.Sizes.{mostPlanes}
+use Rattle.tree.specs.Summaries.{summaryChecks}
+use Rattle.nls.specs.Parts.{parts, splitsIn, foundIn}
+use Rattle.figures.specs.declared.Figures.{Figures}
+use Rattle.figures.specs.declared.FiguresAnswer.{FiguresAnswer}
+use Rattle.figures.specs.declared.FiguresAnswer.the-variants as answer
+
+-- of the magnitudes of A and plane b: the parts that stand after it, the sets split in it, the coefficients found in it,
+-- and the bits that these make
+abbrev pub figuresOf : ℕ → ℕ → List ℤ → ℕ → Figures
+figuresOf N L A b =
+    record {
+      parts = parts N L A b;
+      splits = splitsIn N L A b;
+      bits = parts N L A b + splitsIn N L A b + foundIn N L A b;
+      found = foundIn N L A b;
+    }
+
+-- the values, the lengths of the two lent tables, and the plane
+abbrev pub figuresChecks : ℕ → ℕ → List ℤ → ℕ → ℕ → ℕ → List Check
+figuresChecks N L A descs grands b = summaryChecks N L A descs grands ++ (need (ltb b mostPlanes) Planes ∷ [])
+
+-- what is answered where the checks come to an outcome, and the outcome of an answer
+abbrev pub answered : Outcome → Figures → FiguresAnswer
+answered outcome.Done figures = answer.Done figures
+answered (outcome.Refused why) figures = answer.Refused why
+
+abbrev pub outcomeOf : FiguresAnswer → Outcome
+outcomeOf (answer.Done figures) = outcome.Done
+outcomeOf (answer.Refused why) = outcome.Refused why

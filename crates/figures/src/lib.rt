@@ -1,0 +1,260 @@
+// The figures of one plane, from the values alone: the parts that stand after it, the sets split in it, the coefficients found in it, and the bits that these make.
+use refusals::Outcome;
+use refusals::Refusal;
+use sizes::MOST_PLANES;
+ghost use Prim.Native.Nat.{_/_, _<_, _≤_, _^_};
+ghost use mathlib.Core.Path.{_≡_};
+ghost use mathlib.Core.Bool.{_&&_};
+ghost use mathlib.Core.List.{[], _∷_};
+ghost use lib.Dec.{leb, ltb};
+ghost use lib.ListN.{length, getD};
+ghost use Rattle.refusals.specs.declared.Refusal.the-variants as refusal;
+ghost use Rattle.refusals.specs.Checks.{need, firstOf, lentAfter};
+ghost use Rattle.sizes.specs.Sizes.{allOf, mostN, mostPlanes};
+ghost use Rattle.bits.specs.Bits.{digit};
+ghost use Rattle.coef.specs.Coef.{magAt};
+ghost use Rattle.tree.specs.Summaries.{descTable, grandTable};
+ghost use Rattle.nls.specs.Parts.{sumTo, countTo};
+ghost use Rattle.figures.specs.Figures.{figuresOf, figuresChecks, answered, outcomeOf};
+ghost use Rattle.figures.specs.Tables.{atLevel, openBy, membersBy, descBy, grandBy, partsBy, Filled};
+
+pub struct Figures {
+    pub parts: u32,
+    pub splits: u32,
+    pub bits: u32,
+    pub found: u32,
+}
+
+pub enum FiguresAnswer {
+    Done(Figures),
+    Refused(Refusal),
+}
+
+// An entry of a table; 0 past its end.
+fn entry_at(held: &[u32], i: usize) -> u32
+    ensures { λ r. ⌜ r ≡ getD (now (held .entry)) i 0 ⌝ }
+{
+    if i < held.len() {
+        return held[i];
+    }
+    0
+}
+
+// A test as a digit.
+fn digit_of(t: bool) -> u32
+    ensures { λ r. ⌜ r ≡ digit t ⌝ }
+{
+    if t {
+        return 1;
+    }
+    0
+}
+
+// Whether x is at least the level and below twice that.
+fn is_at_level(level: u32, x: u32) -> bool
+    ensures { λ r. ⌜ r ≡ atLevel level x ⌝ }
+{
+    if x < level {
+        return false;
+    }
+    if level <= x / 2 {
+        return false;
+    }
+    true
+}
+
+// The entries of a table that are at the level.
+fn count_sets(level: u32, held: &[u32]) -> u32
+    requires { ⌜ length (now held) ≤ allOf mostN ⌝ }
+    ensures { λ r. ⌜ r ≡ countTo (length (now (held .entry))) (λ i. atLevel level (getD (now (held .entry)) i 0)) ⌝ }
+{
+    let mut count = 0u32;
+    let mut i = 0;
+    while i < held.len() {
+        let x = held[i];
+        count += digit_of(is_at_level(level, x));
+        i += 1;
+    }
+    count
+}
+
+// The coefficients whose magnitude is at the level.
+fn count_found(level: u32, values: &[i32]) -> u32
+    requires { ⌜ length (now values) ≤ allOf mostN ⌝ }
+    ensures { λ r. ⌜ r ≡ countTo (length (now (values .entry))) (λ i. atLevel level (magAt (now (values .entry)) i)) ⌝ }
+{
+    let mut count = 0u32;
+    let mut i = 0;
+    while i < values.len() {
+        let x = values[i];
+        count += digit_of(is_at_level(level, coef::magnitude(x)));
+        i += 1;
+    }
+    count
+}
+
+// Whether i is below D, or the entry of its parent reaches the level.
+fn is_open(coarsest: usize, level: u32, held: &[u32], i: usize) -> bool
+    ensures { λ r. ⌜ r ≡ openBy coarsest level (now (held .entry)) i ⌝ }
+{
+    if i < coarsest {
+        return true;
+    }
+    let parent = entry_at(held, i / 4);
+    level <= parent
+}
+
+// Whether the set of place i is not empty.
+fn has_members(coarsest: usize, held: &[u32], i: usize) -> bool
+    ensures { λ r. ⌜ r ≡ membersBy coarsest (now (held .entry)) i ⌝ }
+{
+    if i < coarsest / 4 {
+        return false;
+    }
+    i < held.len()
+}
+
+// Whether DESC(i) stands.
+fn desc_stands(coarsest: usize, level: u32, desc: &[u32], grand: &[u32], i: usize) -> bool
+    ensures { λ r. ⌜ r ≡ descBy coarsest level (now (desc .entry)) (now (grand .entry)) i ⌝ }
+{
+    if !has_members(coarsest, desc, i) {
+        return false;
+    }
+    let below = entry_at(desc, i);
+    if level <= below {
+        return false;
+    }
+    is_open(coarsest, level, grand, i)
+}
+
+// Whether GRAND(i) stands.
+fn grand_stands(coarsest: usize, level: u32, desc: &[u32], grand: &[u32], i: usize) -> bool
+    ensures { λ r. ⌜ r ≡ grandBy coarsest level (now (desc .entry)) (now (grand .entry)) i ⌝ }
+{
+    if !has_members(coarsest, grand, i) {
+        return false;
+    }
+    let below = entry_at(desc, i);
+    if below < level {
+        return false;
+    }
+    let past = entry_at(grand, i);
+    if level <= past {
+        return false;
+    }
+    true
+}
+
+// The parts of place i that stand.
+fn parts_at(coarsest: usize, level: u32, desc: &[u32], grand: &[u32], i: usize) -> u32
+    ensures { λ r. ⌜ r ≡ partsBy coarsest level (now (desc .entry)) (now (grand .entry)) i ⌝ }
+{
+    let alone = digit_of(is_open(coarsest, level, desc, i));
+    let below = digit_of(desc_stands(coarsest, level, desc, grand, i));
+    let past = digit_of(grand_stands(coarsest, level, desc, grand, i));
+    alone + below + past
+}
+
+// The parts that stand.
+fn count_parts(all: usize, coarsest: usize, level: u32, desc: &[u32], grand: &[u32]) -> u32
+    requires { ⌜ all ≤ allOf mostN ⌝ }
+    ensures { λ r. ⌜ r ≡ sumTo all (λ i. partsBy coarsest level (now (desc .entry)) (now (grand .entry)) i) ⌝ }
+{
+    let mut count = 0u32;
+    let mut i = 0;
+    while i < all {
+        count += parts_at(coarsest, level, desc, grand, i);
+        i += 1;
+    }
+    count
+}
+
+// The level of a plane.
+fn level_of(plane: u32) -> u32
+    requires { ⌜ plane < mostPlanes ⌝ }
+    ensures { λ r. ⌜ r ≡ 2 ^ plane ⌝ }
+{
+    1u32 << plane
+}
+
+// The figures, from tables that are filled.
+fn count(n: u32, l: u32, values: &[i32], plane: u32, desc: &[u32], grand: &[u32]) -> Figures
+    requires { ⌜ Filled n l (now values) plane (now desc) (now grand) ⌝ }
+    ensures { λ r. ⌜ r ≡ figuresOf n l (now (values .entry)) plane ⌝ }
+{
+    let level = level_of(plane);
+    let coarsest = sizes::coarsest_of(n, l);
+    let parts = count_parts(values.len(), coarsest, level, desc, grand);
+    let splits = count_sets(level, desc) + count_sets(level, grand);
+    let found = count_found(level, values);
+    Figures {
+        parts,
+        splits,
+        bits: parts + splits + found,
+        found,
+    }
+}
+
+// Refusals 5 and 9, in that order.
+fn check_rest(all: usize, descs: usize, grands: usize, plane: u32) -> Outcome
+    ensures { λ r. ⌜ r ≡ firstOf (need (leb (all / 4) descs && leb (all / 16) grands) refusal.Lent ∷ need (ltb plane mostPlanes) refusal.Planes ∷ []) ⌝ }
+{
+    if descs < all / 4 {
+        return Outcome::Refused(Refusal::Lent);
+    }
+    if grands < all / 16 {
+        return Outcome::Refused(Refusal::Lent);
+    }
+    if MOST_PLANES <= plane {
+        return Outcome::Refused(Refusal::Planes);
+    }
+    Outcome::Done
+}
+
+// Refusals 1 to 5 and 9, in that order.
+fn check(n: u32, l: u32, values: &[i32], descs: usize, grands: usize, plane: u32) -> Outcome
+    ensures { λ r. ⌜ r ≡ firstOf (figuresChecks n l (now (values .entry)) descs grands plane) ⌝ }
+{
+    if !sizes::side_fits(n) {
+        return Outcome::Refused(Refusal::Side);
+    }
+    if !sizes::levels_fit(n, l) {
+        return Outcome::Refused(Refusal::Levels);
+    }
+    let all = sizes::all_of(n);
+    if values.len() != all {
+        return Outcome::Refused(Refusal::Length);
+    }
+    let over = coef::first_over(values);
+    if over < all {
+        return Outcome::Refused(Refusal::Coefficient(over as u32));
+    }
+    check_rest(all, descs, grands, plane)
+}
+
+// The figures of one plane. Fills DESC and GRAND on the way: I/4 and I/16 entries. Nothing is filled before the plane is checked too.
+pub fn figures_of(
+    n: u32,
+    l: u32,
+    values: &[i32],
+    plane: u32,
+    desc: &mut [u32],
+    grand: &mut [u32],
+) -> FiguresAnswer
+    ensures answer { λ r. ⌜ r ≡ answered (firstOf (figuresChecks n l (now (values .entry)) (length (now (desc .entry))) (length (now (grand .entry))) plane)) (figuresOf n l (now (values .entry)) plane) ⌝ }
+    ensures descs { λ r. ⌜ now (desc .exit) ≡ lentAfter (outcomeOf r) (descTable n l (now (values .entry))) (now (desc .entry)) ⌝ }
+    ensures grands { λ r. ⌜ now (grand .exit) ≡ lentAfter (outcomeOf r) (grandTable n l (now (values .entry))) (now (grand .entry)) ⌝ }
+{
+    let checked = check(n, l, values, desc.len(), grand.len(), plane);
+    match checked {
+        Outcome::Done => {
+            tree::summaries(n, l, values, desc, grand);
+            let descs = values.len() / 4;
+            let grands = values.len() / 16;
+            let figures = count(n, l, values, plane, &desc[..descs], &grand[..grands]);
+            FiguresAnswer::Done(figures)
+        }
+        Outcome::Refused(why) => FiguresAnswer::Refused(why),
+    }
+}
