@@ -4,7 +4,6 @@ pub mod Parts
 pub mod Count
 pub mod Sizes
 pub mod Bound
-pub mod Members
 pub mod Summary
 pub mod Tiles
 pub mod Steps

@@ -4,9 +4,5 @@ pub mod Same
 pub mod Visits
 pub mod Machine
 pub mod Planes
-pub mod Loops
-pub mod Driver
-pub mod Encoder
-pub mod Reader
 pub mod Codes
 pub mod Whole

@@ -5,4 +5,3 @@ pub mod Cover
 pub mod Push
 pub mod Steps
 pub mod Start
-pub mod End

@@ -1,4 +1,3 @@
 pub mod Know
 pub mod Whole
 pub mod Prefix
-pub mod Value

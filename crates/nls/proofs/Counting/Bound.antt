@@ -1,17 +1,17 @@
 -- The number of a body's bits; its bound; and an array that reaches it.
 -- Assumes nothing.
-use Prim.Native.Nat.{ℕ, zero, suc, _+_, _*_, _-_, _^_, _/_, _%_, _≤_, _<_}
+use Prim.Native.Nat.{ℕ, suc, _+_, _*_, _-_, _^_, _/_, _≤_, _<_}
 use mathlib.Core.Path.{_≡_, refl, ap, sym, _∙_}
-use mathlib.Core.Bool.{Bool, true, false, not, _&&_, _||_, cond}
-use native.Mathlib.Nat.{le-trans, le-refl, zero-add, pow-succ', pow-le-pow-right}
+use mathlib.Core.Bool.{Bool, true, false, _||_}
+use native.Mathlib.Nat.{le-trans, pow-succ', pow-le-pow-right}
 use native.Mathlib.Omega.{arith}
-use borrow.Author.Tests.{lt-ltb, le-ltb, leb-true, leb-false, le-leb, lt-leb, ne-eqb}
-use lib.Dec.{T, ltb, leb, eqb, leb→le, le→leb, ltb→lt, lt→ltb, nleb→lt, nltb→le, T-not, not-T}
-use lib.Pow.{pow-mono, pow-lt, pow-pos}
-use lib.ListN.{length, getD, replicate, getD-replicate}
-use Rattle.nls.proofs.Counting.Sums.{sum, sum-cong, sum-le, sum-add, sum-const, sum-zero, sum-split, sum-at}
-use Rattle.nls.proofs.Counting.Tree.{Size, D, Q, I, desc, grand, desc-zero, grand-zero}
-use Rattle.nls.proofs.Counting.Parts.{ι, over-desc, over-grand, over-all, big, split-desc, split-grand, alone, stands-desc, stands-grand, parts, sizes, splits, bigs, body}
+use borrow.Author.Tests.{lt-ltb, lt-leb}
+use lib.Dec.{T, ltb, leb, le→leb}
+use lib.Pow.{pow-mono, pow-pos}
+use lib.ListN.{length}
+use Rattle.nls.proofs.Counting.Sums.{sum, sum-cong, sum-le, sum-const, sum-zero}
+use Rattle.nls.proofs.Counting.Tree.{Size, D, Q, I, desc-zero, grand-zero}
+use Rattle.nls.proofs.Counting.Parts.{ι, over-all, big, split-desc, split-grand, alone, stands-desc, stands-grand, parts, splits, bigs, body}
 use Rattle.nls.proofs.Counting.Count.{body-count, big-alone, child-splits, desc-splits}
 use Rattle.nls.proofs.Counting.Sizes.{parts-le}
 
@@ -128,15 +128,6 @@ module _ (z : Size) (mag : ℕ → ℕ) (n : ℕ) (small : (i : ℕ) → i < I z
         sum-const 0 (I z) 1,
       )
 
--- as an array: every entry 2 ^ (P - 1)
-pub reached-by : (z : Size) (n : ℕ) (neg : ℕ → Bool)
-    → length (body z (λ i. getD (replicate (I z) (2 ^ n)) i 0) neg (suc n)) ≡ worst z (suc n)
-reached-by z n neg =
-    bound-reached z (λ i. getD (replicate (I z) (2 ^ n)) i 0) n
-    (λ i u. rw (getD-replicate (I z) i (2 ^ n) 0 u) (pow-lt (le-refl _)))
-    (λ i u. rw (getD-replicate (I z) i (2 ^ n) 0 u) (le-refl _))
-    neg
-
 -- The sizes of document 01: side 2 ^ N, L levels.
 pub pow-four : (m n : ℕ) → n ≡ suc m → 4 * 4 ^ m ≡ 4 ^ n
 pow-four m n e = sym (ap (λ (k : ℕ). 4 ^ k) e ∙ pow-succ' 4 m)
@@ -167,7 +158,3 @@ pub worst-is : (N L P : ℕ) (b : 1 ≤ L) (c : L < N)
     → worst (size N L b c) P ≡ 4 ^ N * (P + 1) + (4 ^ N - 4 ^ (N - L)) / 4 + (4 ^ N - 4 * 4 ^ (N - L)) / 16
 unfolding worst
 worst-is N L P b c = rw (all-is N L b c, coarsest-is N L b c)
-
-sample-worst : worst (size 2 1 (omega arith) (omega arith)) 3 ≡ 67
-unfolding worst
-sample-worst = refl

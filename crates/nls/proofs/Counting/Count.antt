@@ -9,18 +9,14 @@ use native.Mathlib.Omega.{arith}
 use borrow.Author.Tests.{lt-ltb, le-ltb, leb-true, leb-false, le-leb, lt-leb, ne-eqb}
 use lib.Dec.{T, ltb, leb, eqb, leb→le, le→leb, ltb→lt, lt→ltb, nleb→lt, nltb→le, T-not, not-T}
 use lib.ListN.{length, length-append}
-use Rattle.nls.proofs.Counting.Sums.{sum, each, each-length, sum-cong, sum-le, sum-add, sum-const, sum-zero, sum-split, sum-at, le-sum, sum-four, sum-last, sum-tail, sum-first, sum-cond, sum-two, sum-four-two, by-four}
-use Rattle.nls.proofs.Counting.Tree.{Size, D, Q, I, desc, grand, desc-none, grand-none, desc-step, child-le, desc-le, grand-le, desc-mono, grand-mono}
-use Rattle.nls.proofs.Counting.Parts.{ι, over-desc, over-grand, over-all, big, split-desc, split-grand, alone, stands-desc, stands-grand, parts, sizes, splits, bigs, bit, coded, pixel, refine, test-grand, test-desc, children, group, plane, body}
+use Rattle.nls.proofs.Counting.Sums.{sum, each, each-length, sum-cong, sum-add, sum-at, sum-four, sum-last, sum-tail, sum-first, sum-two, sum-four-two, by-four}
+use Rattle.nls.proofs.Counting.Tree.{Size, D, Q, I, desc, grand, child-le, desc-le, grand-le, desc-mono, grand-mono}
+use Rattle.nls.proofs.Counting.Parts.{ι, over-desc, over-grand, over-all, big, split-desc, split-grand, alone, stands-desc, stands-grand, parts, splits, bigs, bit, coded, pixel, refine, test-grand, test-desc, children, group, plane, body}
 
 -- tests and numbers
 T→1 : (t : Bool) → T t → 1 ≤ ι t
 T→1 true h = omega arith
 T→1 false h = absurd h
-
-1→T : (t : Bool) → 1 ≤ ι t → T t
-1→T true h = tt
-1→T false h = absurd (omega arith)
 
 ι-mono : (s t : Bool) → (T s → T t) → ι s ≤ ι t
 ι-mono false t h = omega arith
@@ -29,10 +25,6 @@ T→1 false h = absurd h
 or-intro : (s t : Bool) → (T (not s) → T t) → T (s || t)
 or-intro true t h = tt
 or-intro false t h = h tt
-
-or-map : (s t u : Bool) → (T t → T u) → T (s || t) → T (s || u)
-or-map true t u h k = tt
-or-map false t u h k = h k
 
 -- the laws of one coefficient and of one set
 coef-law : (d p p1 s s1 : Bool) → (T s1 → T s) → (T p1 → T p) → (T s → T (d || p)) → (T s1 → T (d || p1))
@@ -81,10 +73,6 @@ cond-cong false m n h = refl
 pub and-right : (s t : Bool) → T (s && t) → T t
 and-right true t h = h
 and-right false t h = absurd h
-
-pub and-left : (s t : Bool) → T (s && t) → T s
-and-left true t h = tt
-and-left false t h = absurd h
 
 module _ (z : Size) (mag : ℕ → ℕ) where
   pub big-mono : (b i : ℕ) → T (big z mag (suc b) i) → T (big z mag b i)

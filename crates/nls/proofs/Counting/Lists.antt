@@ -1,22 +1,21 @@
 -- The scan over a table that is a list, as a slice of marks is: it writes what the scan over functions writes.
 -- Assumes nothing.
-use Prim.Native.Nat.{ℕ, zero, suc, _+_, _*_, _-_, _^_, _/_, _≤_, _<_}
-use mathlib.Core.Path.{_≡_, refl, ap, sym, subst, _∙_}
-use mathlib.Core.Bool.{Bool, true, false, not, _&&_, _||_, cond}
-use mathlib.Core.List.{List, [], _∷_, _++_, map}
-use mathlib.Core.Logic.{_⊎_, inl, inr, ⊎-elim}
-use native.Mathlib.Nat.{le-refl}
+use Prim.Native.Nat.{ℕ, zero, suc, _+_, _*_, _-_, _/_, _≤_, _<_}
+use mathlib.Core.Path.{_≡_, refl, ap, sym, _∙_}
+use mathlib.Core.Bool.{Bool, true, false, cond}
+use mathlib.Core.List.{List, [], _∷_, _++_}
+use mathlib.Core.Logic.{⊎-elim}
 use native.Mathlib.Omega.{arith}
-use borrow.Author.Tests.{lt-ltb, le-ltb, ltb-true, ltb-false, eqb-true, eqb-false, le-leb, lt-leb, leb-true, leb-false}
-use lib.Dec.{T, ltb, leb, eqb}
+use borrow.Author.Tests.{lt-ltb, le-ltb, eqb-true, eqb-false, leb-false}
+use lib.Dec.{ltb, leb, eqb}
 use lib.ListN.{length, getD, set, length-set, replicate, length-replicate, getD-replicate, length-append, List·getD-append}
 use lib.Seq.{getD-set-same, getD-set-other, getD-append-add}
 use Rattle.nls.proofs.Counting.Sums.{order}
-use Rattle.nls.proofs.Counting.Tree.{Size, D, Q, I, within}
-use Rattle.nls.proofs.Counting.Parts.{bit, coded, body}
-use Rattle.nls.proofs.Counting.Summary.{join, or-tree, or-desc, or-grand, has-desc, has-grand}
-use Rattle.nls.proofs.Counting.Steps.{Table, put, Step, skip, go, go-over, go-on, pixel-step, refine-step, set-step, push, pushed, open-desc, open-grand}
-use Rattle.nls.proofs.Counting.Whole.{start-from, start, scan-plane, scan, scan-is-body}
+use Rattle.nls.proofs.Counting.Tree.{Size, D, Q, I}
+use Rattle.nls.proofs.Counting.Parts.{bit, coded}
+use Rattle.nls.proofs.Counting.Summary.{has-desc, has-grand}
+use Rattle.nls.proofs.Counting.Steps.{Table, put, Step, skip, go, pixel-step, refine-step, set-step, push, pushed, open-desc, open-grand}
+use Rattle.nls.proofs.Counting.Whole.{start-from}
 
 abbrev pub LStep : Type 0
 LStep = (List Bool) × (List ℕ) × ℕ
@@ -179,20 +178,6 @@ module _ (z : Size) (mag : ℕ → ℕ) (neg : ℕ → Bool) where
       let three = go-l z (refine-l z mag neg b) (I z) (two .1) 0 in
       (one .0 ++ (two .0 ++ three .0), three .1)
 
-  unfoldable pub scan-l : ℕ → List ℕ → (List Bool) × (List ℕ)
-  scan-l zero l = ([], l)
-  scan-l (suc b) l = let one = scan-plane-l b l in let more = scan-l b (one .1) in (one .0 ++ more .0, more .1)
-
-  pub like-scan : (n : ℕ) (l : List ℕ) (m : Table) → Rep z l m → ((scan-l n l) .0 ≡ (scan z mag neg n m) .0) × Rep z ((scan-l n l) .1) ((scan z mag neg n m) .1)
-  unfolding scan-l scan scan-plane-l scan-plane
-  like-scan zero l m r = (refl, r)
-  like-scan (suc b) l m r =
-      let one = like-go z (pixel-l z mag neg b) (pixel-step z mag neg b) (like-pixel z mag neg b) (I z) l m 0 r in
-      let two = like-go z (set-l z mag neg b) (set-step z mag neg b) (like-set z mag neg b) (z .e + 12 * Q z) _ _ 0 (one .1) in
-      let three = like-go z (refine-l z mag neg b) (refine-step z mag neg b) (like-refine z mag neg b) (I z) _ _ 0 (two .1) in
-      let more = like-scan b _ _ (three .1) in
-      (rw (one .0, two .0, three .0, more .0), more .1)
-
   pub rep-start : (n : ℕ) → Rep z (start-from-l n) (start-from z mag neg n)
   unfolding start-from-l start-from
   rep-start zero =
@@ -207,8 +192,3 @@ module _ (z : Size) (mag : ℕ → ℕ) (neg : ℕ → Bool) where
       back : (y : ℕ) → D z ≤ y → y ≡ length {A = ℕ} (replicate (D z) 1) + (y - D z)
       back y l = omega (arith, length-replicate {A = ℕ} (D z) 1)
   rep-start (suc n) = rep-pushed z mag neg 0 (start-from-l n) (start-from z mag neg n) (4 * (z .e + n)) (rep-start n)
-
-  -- THE SCAN OVER A LIST WRITES THE BODY
-  pub list-scan : (n : ℕ) → ((i : ℕ) → i < I z → mag i < 2 ^ n) → (scan-l n start-l) .0 ≡ body z mag neg n
-  unfolding start-l start
-  list-scan n small = (like-scan n (start-from-l (3 * z .e)) (start-from z mag neg (3 * z .e)) (rep-start (3 * z .e))) .0 ∙ scan-is-body z mag neg n small

@@ -1,18 +1,17 @@
 -- What the set pass does to the table where a set is split.
 -- Assumes nothing.
-use Prim.Native.Nat.{ℕ, zero, suc, _+_, _*_, _-_, _^_, _/_, _%_, _≤_, _<_}
+use Prim.Native.Nat.{ℕ, zero, suc, _+_, _*_, _-_, _^_, _/_, _≤_, _<_}
 use mathlib.Core.Path.{_≡_, refl, ap, sym, subst, _∙_}
-use mathlib.Core.Bool.{Bool, true, false, not, _&&_, _||_, cond}
-use mathlib.Core.List.{List, [], _∷_, _++_}
-use mathlib.Core.Logic.{_⊎_, inl, inr, ⊎-elim}
-use native.Mathlib.Nat.{le-trans, le-refl, zero-add, add-zero, pow-succ', pow-le-pow-right, add-suc}
+use mathlib.Core.Bool.{Bool, true, false, not, _||_, cond}
+use mathlib.Core.Logic.{inl, inr, ⊎-elim}
+use native.Mathlib.Nat.{le-refl, pow-succ', pow-le-pow-right}
 use native.Mathlib.Omega.{arith}
-use borrow.Author.Tests.{lt-ltb, le-ltb, ltb-true, ltb-false, eqb-true, eqb-false, le-leb, lt-leb, eq-eqb, ne-eqb}
-use lib.Dec.{T, ltb, leb, eqb, ltb→lt, nltb→le, lt→ltb, T-not, not-T}
+use borrow.Author.Tests.{lt-ltb, eqb-true, eqb-false, ne-eqb}
+use lib.Dec.{T, ltb, eqb, nltb→le, T-not}
 use Rattle.nls.proofs.Counting.Sums.{order}
-use Rattle.nls.proofs.Counting.Tree.{Size, D, Q, I}
-use Rattle.nls.proofs.Counting.Tiles.{up, down, up-down, up-last, in-run, pow4-pos, Alone, StandsD, StandsG, Cov, Spot, covered, unique}
-use Rattle.nls.proofs.Counting.Steps.{Table, put, push, pushed, open-desc, open-grand, code, code-far, Marks, clash, apart, put-same, put-other}
+use Rattle.nls.proofs.Counting.Tree.{Size, D, I}
+use Rattle.nls.proofs.Counting.Tiles.{up, down, up-down, up-last, Alone, StandsD, StandsG, Cov, Spot, unique}
+use Rattle.nls.proofs.Counting.Steps.{Table, put, push, pushed, open-desc, open-grand, code, code-far, Marks, clash, put-same, put-other}
 
 down-shift : (k w : ℕ) → down k (4 * w) ≡ down (suc k) w
 unfolding down

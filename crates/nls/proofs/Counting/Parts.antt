@@ -1,12 +1,9 @@
 -- What is split, what stands, and the whole stream, from the magnitudes and signs alone (document 01, "Parts that stand").
 -- Assumes nothing.
-use Prim.Native.Nat.{ℕ, zero, suc, _+_, _*_, _-_, _^_, _/_, _%_, _≤_, _<_}
-use mathlib.Core.Path.{_≡_, refl, ap, sym, _∙_}
+use Prim.Native.Nat.{ℕ, zero, suc, _+_, _*_, _-_, _^_, _/_, _%_}
 use mathlib.Core.Bool.{Bool, true, false, not, _&&_, _||_, cond}
 use mathlib.Core.List.{List, [], _∷_, _++_}
-use native.Mathlib.Omega.{arith}
-use lib.Dec.{T, ltb, leb, eqb}
-use lib.ListN.{length}
+use lib.Dec.{ltb, leb, eqb}
 use Rattle.nls.proofs.Counting.Sums.{sum, each}
 use Rattle.nls.proofs.Counting.Tree.{Size, D, Q, I, desc, grand}
 

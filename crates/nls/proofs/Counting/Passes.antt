@@ -1,21 +1,21 @@
 -- The pixel pass and the refinement pass write what the magnitudes say.
 -- Assumes nothing.
-use Prim.Native.Nat.{ℕ, zero, suc, _+_, _*_, _-_, _^_, _/_, _%_, _≤_, _<_}
-use mathlib.Core.Path.{_≡_, refl, ap, sym, subst, _∙_}
-use mathlib.Core.Bool.{Bool, true, false, not, _&&_, _||_, cond}
-use mathlib.Core.List.{List, [], _∷_, _++_}
+use Prim.Native.Nat.{ℕ, suc, _+_, _^_, _/_, _≤_, _<_}
+use mathlib.Core.Path.{_≡_, refl, ap}
+use mathlib.Core.Bool.{Bool, true, false, not, _||_, cond}
+use mathlib.Core.List.{[]}
 use mathlib.Core.Logic.{_⊎_, inl, inr, ⊎-elim}
-use native.Mathlib.Nat.{le-trans, le-refl, zero-add, add-zero, sub-zero}
+use native.Mathlib.Nat.{sub-zero}
 use native.Mathlib.Numerals.{add-one}
 use native.Mathlib.Omega.{arith}
-use borrow.Author.Tests.{lt-ltb, le-ltb, ltb-true, ltb-false, eqb-true, eqb-false, le-leb, lt-leb, eq-eqb, ne-eqb}
-use lib.Dec.{T, ltb, leb, eqb, ltb→lt, nltb→le, lt→ltb, T-not, not-T}
+use borrow.Author.Tests.{le-ltb, ltb-true, ltb-false, eqb-true, ne-eqb}
+use lib.Dec.{T, ltb, eqb, T-not}
 use Rattle.nls.proofs.Counting.Sums.{each}
-use Rattle.nls.proofs.Counting.Tree.{Size, D, Q, I, grand, grand-none}
-use Rattle.nls.proofs.Counting.Parts.{ι, big, bit, coded, alone, split-desc, split-grand, pixel, refine}
-use Rattle.nls.proofs.Counting.Count.{big-mono, desc-shrinks, grand-shrinks, grand-splits, desc-known, big-alone, bit-big}
-use Rattle.nls.proofs.Counting.Tiles.{up, down, Alone, StandsD, StandsG, Cov, Spot, first-spot}
-use Rattle.nls.proofs.Counting.Steps.{Table, put, Step, skip, go, pixel-step, refine-step, code, skip-code, code-high, Marks, clash, pass, halfway, retell}
+use Rattle.nls.proofs.Counting.Tree.{Size, D, Q, I, grand-none}
+use Rattle.nls.proofs.Counting.Parts.{ι, big, alone, split-desc, split-grand, pixel, refine}
+use Rattle.nls.proofs.Counting.Count.{big-mono, grand-splits, desc-known, big-alone, bit-big}
+use Rattle.nls.proofs.Counting.Tiles.{up, Alone, Cov, first-spot}
+use Rattle.nls.proofs.Counting.Steps.{Table, put, skip, go, pixel-step, refine-step, code, skip-code, code-high, Marks, clash, pass, halfway, retell}
 
 same-mark : (m : Table) (x v y : ℕ) → m x ≡ v → m y ≡ cond (eqb y x) v (m y)
 same-mark m x v y h = tell (eqb y x) refl

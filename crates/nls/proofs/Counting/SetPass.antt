@@ -5,19 +5,18 @@ use mathlib.Core.Path.{_≡_, refl, ap, sym, subst, _∙_}
 use mathlib.Core.Bool.{Bool, true, false, not, _&&_, _||_, cond}
 use mathlib.Core.List.{List, [], _∷_, _++_, append-assoc}
 use mathlib.Core.Logic.{_⊎_, inl, inr, ⊎-elim}
-use native.Mathlib.Nat.{le-trans, le-refl, zero-add, add-zero, sub-zero, pow-succ'}
-use native.Mathlib.Numerals.{add-one}
+use native.Mathlib.Nat.{le-refl, zero-add, pow-succ'}
 use native.Mathlib.Omega.{arith}
-use borrow.Author.Tests.{lt-ltb, le-ltb, ltb-true, ltb-false, eqb-true, eqb-false, le-leb, lt-leb, eq-eqb, ne-eqb}
-use lib.Dec.{T, ltb, leb, eqb, ltb→lt, nltb→le, lt→ltb, T-not, not-T}
+use borrow.Author.Tests.{lt-ltb, le-ltb, eqb-true, eqb-false, le-leb, lt-leb, ne-eqb}
+use lib.Dec.{T, ltb, leb, eqb, lt→ltb, T-not, not-T}
 use Rattle.nls.proofs.Counting.Sums.{each, each-at, each-cons, each-none, each-jump, order}
 use Rattle.nls.proofs.Counting.Tree.{Size, D, Q, I, desc, grand, desc-none, grand-none}
-use Rattle.nls.proofs.Counting.Parts.{ι, big, bit, coded, alone, split-desc, split-grand, test-grand, test-desc, children, group}
-use Rattle.nls.proofs.Counting.Count.{big-mono, desc-shrinks, grand-shrinks, grand-splits, desc-known, child-splits, desc-splits, bit-big}
+use Rattle.nls.proofs.Counting.Parts.{ι, big, bit, coded, split-desc, split-grand, test-grand, test-desc, children, group}
+use Rattle.nls.proofs.Counting.Count.{desc-shrinks, grand-shrinks, desc-known, child-splits, desc-splits, bit-big}
 use Rattle.nls.proofs.Counting.Summary.{has-desc, has-grand, has-desc-is, has-grand-is}
 use Rattle.nls.proofs.Counting.Tiles.{up, down, up-le, in-run, pow4-pos, Alone, StandsD, StandsG, Cov, Spot, after-alone, after-run, below-sg, not-sd, not-sg}
-use Rattle.nls.proofs.Counting.Steps.{Table, put, Step, skip, go, go-on, go-over, set-step, open-desc, open-grand, code, code-far, skip-code, code-high, Marks, remark, retell, put-same}
-use Rattle.nls.proofs.Counting.Passes.{closed1, found, rest, T-true, T-false, of-true, of-false}
+use Rattle.nls.proofs.Counting.Steps.{Table, skip, go, go-on, go-over, set-step, open-desc, open-grand, code, code-far, skip-code, Marks, remark, retell}
+use Rattle.nls.proofs.Counting.Passes.{closed1, found, T-true, T-false, of-true, of-false}
 use Rattle.nls.proofs.Counting.Opens.{flip, grand-opens, desc-opens, same-spot, same-marks, same-desc}
 
 or-true : (s t : Bool) → T t → T (s || t)
@@ -35,10 +34,6 @@ or-out false t h k = k
 or-map : (s t u : Bool) → (T t → T u) → T (s || t) → T (s || u)
 or-map true t u h k = tt
 or-map false t u h k = h k
-
-choose : (t : Bool) → (t ≡ true) ⊎ (t ≡ false)
-choose true = inl refl
-choose false = inr refl
 
 or-right-true : (s : Bool) → (s || true) ≡ true
 or-right-true true = refl

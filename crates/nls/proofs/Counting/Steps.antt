@@ -1,16 +1,16 @@
 -- The scan with a table of marks (document 01, "Marks" and "The three passes"), and a scan that goes over a table at rest.
 -- Assumes nothing.
-use Prim.Native.Nat.{ℕ, zero, suc, _+_, _*_, _-_, _^_, _/_, _%_, _≤_, _<_}
+use Prim.Native.Nat.{ℕ, zero, suc, _+_, _*_, _-_, _^_, _/_, _≤_, _<_}
 use mathlib.Core.Path.{_≡_, refl, ap, sym, subst, _∙_}
-use mathlib.Core.Bool.{Bool, true, false, not, _&&_, _||_, cond}
+use mathlib.Core.Bool.{Bool, true, false, _&&_, _||_, cond}
 use mathlib.Core.List.{List, [], _∷_, _++_}
-use mathlib.Core.Logic.{_⊎_, inl, inr, ⊎-elim}
-use native.Mathlib.Nat.{le-trans, le-refl, zero-add, add-zero, pow-succ', pow-le-pow-right}
+use mathlib.Core.Logic.{inl, inr, ⊎-elim}
+use native.Mathlib.Nat.{le-refl}
 use native.Mathlib.Omega.{arith}
-use borrow.Author.Tests.{lt-ltb, le-ltb, ltb-true, ltb-false, eqb-true, eqb-false, le-leb, lt-leb, eq-eqb, ne-eqb}
-use lib.Dec.{T, ltb, leb, eqb, ltb→lt, nltb→le, lt→ltb, T-not, not-T}
-use Rattle.nls.proofs.Counting.Sums.{each, each-at, each-skip, each-cons, each-none, each-jump, order}
-use Rattle.nls.proofs.Counting.Tree.{Size, D, Q, I}
+use borrow.Author.Tests.{lt-ltb, le-ltb, eqb-true, eqb-false, le-leb, lt-leb, eq-eqb, ne-eqb}
+use lib.Dec.{T, ltb, leb, eqb, ltb→lt, T-not}
+use Rattle.nls.proofs.Counting.Sums.{each, each-at, each-cons, each-none, each-jump, order}
+use Rattle.nls.proofs.Counting.Tree.{Size, D, I}
 use Rattle.nls.proofs.Counting.Parts.{bit, coded}
 use Rattle.nls.proofs.Counting.Summary.{has-desc, has-grand}
 use Rattle.nls.proofs.Counting.Tiles.{up, down, up-down, in-run, pow4-pos, Alone, StandsD, StandsG, Cov, Spot, covered, after-alone, after-run}
@@ -115,10 +115,6 @@ put-same m x v = rw (eq-eqb x x refl)
 
 pub put-other : (m : Table) (x v y : ℕ) → (y ≡ x → ⊥) → put m x v y ≡ m y
 put-other m x v y h = rw (ne-eqb y x h)
-
-decide : (t : Bool) → (t ≡ true) ⊎ (t ≡ false)
-decide true = inl refl
-decide false = inr refl
 
 -- the marks of the coefficients when a scan is at i
 abbrev pub halfway : (ℕ → ℕ) → (ℕ → ℕ) → ℕ → ℕ → ℕ

@@ -1,16 +1,16 @@
 -- The summaries: the bitwise OR of the magnitudes over DESC(i) and GRAND(i). They tell what is split.
 -- Assumes nothing.
-use Prim.Native.Nat.{ℕ, zero, suc, _+_, _*_, _-_, _^_, _/_, _%_, _≤_, _<_}
-use mathlib.Core.Path.{_≡_, refl, ap, sym, subst, _∙_}
-use mathlib.Core.Bool.{Bool, true, false, not, _&&_, _||_, cond}
-use native.Mathlib.Nat.{le-trans, le-refl, pow-succ', div-eq-of-lt, div-eq-of-lt-le}
+use Prim.Native.Nat.{ℕ, zero, suc, _+_, _*_, _^_, _/_, _%_}
+use mathlib.Core.Path.{_≡_, refl, sym, _∙_}
+use mathlib.Core.Bool.{Bool, true, false, _||_, cond}
+use native.Mathlib.Nat.{pow-succ', div-eq-of-lt, div-eq-of-lt-le}
 use native.Mathlib.Omega.{arith}
 use borrow.Author.Tests.{lt-ltb, le-ltb, ltb-true, ltb-false, leb-true, leb-false, le-leb, lt-leb}
-use lib.Dec.{T, ltb, leb, eqb, nleb→lt}
+use lib.Dec.{ltb, leb, eqb}
 use lib.Pow.{pow-pos}
-use lib.Bits.{bitOr, bitAnd, or-lt, or-add-and, and-le-l, and-le-r}
+use lib.Bits.{bitOr, or-lt, or-add-and, and-le-l, and-le-r}
 use Rattle.nls.proofs.Counting.Sums.{sum}
-use Rattle.nls.proofs.Counting.Tree.{Size, D, Q, I, tree, within, desc, grand}
+use Rattle.nls.proofs.Counting.Tree.{Size, I, tree, within, desc, grand}
 use Rattle.nls.proofs.Counting.Parts.{ι, big, split-desc, split-grand}
 
 -- f a | f (a + 1) | .. , n terms

@@ -1,14 +1,14 @@
 -- The parts that stand lie in the linear order as runs, one for each level of a set. A scan goes from run to run.
 -- Assumes nothing.
-use Prim.Native.Nat.{ℕ, zero, suc, _+_, _*_, _-_, _^_, _/_, _%_, _≤_, _<_}
-use mathlib.Core.Path.{_≡_, refl, ap, sym, subst, _∙_}
-use mathlib.Core.Bool.{Bool, true, false, not, _&&_, _||_, cond}
+use Prim.Native.Nat.{ℕ, zero, suc, _+_, _*_, _-_, _^_, _/_, _≤_, _<_}
+use mathlib.Core.Path.{_≡_, refl, sym, subst, _∙_}
+use mathlib.Core.Bool.{Bool, true, false, not, _||_}
 use mathlib.Core.Logic.{_⊎_, inl, inr, ⊎-elim}
-use native.Mathlib.Nat.{le-trans, le-refl, zero-add, add-zero, pow-succ', pow-le-pow-right}
+use native.Mathlib.Nat.{le-refl, zero-add, pow-succ', pow-le-pow-right}
 use native.Mathlib.Omega.{arith}
-use borrow.Author.Tests.{lt-ltb, le-ltb, ltb-true, ltb-false, eqb-true, eqb-false}
-use lib.Dec.{T, ltb, leb, eqb, ltb→lt, nltb→le, lt→ltb, T-not, not-T}
-use Rattle.nls.proofs.Counting.Tree.{Size, D, Q, I}
+use borrow.Author.Tests.{eqb-true, eqb-false}
+use lib.Dec.{T, ltb, eqb, ltb→lt, nltb→le, lt→ltb, T-not, not-T}
+use Rattle.nls.proofs.Counting.Tree.{Size, D}
 
 -- k steps up from x, and k steps down by first children
 unfoldable pub up : ℕ → ℕ → ℕ

@@ -1,23 +1,18 @@
 -- The whole scan, from the marks at the start to the end of plane 0, writes the body; so demand 3 holds of it.
 -- Assumes nothing.
-use Prim.Native.Nat.{ℕ, zero, suc, _+_, _*_, _-_, _^_, _/_, _%_, min, _≤_, _<_}
-use mathlib.Core.Path.{_≡_, refl, ap, sym, subst, _∙_}
-use mathlib.Core.Bool.{Bool, true, false, not, _&&_, _||_, cond}
-use mathlib.Core.List.{List, [], _∷_, _++_, append-assoc}
-use mathlib.Core.Logic.{_⊎_, inl, inr, ⊎-elim}
-use native.Mathlib.Nat.{le-trans, le-refl, zero-add, add-zero}
+use Prim.Native.Nat.{ℕ, zero, suc, _+_, _*_, _-_, _^_, _/_, _≤_, _<_}
+use mathlib.Core.Path.{_≡_, refl, sym, subst, _∙_}
+use mathlib.Core.Bool.{Bool, true, false, _||_, cond}
+use mathlib.Core.List.{List, _++_}
 use native.Mathlib.Omega.{arith}
-use borrow.Author.Tests.{lt-ltb, le-ltb, ltb-true, ltb-false, eqb-true, eqb-false, le-leb, lt-leb, eq-eqb, ne-eqb}
-use lib.Dec.{T, ltb, leb, eqb, ltb→lt, nltb→le, lt→ltb, T-not, not-T}
-use lib.ListN.{length, take, length-take}
-use lib.Seq.{take-nil}
-use Rattle.nls.proofs.Counting.Sums.{sum, each}
+use borrow.Author.Tests.{lt-ltb, eqb-true, eqb-false, lt-leb}
+use lib.Dec.{T, ltb, eqb, ltb→lt}
 use Rattle.nls.proofs.Counting.Tree.{Size, D, Q, I, desc, grand, desc-zero, grand-zero}
-use Rattle.nls.proofs.Counting.Parts.{ι, big, split-desc, split-grand, pixel, refine, group, plane, body, parts, splits}
-use Rattle.nls.proofs.Counting.Bound.{bits-count, bits-bound, nonzeros, worst, none-big}
-use Rattle.nls.proofs.Counting.Tiles.{up, down, Alone, StandsD, StandsG}
-use Rattle.nls.proofs.Counting.Steps.{Table, put, Step, go, pixel-step, refine-step, set-step, push, pushed, code, Marks}
-use Rattle.nls.proofs.Counting.Passes.{rest, found, pixel-pass, refine-pass, T-false}
+use Rattle.nls.proofs.Counting.Parts.{ι, big, split-desc, split-grand, plane}
+use Rattle.nls.proofs.Counting.Bound.{none-big}
+use Rattle.nls.proofs.Counting.Tiles.{down}
+use Rattle.nls.proofs.Counting.Steps.{Table, go, pixel-step, refine-step, set-step, pushed, code, Marks}
+use Rattle.nls.proofs.Counting.Passes.{rest, pixel-pass, refine-pass}
 use Rattle.nls.proofs.Counting.Opens.{pushed-hit, pushed-miss, down-ge}
 use Rattle.nls.proofs.Counting.SetPass.{set-pass}
 
@@ -47,11 +42,6 @@ module _ (z : Size) (mag : ℕ → ℕ) (neg : ℕ → Bool) where
       let three = go z (refine-step z mag neg b) (I z) (two .1) 0 in
       (one .0 ++ (two .0 ++ three .0), three .1)
 
-  -- planes n - 1 to 0
-  unfoldable pub scan : ℕ → Table → (List Bool) × Table
-  scan zero m = ([], m)
-  scan (suc b) m = let one = scan-plane b m in let more = scan b (one .1) in (one .0 ++ more .0, more .1)
-
   pub plane-scan : (b : ℕ) (m : Table) → Marks z (split-desc z mag (suc b)) (split-grand z mag (suc b)) (λ x. rest z mag (suc b) x) m
       → ((scan-plane b m) .0 ≡ plane z mag neg b) × Marks z (split-desc z mag b) (split-grand z mag b) (λ x. rest z mag b x) ((scan-plane b m) .1)
   unfolding scan-plane plane
@@ -60,15 +50,6 @@ module _ (z : Size) (mag : ℕ → ℕ) (neg : ℕ → Bool) where
       let p2 = set-pass z mag neg b ((go z (pixel-step z mag neg b) (I z) m 0) .1) (p1 .1) in
       let p3 = refine-pass z mag neg b ((go z (set-step z mag neg b) (z .e + 12 * Q z) ((go z (pixel-step z mag neg b) (I z) m 0) .1) 0) .1) (p2 .1) in
       (rw (p1 .0, p2 .0, p3 .0), p3 .1)
-
-  pub whole-scan : (n : ℕ) (m : Table) → Marks z (split-desc z mag n) (split-grand z mag n) (λ x. rest z mag n x) m
-      → ((scan n m) .0 ≡ body z mag neg n) × Marks z (split-desc z mag 0) (split-grand z mag 0) (λ x. rest z mag 0 x) ((scan n m) .1)
-  unfolding scan body
-  whole-scan zero m w = (refl, w)
-  whole-scan (suc b) m w =
-      let p = plane-scan b m w in
-      let q = whole-scan b ((scan-plane b m) .1) (p .1) in
-      (rw (p .0, q .0), q .1)
 
   -- THE START
   roots-apart : (k k′ a a′ : ℕ) → z .e ≤ a → a < 4 * z .e → z .e ≤ a′ → a′ < 4 * z .e → down k a ≡ down k′ a′ → a ≡ a′
@@ -126,13 +107,3 @@ module _ (z : Size) (mag : ℕ → ℕ) (neg : ℕ → Bool) where
               (λ o. start-hit (3 * z .e) (a - z .e) k (omega arith) (omega arith) p o) u;
           grand = λ k a p v s u. absurd (rw (no-desc a) at (s .0));
         }
-
-    -- DEMAND 3, of the scan
-    pub scan-is-body : (scan n start) .0 ≡ body z mag neg n
-    scan-is-body = (whole-scan n start start-marks) .0
-
-    pub scan-count : length ((scan n start) .0) ≡ sum 0 n (λ b. parts z mag b) + splits z mag 0 + nonzeros z mag
-    scan-count = ap (λ (l : List Bool). length l) scan-is-body ∙ bits-count z mag n small neg
-
-    pub scan-bound : length ((scan n start) .0) ≤ worst z n
-    scan-bound = rw scan-is-body (bits-bound z mag n small neg)

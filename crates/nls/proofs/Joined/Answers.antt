@@ -1,17 +1,17 @@
 -- What an array answers to a question about a set is the bit of the set's summary.
 -- Assumes nothing.
-use Prim.Native.Nat.{ℕ, zero, suc, _+_, _*_, _-_, _^_, _/_, _%_, max, _≤_, _<_}
+use Prim.Native.Nat.{ℕ, zero, suc, _+_, _*_, _^_, _/_, _%_, max, _≤_, _<_}
 use mathlib.Core.Path.{_≡_, refl, ap, sym, subst, _∙_}
-use mathlib.Core.Bool.{Bool, true, false, not, _&&_, _||_, cond, true≢false, false≢true}
+use mathlib.Core.Bool.{Bool, true, false, _&&_, _||_, cond, true≢false, false≢true}
 use mathlib.Core.Logic.{_⊎_, inl, inr, ⊎-elim}
 use native.Mathlib.Nat.{zero-div, le-refl}
 use native.Mathlib.Omega.{arith}
-use borrow.Author.Tests.{lt-ltb, le-ltb, ltb-true, ltb-false, eqb-true, eqb-false, eq-eqb, ne-eqb}
+use borrow.Author.Tests.{lt-ltb, ltb-true, eqb-true, eqb-false, eq-eqb, ne-eqb}
 use lib.Dec.{ltb, eqb}
 use lib.Bits.{bitOr, or-step, or-shr}
 use Rattle.bits.specs.Bits.{bit}
-use Rattle.nls.specs.Scan.{Question, bitOf, signOf, inDesc, inGrand}
-use Rattle.nls.proofs.Arrays.{below, any, Arr, Bits, bits-of, inside, ans}
+use Rattle.nls.specs.Scan.{inDesc, inGrand}
+use Rattle.nls.proofs.Arrays.{below, any, Arr, bits-of, inside, ans}
 use Rattle.nls.proofs.Judging.Most.{and-l, and-r, and-i, or-cases, or-l, or-r, any-some, any-find}
 use Rattle.nls.proofs.Counting.Tree.{Size, I, within}
 use Rattle.nls.proofs.Counting.Summary.{join, or-tree, or-desc, or-grand, has-desc, has-grand}

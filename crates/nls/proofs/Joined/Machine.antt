@@ -1,15 +1,15 @@
 -- The machine's passes, planes and whole run write what the magnitudes say.
 -- Assumes nothing.
-use Prim.Native.Nat.{ℕ, zero, suc, _+_, _*_, _-_, _^_, _/_, _%_, _≤_, _<_}
-use mathlib.Core.Path.{_≡_, refl, ap, sym, subst, _∙_}
-use mathlib.Core.Bool.{Bool, true, false, cond}
-use mathlib.Core.List.{List, [], _∷_, _++_, append-assoc}
-use mathlib.Core.Logic.{_⊎_, inl, inr, ⊎-elim}
+use Prim.Native.Nat.{ℕ, zero, suc, _+_, _*_, _-_, _^_, _≤_, _<_}
+use mathlib.Core.Path.{_≡_, refl, sym, subst, _∙_}
+use mathlib.Core.Bool.{Bool, false}
+use mathlib.Core.List.{List, _++_}
+use mathlib.Core.Logic.{⊎-elim}
 use native.Mathlib.Omega.{arith}
-use borrow.Author.Tests.{lt-ltb, le-ltb, le-leb, lt-leb}
-use lib.Dec.{ltb, leb, eqb}
-use lib.ListN.{length, getD, set, replicate, length-replicate, getD-replicate, List·getD-append}
-use Rattle.nls.specs.Scan.{State, Look, over, silent, asks, Pass, pixels, sets, refining, at, look}
+use borrow.Author.Tests.{le-ltb, le-leb, lt-leb}
+use lib.Dec.{ltb}
+use lib.ListN.{length, getD, replicate, length-replicate, getD-replicate, List·getD-append}
+use Rattle.nls.specs.Scan.{State, Pass, pixels, sets, refining, at}
 use Rattle.nls.proofs.Arrays.{Arr, Bits, bits-of}
 use Rattle.nls.proofs.Counting.Sums.{order}
 use Rattle.nls.proofs.Counting.Tree.{Size, D, Q, I}
@@ -18,7 +18,7 @@ use Rattle.nls.proofs.Counting.Passes.{rest}
 use Rattle.nls.proofs.Counting.Steps.{Table, Marks}
 use Rattle.nls.proofs.Counting.Steps as C
 use Rattle.nls.proofs.Counting.Whole as W
-use Rattle.nls.proofs.Counting.Lists.{LStep, go-l, pixel-l, refine-l, set-l, scan-plane-l, scan-l, start-from-l, start-l, Rep, like-go, like-pixel, like-refine, like-set, rep-start}
+use Rattle.nls.proofs.Counting.Lists.{LStep, go-l, pixel-l, refine-l, set-l, scan-plane-l, start-from-l, start-l, Rep, like-go, like-pixel, like-refine, like-set, rep-start}
 use Rattle.nls.proofs.Joined.Leads.{Leads, Runs, runs-none, runs-then, leads-none, leads-then, leads-hushed}
 use Rattle.nls.proofs.Joined.Visits.{Low, rank, again-low, low-pixel, low-refine, low-set, falls-pixel, falls-refine, falls-set, visit-pixel, visit-refine, visit-set, pushed-miss}
 
@@ -150,49 +150,6 @@ module _ (z : Size) (full : I z ≡ 4 ^ z .deep) (A : Arr) where
         record { long = q .1; low = r .1; marks = q .2 },
       )
 
-  -- planes b + k - 1 to b
-  unfoldable pub upto : ℕ → ℕ → List Bool
-  upto zero b = []
-  upto (suc k) b = plane z (A .mag) (A .neg) (k + b) ++ upto k b
-
-  pub machine-planes : (k b : ℕ) (l : List ℕ) → Held z (A .mag) (k + b) l
-      → (m : List ℕ) × Runs (z .deep) (bits-of A) (at (k + b) pixels 0 l) (upto k b) (at b pixels 0 m) × Held z (A .mag) b m
-  unfolding upto
-  machine-planes zero b l h =
-      let e : 0 + b ≡ b = omega arith in (
-        l,
-        subst (λ (n : ℕ). Runs (z .deep) (bits-of A) (at n pixels 0 l) [] (at b pixels 0 l)) (sym e) (runs-none (z .deep) (bits-of A) (at b pixels 0 l)),
-        subst (λ (n : ℕ). Held z (A .mag) n l) e h,
-      )
-  machine-planes (suc k) b l h =
-      let e : suc k + b ≡ suc (k + b) = omega arith in
-      let p = machine-plane (k + b) l (subst (λ (n : ℕ). Held z (A .mag) n l) e h) in
-      let q = machine-planes k b (p .0) (p .2) in (
-        q .0,
-        subst (λ (n : ℕ). Runs (z .deep) (bits-of A) (at n pixels 0 l) (plane z (A .mag) (A .neg) (k + b) ++ upto k b) (at b pixels 0 (q .0))) (sym e)
-            (runs-then (z .deep) (bits-of A) (at (suc (k + b)) pixels 0 l) (at (k + b) pixels 0 (p .0)) (at b pixels 0 (q .0)) (plane z (A .mag) (A .neg) (k + b)) (upto k b) (p .1 .runs) (q .1)),
-        q .2,
-      )
-
-  pub body-upto : (k b : ℕ) → body z (A .mag) (A .neg) (k + b) ≡ upto k b ++ body z (A .mag) (A .neg) b
-  unfolding upto body
-  body-upto zero b = ap (λ (n : ℕ). body z (A .mag) (A .neg) n) {x = 0 + b} {y = b} (omega arith)
-  body-upto (suc k) b =
-      ap (λ (n : ℕ). body z (A .mag) (A .neg) n) {x = suc k + b} {y = suc (k + b)} (omega arith)
-      ∙ ap (λ (u : List Bool). plane z (A .mag) (A .neg) (k + b) ++ u) (body-upto k b)
-      ∙ sym (append-assoc (plane z (A .mag) (A .neg) (k + b)) (upto k b) (body z (A .mag) (A .neg) b))
-
-  -- and as the scan over a list, which is how the marks come out
-  pub machine-list : (n : ℕ) (l : List ℕ) → Low l
-      → Runs (z .deep) (bits-of A) (at n pixels 0 l) ((scan-l z (A .mag) (A .neg) n l) .0) (at 0 pixels 0 ((scan-l z (A .mag) (A .neg) n l) .1))
-  unfolding scan-l
-  machine-list zero l w = runs-none (z .deep) (bits-of A) (at 0 pixels 0 l)
-  machine-list (suc b) l w =
-      let p = plane-leads z full A b l w in
-      let m : List ℕ = (scan-plane-l z (A .mag) (A .neg) b l) .1 in
-      runs-then (z .deep) (bits-of A) (at (suc b) pixels 0 l) (at b pixels 0 m) (at 0 pixels 0 ((scan-l z (A .mag) (A .neg) b m) .1))
-      ((scan-plane-l z (A .mag) (A .neg) b l) .0) ((scan-l z (A .mag) (A .neg) b m) .0) (p .0 .runs) (machine-list b m (p .1))
-
   -- ALL PLANES
   pub machine-body : (n : ℕ) (l : List ℕ) → Held z (A .mag) n l
       → (m : List ℕ) × Runs (z .deep) (bits-of A) (at n pixels 0 l) (body z (A .mag) (A .neg) n) (at 0 pixels 0 m) × Held z (A .mag) 0 m
@@ -213,10 +170,6 @@ module _ (z : Size) (full : I z ≡ 4 ^ z .deep) (A : Arr) where
       List·getD-append (replicate (D z) 1) (replicate (I z - D z) 0) 0 0 (omega (arith, length-replicate {A = ℕ} (D z) 1))
       ∙ getD-replicate (D z) 0 1 0 (omega arith)
   start-low (suc n) = pushed-miss z (A .mag) (A .neg) 0 (start-from-l z (A .mag) (A .neg) n) (4 * (z .e + n)) 0 (omega arith) ∙ start-low n
-
-  pub start-is-low : Low (start-l z (A .mag) (A .neg))
-  unfolding start-l
-  start-is-low = omega (arith, start-low (3 * z .e))
 
   pub start-held : (P : ℕ) → ((i : ℕ) → i < I z → A .mag i < 2 ^ P) → Held z (A .mag) P (start-l z (A .mag) (A .neg))
   unfolding start-l W.start

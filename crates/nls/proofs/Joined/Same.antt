@@ -1,19 +1,19 @@
 -- The two ways to write a table are one: skips, pushes, splits and the start.
 -- Assumes nothing.
-use Prim.Native.Nat.{ℕ, zero, suc, _+_, _*_, _-_, _^_, _/_, _%_, _≤_, _<_}
+use Prim.Native.Nat.{ℕ, zero, suc, _+_, _*_, _-_, _^_, _/_, _≤_}
 use mathlib.Core.Path.{_≡_, refl, ap, sym, subst, _∙_}
 use mathlib.Core.Bool.{Bool, true, false, cond}
-use mathlib.Core.List.{List, [], _∷_, _++_}
-use mathlib.Core.Logic.{_⊎_, inl, inr, ⊎-elim}
+use mathlib.Core.List.{List, _++_}
+use mathlib.Core.Logic.{⊎-elim}
 use native.Mathlib.Nat.{pow-succ', le-mul-of-pos-right}
 use native.Mathlib.Omega.{arith}
-use borrow.Author.Tests.{lt-ltb, le-ltb, ltb-true, ltb-false, eqb-true, eqb-false, eq-eqb, ne-eqb, le-leb, lt-leb}
-use lib.Dec.{ltb, leb, eqb}
-use lib.ListN.{length, getD, set, replicate}
+use borrow.Author.Tests.{lt-ltb, le-ltb, ne-eqb, le-leb, lt-leb}
+use lib.Dec.{ltb, leb}
+use lib.ListN.{set, replicate}
 use Rattle.nls.specs.Marks.{skip, setSkip, pushFrom, push, splitDesc, splitGrand, pushRoots}
 use Rattle.nls.proofs.Arrays.{four}
 use Rattle.nls.proofs.Counting.Sums.{order}
-use Rattle.nls.proofs.Counting.Tree.{Size, D, Q, I}
+use Rattle.nls.proofs.Counting.Tree.{Size, D, I}
 use Rattle.nls.proofs.Counting.Steps as C
 use Rattle.nls.proofs.Counting.Lists.{push-l, pushed-l, open-desc-l, open-grand-l, start-from-l, start-l}
 

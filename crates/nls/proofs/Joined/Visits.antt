@@ -1,30 +1,30 @@
 -- One visit of a place: the machine asks its questions there one at a time, and writes what the step over a list writes.
 -- Assumes nothing.
-use Prim.Native.Nat.{ℕ, zero, suc, _+_, _*_, _-_, _^_, _/_, _%_, _≤_, _<_}
+use Prim.Native.Nat.{ℕ, zero, suc, _+_, _*_, _-_, _^_, _/_, _≤_, _<_}
 use mathlib.Core.Path.{_≡_, refl, ap, sym, subst, _∙_}
 use mathlib.Core.Bool.{Bool, true, false, cond}
-use mathlib.Core.List.{List, [], _∷_, _++_}
-use mathlib.Core.Logic.{_⊎_, inl, inr, ⊎-elim}
+use mathlib.Core.List.{List, [], _∷_}
+use mathlib.Core.Logic.{⊎-elim}
 use native.Mathlib.Numerals.{add-one}
 use native.Mathlib.Omega.{arith}
-use borrow.Author.Tests.{lt-ltb, le-ltb, ltb-true, ltb-false, eqb-true, eqb-false, eq-eqb, ne-eqb, le-leb, lt-leb}
+use borrow.Author.Tests.{lt-ltb, eqb-true, eqb-false, ne-eqb}
 use lib.Dec.{ltb, leb, eqb}
 use lib.ListN.{length, getD, set, List·getD-eq-default}
 use lib.Seq.{getD-set-same, getD-set-other}
 use Rattle.bits.specs.Bits.{bit}
 use Rattle.nls.specs.Marks.{skip, setSkip, splitDesc, splitGrand}
-use Rattle.nls.specs.Scan.{State, Look, over, silent, asks, Question, bitOf, signOf, inDesc, inGrand, Pass, pixels, sets, refining, at, look, tell}
+use Rattle.nls.specs.Scan.{State, silent, asks, bitOf, signOf, inDesc, inGrand, Pass, pixels, sets, refining, at, look, tell}
 use Rattle.nls.proofs.Arrays.{Arr, Bits, bits-of, ans}
 use Rattle.nls.proofs.Machine.Run.{skip-pos, sskip-pos}
 use Rattle.nls.proofs.Counting.Sums.{order}
-use Rattle.nls.proofs.Counting.Tree.{Size, D, Q, I}
+use Rattle.nls.proofs.Counting.Tree.{Size, I}
 use Rattle.nls.proofs.Counting.Parts as P
 use Rattle.nls.proofs.Counting.Steps as C
 use Rattle.nls.proofs.Counting.Summary.{has-desc, has-grand}
 use Rattle.nls.proofs.Counting.Lists.{LStep, pixel-l, refine-l, set-l, push-l, pushed-l, open-desc-l, open-grand-l}
 use Rattle.nls.proofs.Joined.Answers.{desc-answer, grand-answer}
-use Rattle.nls.proofs.Joined.Leads.{Leads, leads-none, leads-hush, leads-asks, leads-then, leads-bit}
-use Rattle.nls.proofs.Joined.Same.{skip-same, sskip-same, pushed-same, open-same, grand-same}
+use Rattle.nls.proofs.Joined.Leads.{Leads, leads-hush, leads-asks, leads-bit}
+use Rattle.nls.proofs.Joined.Same.{skip-same, sskip-same, open-same, grand-same}
 
 -- no set has its mark at place 0
 abbrev pub Low : List ℕ → Type 0

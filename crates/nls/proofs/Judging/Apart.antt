@@ -1,10 +1,9 @@
 -- Sets that stand have no place in common.
-use mathlib.Core.Path.{_≡_, refl, sym, ap, subst, _∙_}
-use mathlib.Core.Bool.{Bool, true, false, true≢false, false≢true}
-use mathlib.Core.Logic.{_⊎_, inl, inr}
-use Prim.Native.Nat.{ℕ, zero, suc, _+_, _*_, _-_, _/_, _%_, _^_, _≤_, _<_}
+use mathlib.Core.Path.{_≡_, sym, ap, subst, _∙_}
+use mathlib.Core.Bool.{true, false, true≢false}
+use Prim.Native.Nat.{ℕ, _*_, _/_, _%_, _^_, _≤_}
 use native.Mathlib.Omega.{arith}
-use Rattle.nls.proofs.Machine.Table.{Cfg, alone, stands, Ok, alone-no, no-alone, stands-no, no-stands, no-gd, no-dg, low}
+use Rattle.nls.proofs.Machine.Table.{Cfg, alone, stands, Ok, no-alone, stands-no, no-gd}
 use Rattle.nls.proofs.Machine.Cover.{Under, kid, far}
 use Rattle.nls.proofs.Judging.Clash.{dead-D, dead-G, via}
 

@@ -1,26 +1,26 @@
 -- THE COUNT: at the last root of the first plane D + 3D/4 - 1 bits were used exactly if no 1 was read. So the decoder needs the count and no flag.
 use mathlib.Core.Path.{_≡_, refl, sym, ap, subst, _∙_}
-use mathlib.Core.Bool.{Bool, true, false, not, _&&_, _||_, true≢false, false≢true}
+use mathlib.Core.Bool.{Bool, true, false, not, _||_, true≢false, false≢true}
 use mathlib.Core.Logic.{_⊎_, inl, inr}
-use mathlib.Core.Option.{Option, none, some}
-use mathlib.Core.List.{List, [], _∷_, _++_}
+use mathlib.Core.Option.{some}
+use mathlib.Core.List.{List, [], _∷_}
 use Prim.Native.Nat.{ℕ, zero, suc, _+_, _*_, _-_, _/_, _%_, _^_, _≤_, _<_}
 use native.Mathlib.Omega.{arith}
 use native.Mathlib.Decide.{decLt, ℕ-discrete}
-use lib.ListN.{length, getD, set, take}
-use lib.Dec.{ltb, eqb, lit<, lit≤}
+use lib.ListN.{length, getD}
+use lib.Dec.{ltb, eqb}
 use borrow.Author.Tests.{ltb-true, ltb-false, eqb-true, eqb-false, eq-eqb}
 use Rattle.nls.specs.Marks.{skip, setSkip, startMarks}
-use Rattle.nls.specs.Scan.{State, Look, over, silent, asks, Question, bitOf, signOf, inDesc, inGrand, Pass, pixels, sets, refining, at, look, lookAt, lookPixels, lookSets, lookRefining, tell, tellAt, tellSets, silently, settle, movesLeft, ask, asked, next, reach, start}
-use Rattle.nls.proofs.Arrays.{Bits, ans}
+use Rattle.nls.specs.Scan.{State, Look, over, silent, asks, Question, Pass, pixels, sets, refining, at, look, lookAt, lookPixels, lookSets, lookRefining, tell, tellAt, tellSets, silently, settle, movesLeft, ask, asked, next, reach, start}
+use Rattle.nls.proofs.Arrays.{Bits}
 use Rattle.nls.proofs.Judging.Most.{_⊑_, told, Fits, most, afterO}
 use Rattle.nls.proofs.Reading.Know.{least, knowO, belowO}
 use Rattle.nls.proofs.Machine.Table.{Cfg, alone, stands, no-alone, no-stands, alone-no}
 use Rattle.nls.proofs.Machine.Cover.{Core, is-alone, is-D, is-G, mark-D, sskip-small}
-use Rattle.nls.proofs.Machine.Steps.{Fam, preds, Good, Good-at, good-next, good-mono}
+use Rattle.nls.proofs.Machine.Steps.{Good, Good-at, good-next, good-mono}
 use Rattle.nls.proofs.Judging.Clash.{Valid}
 use Rattle.nls.proofs.Machine.Start.{nothing, good-start, first}
-use Rattle.nls.proofs.Judging.Open.{All, All-at, All-look, Owing, all-next, all-look, all-tell, all-run, all-start, all-first}
+use Rattle.nls.proofs.Judging.Open.{All, All-at, All-look, Owing, all-next, all-look, all-tell, all-start, all-first}
 use Rattle.nls.proofs.Judging.Refuse.{Clash-at, Clashes, owing}
 use Rattle.nls.proofs.Judging.Owed.{Owed}
 use Rattle.nls.proofs.Judging.Decide.{clash-by, None, clash-to, clash-from}
@@ -246,9 +246,6 @@ module _ (N D P : ℕ) (D-big : 4 ≤ D) (D-4 : D % 4 ≡ 0) (I-16 : 4 ^ N % 16 
           go : Tally n hit (D + (i / 4 - D / 4)) → Tally (n + 1) (hit || false) (D + ((i + 1) / 4 - D / 4))
           go (inl r) = absurd (fn (r .0) (was ((f .1 .0) .sD (i / 4)) refl))
           go (inr r) = inr (t-or hit false (r .0), omega (arith, r .1))
-
-      jt-fine : (b i : ℕ) (m : List ℕ) (a : Bool) → J (n + 1) (hit || a) (at (suc b) refining (i + 1) m)
-      jt-fine b i m a = tt
 
       jt : (l : ℕ) (p : Pass) (i : ℕ) (s : Bool) (m : List ℕ) (a : Bool) → AA l p i s m → Good-at D I D-big D-4 I-16 P (F1 fl) l p i s m → J-at n hit l p i s m → told N A (asked I (lookAt I l p i s m)) a → J (n + 1) (hit || a) (tellAt I l p i s m a)
       jt zero p i s m a z f j t = absurd t

@@ -1,19 +1,18 @@
 -- REFUSAL 12, one half: where the marks say so, every array that fits answers 1, so a 0 fits none.
-use mathlib.Core.Path.{_≡_, refl, sym, ap, subst, _∙_}
-use mathlib.Core.Bool.{Bool, true, false, not, _&&_, _||_, true≢false, false≢true}
-use mathlib.Core.Logic.{_⊎_, inl, inr}
-use mathlib.Core.List.{List, [], _∷_, _++_}
-use Prim.Native.Nat.{ℕ, zero, suc, _+_, _*_, _-_, _/_, _%_, _^_, _≤_, _<_}
+use mathlib.Core.Path.{_≡_, refl, sym, subst, _∙_}
+use mathlib.Core.Bool.{Bool, true, false, true≢false}
+use mathlib.Core.List.{List}
+use Prim.Native.Nat.{ℕ, zero, suc, _+_, _*_, _/_, _%_, _^_, _≤_, _<_}
 use native.Mathlib.Omega.{arith}
 use native.Mathlib.Decide.{decLt, ℕ-discrete}
-use lib.ListN.{length, getD, set, take}
-use lib.Dec.{ltb, eqb, lit<, lit≤}
-use borrow.Author.Tests.{ltb-true, ltb-false, lt-ltb}
-use Rattle.nls.specs.Scan.{State, Question, bitOf, signOf, inDesc, inGrand}
-use Rattle.nls.proofs.Arrays.{Bits, inside, ans, below, any}
-use Rattle.nls.proofs.Machine.Table.{Cfg, alone, stands, Ok, alone-no, no-alone, stands-no, no-stands, no-gd, no-dg, low}
-use Rattle.nls.proofs.Machine.Cover.{Under, kid, far, Core, More, Preds, Sets, is-alone, not-alone, is-D, is-G}
-use Rattle.nls.proofs.Machine.Steps.{Fam, preds, From}
+use lib.ListN.{getD}
+use lib.Dec.{ltb}
+use borrow.Author.Tests.{lt-ltb}
+use Rattle.nls.specs.Scan.{bitOf, inDesc, inGrand}
+use Rattle.nls.proofs.Arrays.{Bits, inside, ans, below}
+use Rattle.nls.proofs.Machine.Table.{Cfg, alone, stands, Ok, alone-no, no-alone, stands-no, no-dg, low}
+use Rattle.nls.proofs.Machine.Cover.{Under, kid, far, Core, Sets, is-alone, is-D, is-G}
+use Rattle.nls.proofs.Machine.Steps.{preds, From}
 use Rattle.nls.proofs.Judging.Most.{and-i, member}
 use Rattle.nls.proofs.Reading.Whole.{fam, Known, under-below, under-ge}
 

@@ -1,14 +1,14 @@
 -- What was answered 1, what is known, and what is still open, from plane to plane: two small invariants by the split sets.
 use mathlib.Core.Path.{_≡_, refl, sym, ap, subst, _∙_}
-use mathlib.Core.Bool.{Bool, true, false, true≢false, false≢true}
+use mathlib.Core.Bool.{Bool, true, false, true≢false}
 use mathlib.Core.Logic.{_⊎_, inl, inr}
-use Prim.Native.Nat.{ℕ, zero, suc, _+_, _*_, _-_, _/_, _%_, _^_, _≤_, _<_}
+use Prim.Native.Nat.{ℕ, suc, _/_, _≤_, _<_}
 use native.Mathlib.Omega.{arith}
-use native.Mathlib.Decide.{decLt, ℕ-discrete}
-use Rattle.nls.specs.Scan.{Question, bitOf, signOf, inDesc, inGrand}
+use native.Mathlib.Decide.{ℕ-discrete}
+use Rattle.nls.specs.Scan.{Question, bitOf, inDesc, inGrand}
 use Rattle.nls.proofs.Arrays.{Bits}
-use Rattle.nls.proofs.Machine.Table.{Cfg, alone, stands}
-use Rattle.nls.proofs.Machine.Split.{withD, withG, withA, al-at, al-else, alone-A, same-D, same-G, sD-on, sD-off, sG-D, al-D-on, al-D-off, alone-on, alone-off}
+use Rattle.nls.proofs.Machine.Table.{Cfg, alone}
+use Rattle.nls.proofs.Machine.Split.{withD, withG, withA, al-at, al-else, alone-A, sD-on, sD-off, sG-D, al-D-on, al-D-off, alone-off}
 use Rattle.nls.proofs.Machine.Push.{sD-G, al-G, alone-G, sG-G-on, sG-G-off}
 use Rattle.nls.proofs.Machine.Cover.{Under}
 

@@ -1,34 +1,16 @@
 -- The clash as a test by the marks, and that it says what it should. The last part, about the whole array, is handed in as a test of its own.
-use mathlib.Core.Path.{_≡_, refl, sym, ap, subst, _∙_}
-use mathlib.Core.Bool.{Bool, true, false, not, _&&_, _||_, true≢false, false≢true}
+use mathlib.Core.Path.{_≡_, ap, _∙_}
+use mathlib.Core.Bool.{Bool, true, _&&_, _||_}
 use mathlib.Core.Logic.{_⊎_, inl, inr}
-use mathlib.Core.List.{List, [], _∷_, _++_}
-use Prim.Native.Nat.{ℕ, zero, suc, _+_, _*_, _-_, _/_, _%_, _^_, _≤_, _<_}
+use mathlib.Core.List.{List}
+use Prim.Native.Nat.{ℕ, suc, _+_, _*_, _-_, _/_, _%_, _≤_, _<_}
 use native.Mathlib.Omega.{arith}
-use native.Mathlib.Decide.{decLt, ℕ-discrete}
-use lib.ListN.{length, getD, set, take}
-use lib.Dec.{ltb, leb, eqb, lit<, lit≤}
-use borrow.Author.Tests.{ltb-true, ltb-false, lt-ltb, le-ltb, leb-true, le-leb, eqb-true, eqb-false, eq-eqb}
+use native.Mathlib.Decide.{ℕ-discrete}
+use lib.ListN.{getD}
+use lib.Dec.{leb, eqb}
+use borrow.Author.Tests.{leb-true, le-leb, eqb-true, eq-eqb}
 use Rattle.nls.proofs.Judging.Most.{and-l, and-r, and-i, or-l, or-r, or-cases}
 use Rattle.nls.proofs.Judging.Clash.{Clash, last-child, last-grand, last-desc, last-root}
-
-unfoldable pub every : ℕ → (ℕ → Bool) → Bool
-every zero p = true
-every (suc n) p = p n && every n p
-
-pub every-at : (n : ℕ) (p : ℕ → Bool) → every n p ≡ true → (j : ℕ) → j < n → p j ≡ true
-unfolding every
-every-at zero p h j l = absurd (omega arith)
-every-at (suc n) p h j l = go (ℕ-discrete j n) (every-at n p (and-r (p n) (every n p) h) j)
-  where
-    go : Dec (j ≡ n) → (j < n → p j ≡ true) → p j ≡ true
-    go (yes e) ih = ap p e ∙ and-l (p n) (every n p) h
-    go (no e) ih = ih (omega arith)
-
-pub every-i : (n : ℕ) (p : ℕ → Bool) → ((j : ℕ) → j < n → p j ≡ true) → every n p ≡ true
-unfolding every
-every-i zero p f = refl
-every-i (suc n) p f = and-i (p n) (every n p) (f n (omega arith)) (every-i n p (λ j l. f j (omega arith)))
 
 -- place t has the mark v
 abbrev pub is : List ℕ → ℕ → ℕ → Bool
@@ -50,31 +32,8 @@ cb-root D P b t m none = is m t 5 && (eqb (t + 4) (4 * D) && (eqb (suc b) P && n
 unfoldable pub clash-by : ℕ → ℕ → ℕ → ℕ → ℕ → List ℕ → Bool → Bool
 clash-by I D P b t m none = cb-child I t m || (cb-grand t m || (cb-desc D t m || cb-root D P b t m none))
 
--- by the marks
-unfoldable pub none-marked : ℕ → ℕ → List ℕ → Bool
-none-marked D t m = every D (λ j. is m j 1) && every (t / 4) (λ h. ltb (4 * h) D || is m (4 * h) 5)
-
 abbrev pub None : ℕ → ℕ → List ℕ → Type 0
 None D t m = ((j : ℕ) → j < D → getD m j 0 ≡ 1) × ((h : ℕ) → D ≤ 4 * h → 4 * h < t → getD m (4 * h) 0 ≡ 5)
-
-pub marked-to : (D t : ℕ) (m : List ℕ) → t + 4 ≡ 4 * D → none-marked D t m ≡ true → None D t m
-unfolding none-marked
-marked-to D t m te e = (
-  (λ j h. eqb-true _ _ (every-at D (λ j. is m j 1) (and-l _ _ e) j h)),
-  λ h lo hi. pick h lo (or-cases (ltb (4 * h) D) (is m (4 * h) 5) (every-at (t / 4) (λ h. ltb (4 * h) D || is m (4 * h) 5) (and-r (every D (λ j. is m j 1)) _ e) h (omega arith))),
-)
-  where
-    pick : (h : ℕ) → D ≤ 4 * h → (ltb (4 * h) D ≡ true) ⊎ (is m (4 * h) 5 ≡ true) → getD m (4 * h) 0 ≡ 5
-    pick h lo (inl z) = absurd (omega (arith, ltb-true (4 * h) D z))
-    pick h lo (inr z) = eqb-true _ _ z
-
-pub marked-from : (D t : ℕ) (m : List ℕ) → None D t m → none-marked D t m ≡ true
-unfolding none-marked
-marked-from D t m n = and-i _ _ (every-i D (λ j. is m j 1) (λ j h. eq-eqb _ _ (n .0 j h))) (every-i (t / 4) (λ h. ltb (4 * h) D || is m (4 * h) 5) (λ h l. pick h l (decLt (4 * h) D)))
-  where
-    pick : (h : ℕ) → h < t / 4 → Dec (4 * h < D) → (ltb (4 * h) D || is m (4 * h) 5) ≡ true
-    pick h l (yes z) = or-l (ltb (4 * h) D) (is m (4 * h) 5) (lt-ltb (4 * h) D z)
-    pick h l (no z) = or-r (ltb (4 * h) D) (is m (4 * h) 5) (eq-eqb _ _ (n .1 h (omega arith) (omega arith)))
 
 module _ (D I P b t : ℕ) (m : List ℕ) where
   child-to : cb-child I t m ≡ true → Clash D I P b t m

@@ -1,27 +1,23 @@
 -- DEMAND 2 (iii): a decoder that stops at the clash accepts a list of bits exactly if some array of P planes has a stream that begins so; refusals 12 and 13.
 use mathlib.Core.Path.{_≡_, refl, sym, ap, subst, _∙_}
 use mathlib.Core.Bool.{Bool, true, false, not, _&&_, _||_, true≢false, false≢true}
-use mathlib.Core.Logic.{_⊎_, inl, inr}
 use mathlib.Core.Option.{Option, none, some}
 use mathlib.Core.List.{List, [], _∷_, _++_}
-use Prim.Native.Nat.{ℕ, zero, suc, _+_, _*_, _-_, _/_, _%_, _^_, _≤_, _<_}
+use Prim.Native.Nat.{ℕ, zero, suc, _+_, _*_, _-_, _%_, _^_, _≤_}
 use native.Mathlib.Omega.{arith}
-use native.Mathlib.Decide.{decLt, ℕ-discrete}
-use lib.ListN.{length, getD, set, take, length-append}
-use lib.Dec.{ltb, eqb, lit<, lit≤}
-use borrow.Author.Tests.{ltb-true, ltb-false, lt-ltb, eqb-true, eqb-false, eq-eqb}
-use Rattle.nls.specs.Marks.{startMarks}
-use Rattle.nls.specs.Scan.{State, Look, over, silent, asks, Question, bitOf, signOf, inDesc, inGrand, Pass, pixels, sets, refining, look, lookAt, lookPixels, lookSets, lookRefining, ask, asked, next, reach, start}
-use Rattle.nls.proofs.Arrays.{Bits, ans}
-use Rattle.nls.proofs.Machine.Run.{fit-append, fit-prefix, reach-append}
+use lib.ListN.{length, getD, length-append}
+use lib.Dec.{ltb, eqb}
+use borrow.Author.Tests.{ltb-true, lt-ltb, eqb-true}
+use Rattle.nls.specs.Scan.{State, Question, Pass, pixels, sets, refining, lookAt, lookSets, ask, asked, next, reach, start}
+use Rattle.nls.proofs.Arrays.{Bits}
+use Rattle.nls.proofs.Machine.Run.{fit-prefix, reach-append}
 use Rattle.nls.proofs.Judging.Most.{told, Fits}
 use Rattle.nls.proofs.Reading.Know.{least}
-use Rattle.nls.proofs.Machine.Steps.{preds, From, Good, Good-at}
-use Rattle.nls.proofs.Reading.Whole.{fam, Known, run}
+use Rattle.nls.proofs.Machine.Steps.{Good-at}
+use Rattle.nls.proofs.Reading.Whole.{fam, run}
 use Rattle.nls.proofs.Judging.Clash.{Valid, Clash, last-child, last-grand, last-desc, last-root, clash-child, clash-grand, clash-desc, clash-root}
 use Rattle.nls.proofs.Machine.Start.{nothing, good-start}
-use Rattle.nls.proofs.Judging.Refuse.{S0, Begins, Clash-at, Clashes, accepts}
-use Rattle.nls.proofs.Judging.Decide.{clash-by, none-marked, None, marked-to, marked-from, clash-to, clash-from}
+use Rattle.nls.proofs.Judging.Refuse.{Clash-at, Clashes, accepts}
 
 pub data Out : Type 0 where
   here : State → Out
@@ -47,17 +43,6 @@ lit-snoc [] true = refl
 lit-snoc [] false = refl
 lit-snoc (true ∷ u) a = refl
 lit-snoc (false ∷ u) a = lit-snoc u a
-
--- the clash by the marks
-abbrev pub clash-st : ℕ → ℕ → ℕ → ℕ → Pass → ℕ → Bool → List ℕ → Bool
-clash-st I D P zero p i s m = false
-clash-st I D P (suc b) pixels i s m = false
-clash-st I D P (suc b) refining i s m = false
-clash-st I D P (suc b) sets i true m = false
-clash-st I D P (suc b) sets i false m = clash-by I D P b i m (none-marked D i m)
-
-unfoldable pub clash : ℕ → ℕ → ℕ → State → Bool
-clash I D P s = clash-st I D P (s .left) (s .pass) (s .place) (s .pending) (s .marks)
 
 app-assoc : (u : List Bool) (a : Bool) (v : List Bool) → (u ++ (a ∷ [])) ++ v ≡ u ++ (a ∷ v)
 app-assoc [] a v = refl
@@ -129,27 +114,6 @@ module _ (N D P : ℕ) (D-big : 4 ≤ D) (D-4 : D % 4 ≡ 0) (I-16 : 4 ^ N % 16 
     pub to : (u : List Bool) → Some u → cl (length u) (lit u) (reach (4 ^ N) S u) ≡ true → Bad (reach (4 ^ N) S u)
     pub of : (u : List Bool) → Some u → Bad (reach (4 ^ N) S u) → cl (length u) (lit u) (reach (4 ^ N) S u) ≡ true
 
-  to-st : (l : ℕ) (p : Pass) (i : ℕ) (s : Bool) (m : List ℕ) → clash-st I D P l p i s m ≡ true → Clash-at N D P D-big D-4 I-16 D-I l p i s m
-  to-st zero p i s m e = false≢true e
-  to-st (suc b) pixels i s m e = false≢true e
-  to-st (suc b) refining i s m e = false≢true e
-  to-st (suc b) sets i true m e = false≢true e
-  to-st (suc b) sets i false m e = clash-to D I P b i m (none-marked D i m) (λ a1 a2 a3 n. marked-to D i m a2 n) (λ a1 a2 a3 n. marked-from D i m n) e
-
-  of-st : (l : ℕ) (p : Pass) (i : ℕ) (s : Bool) (m : List ℕ) → Clash-at N D P D-big D-4 I-16 D-I l p i s m → clash-st I D P l p i s m ≡ true
-  of-st zero p i s m e = absurd e
-  of-st (suc b) pixels i s m e = absurd e
-  of-st (suc b) refining i s m e = absurd e
-  of-st (suc b) sets i true m e = absurd e
-  of-st (suc b) sets i false m e = clash-from D I P b i m (none-marked D i m) (λ a1 a2 a3 n. marked-to D i m a2 n) (λ a1 a2 a3 n. marked-from D i m n) e
-
-  pub right-marks : Right (λ used hit s. clash I D P s)
-  unfolding clash
-  right-marks = record {
-    to = λ u w e. (let r : State = reach (4 ^ N) S u in to-st (r .left) (r .pass) (r .place) (r .pending) (r .marks) e);
-    of = λ u w e. (let r : State = reach (4 ^ N) S u in of-st (r .left) (r .pass) (r .place) (r .pending) (r .marks) e);
-  }
-
   -- REFUSAL 12 for one bit: after bits that some array fits, with a question pending, a fits none exactly if it is 0 and the test says clash
   pub refused12 : (cl : ℕ → Bool → State → Bool) → Right cl → (u : List Bool) → Some u → (q : Question) → ask I (reach (4 ^ N) S u) ≡ some q → (a : Bool)
       → ((Some (u ++ (a ∷ [])) → ⊥) → (a ≡ false) × (cl (length u) (lit u) (reach (4 ^ N) S u) ≡ true)) × ((a ≡ false) × (cl (length u) (lit u) (reach (4 ^ N) S u) ≡ true) → Some (u ++ (a ∷ [])) → ⊥)
@@ -162,10 +126,6 @@ module _ (N D P : ℕ) (D-big : 4 ≤ D) (D-4 : D % 4 ≡ 0) (I-16 : 4 ^ N % 16 
 
       back : a ≡ false → cl (length u) (lit u) (reach (4 ^ N) S u) ≡ true → Some (u ++ (a ∷ [])) → ⊥
       back z h s = refuses u (r .to u w h) (subst (λ (x : Bool). Some (u ++ (x ∷ []))) z s)
-
-  -- REFUSAL 13: no question is left, so no further bit fits
-  pub refused13 : (u : List Bool) (a : Bool) → ask I (reach (4 ^ N) S u) ≡ none → Some (u ++ (a ∷ [])) → ⊥
-  refused13 u a e w = subst (λ (o : Option Question). told N (w .0) o a) e ((fit-split (w .0) S u (a ∷ []) (w .2)) .0)
 
   -- WHAT THE DECODER'S ANSWER MEANS, for the whole list of bits
   abbrev pub Means : List Bool → Out → Type 0
@@ -204,25 +164,3 @@ module _ (N D P : ℕ) (D-big : 4 ≤ D) (D-4 : D % 4 ≡ 0) (I-16 : 4 ^ N % 16 
   pub decode-means : (cl : ℕ → Bool → State → Bool) → Right cl → 1 ≤ P → (v : List Bool) → Means v (decode I cl 0 false S v)
   unfolding reach lit
   decode-means cl rt h v = decode-from cl rt v [] v refl (first-one h)
-
-  abbrev pub Taken : Out → Type 0
-  Taken (here s) = Unit {0}
-  Taken (no12 n) = ⊥
-  Taken (no13 n) = ⊥
-
-  -- DEMAND 2 (iii), WHOLE: accepted exactly if some array of P planes has a stream that begins so
-  pub accepted-iff : (cl : ℕ → Bool → State → Bool) → Right cl → 1 ≤ P → (v : List Bool) → (Taken (decode I cl 0 false S v) → Some v) × (Some v → Taken (decode I cl 0 false S v))
-  accepted-iff cl rt h v = (go1 (decode I cl 0 false S v) (decode-means cl rt h v), go2 (decode I cl 0 false S v) (decode-means cl rt h v))
-    where
-      go1 : (o : Out) → Means v o → Taken o → Some v
-      go1 (here s) m t = m .1
-      go1 (no12 n) m t = absurd t
-      go1 (no13 n) m t = absurd t
-
-      cut : (u : List Bool) (a : Bool) (r : List Bool) → v ≡ u ++ (a ∷ r) → Some v → Some (u ++ (a ∷ []))
-      cut u a r e w = (w .0, w .1, fit-prefix N (w .0) S (u ++ (a ∷ [])) r (subst (λ (x : List Bool). Starts (w .0) x) (e ∙ sym (app-assoc u a r)) (w .2)))
-
-      go2 : (o : Out) → Means v o → Some v → Taken o
-      go2 (here s) m w = tt
-      go2 (no12 n) m w = m .6 (cut (m .0) (m .1) (m .2) (m .3) w)
-      go2 (no13 n) m w = refused13 (m .0) (m .1) (m .6) (cut (m .0) (m .1) (m .2) (m .3) w)

@@ -1,23 +1,21 @@
 -- REFUSAL 12, the other half: where there is no clash, clearing the question leaves every set that was answered 1 a member.
 use mathlib.Core.Path.{_≡_, refl, sym, ap, subst, _∙_}
-use mathlib.Core.Bool.{Bool, true, false, not, _&&_, _||_, true≢false, false≢true}
-use mathlib.Core.Logic.{_⊎_, inl, inr}
-use mathlib.Core.List.{List, [], _∷_, _++_}
-use Prim.Native.Nat.{ℕ, zero, suc, _+_, _*_, _-_, _/_, _%_, _^_, _≤_, _<_}
+use mathlib.Core.Bool.{Bool, true, false, true≢false}
+use mathlib.Core.List.{List}
+use Prim.Native.Nat.{ℕ, suc, _*_, _/_, _%_, _^_, _≤_, _<_}
 use native.Mathlib.Omega.{arith}
-use native.Mathlib.Decide.{decLt, ℕ-discrete}
-use lib.ListN.{length, getD, set, take}
-use lib.Dec.{ltb, eqb, lit<, lit≤}
-use Rattle.nls.specs.Scan.{Question, bitOf, signOf, inDesc, inGrand}
+use native.Mathlib.Decide.{decLt}
+use lib.ListN.{getD}
+use Rattle.nls.specs.Scan.{Question, bitOf, inDesc, inGrand}
 use Rattle.nls.proofs.Arrays.{Bits}
-use Rattle.nls.proofs.Machine.Table.{Cfg, alone, stands, Ok, alone-no, no-alone, stands-no, no-stands}
-use Rattle.nls.proofs.Machine.Cover.{Under, kid, far, Core, Preds, Sets, is-alone, is-D, is-G}
-use Rattle.nls.proofs.Machine.Steps.{Fam, preds, From}
-use Rattle.nls.proofs.Reading.Whole.{fam, Known, under-ge}
+use Rattle.nls.proofs.Machine.Table.{Cfg, alone, stands, Ok, alone-no, no-alone}
+use Rattle.nls.proofs.Machine.Cover.{Under, kid, far, is-alone, is-D, is-G}
+use Rattle.nls.proofs.Machine.Steps.{preds, From}
+use Rattle.nls.proofs.Reading.Whole.{fam, under-ge}
 use Rattle.nls.proofs.Judging.Clash.{Clash, dead-D, dead-G, via}
 use Rattle.nls.proofs.Judging.Apart.{Cmp, same, over, below, cmp, grand-of}
 use Rattle.nls.proofs.Judging.Room.{Fresh, fresh-of, Spare, now, past, room-child, room-desc, room-grand, room-root}
-use Rattle.nls.proofs.Judging.Open.{InPix, InSets, InFine, G, FromK}
+use Rattle.nls.proofs.Judging.Open.{InPix, InSets, InFine}
 
 pub under-trans : (h g j : ℕ) → Under h g → Under g j → Under h j
 under-trans h g j u (kid e) = far (subst (λ (x : ℕ). Under h x) (sym e) u)

@@ -1,42 +1,28 @@
 -- THE WHOLE ARRAY: at the last root of the first plane, "nothing was found significant" is "no 1 was read". So the decoder needs one flag and no walk.
 use mathlib.Core.Path.{_≡_, refl, sym, ap, subst, _∙_}
-use mathlib.Core.Bool.{Bool, true, false, not, _&&_, _||_, true≢false, false≢true}
+use mathlib.Core.Bool.{Bool, true, false, not, _||_, true≢false, false≢true}
 use mathlib.Core.Logic.{_⊎_, inl, inr}
 use mathlib.Core.Option.{Option, none, some}
-use mathlib.Core.List.{List, [], _∷_, _++_}
-use Prim.Native.Nat.{ℕ, zero, suc, _+_, _*_, _-_, _/_, _%_, _^_, _≤_, _<_}
+use mathlib.Core.List.{List, [], _∷_}
+use Prim.Native.Nat.{ℕ, zero, suc, _+_, _*_, _/_, _%_, _^_, _≤_, _<_}
 use native.Mathlib.Omega.{arith}
 use native.Mathlib.Decide.{decLt, ℕ-discrete}
-use lib.ListN.{length, getD, set, take}
-use lib.Dec.{ltb, eqb, lit<, lit≤}
-use borrow.Author.Tests.{ltb-true, ltb-false, eqb-true, eqb-false}
-use Rattle.nls.specs.Marks.{startMarks}
+use lib.ListN.{getD}
+use lib.Dec.{ltb, eqb}
 use Rattle.nls.specs.Scan.{State, Look, over, silent, asks, Question, bitOf, signOf, inDesc, inGrand, Pass, pixels, sets, refining, look, lookAt, lookPixels, lookSets, lookRefining, ask, asked, next, reach, start}
-use Rattle.nls.proofs.Arrays.{Bits, ans}
-use Rattle.nls.proofs.Judging.Most.{_⊑_, told, Fits, most, afterO}
+use Rattle.nls.proofs.Arrays.{Bits}
+use Rattle.nls.proofs.Judging.Most.{told, Fits, most, afterO}
 use Rattle.nls.proofs.Reading.Know.{least, know, knowO, know-sgn-has}
 use Rattle.nls.proofs.Judging.Owed.{Owed}
 use Rattle.nls.proofs.Machine.Table.{Cfg, alone, stands, no-alone, no-stands, alone-no}
-use Rattle.nls.proofs.Machine.Cover.{Under, Core, Sets, is-alone, is-D, mark-D}
-use Rattle.nls.proofs.Machine.Steps.{Fam, preds, Good, Good-at, Learned, On-ask, good-next, good-mono}
-use Rattle.nls.proofs.Judging.Clash.{Valid, Clash, dead-D, root}
+use Rattle.nls.proofs.Machine.Cover.{Under, Core, is-D, mark-D}
+use Rattle.nls.proofs.Machine.Steps.{Fam, Good, Good-at, Learned, On-ask, good-next, good-mono}
+use Rattle.nls.proofs.Judging.Clash.{root}
 use Rattle.nls.proofs.Machine.Start.{nothing, good-start}
-use Rattle.nls.proofs.Judging.Open.{All, All-at, Owing, all-next, all-run, all-start, InSets}
+use Rattle.nls.proofs.Judging.Open.{All, All-at, Owing, all-next, all-run, all-start}
 use Rattle.nls.proofs.Judging.Enough.{whole-D}
-use Rattle.nls.proofs.Judging.Refuse.{Clash-at, Clashes, owing, all-of}
-use Rattle.nls.proofs.Judging.Decide.{clash-by, None, clash-to, clash-from}
-use Rattle.nls.proofs.Judging.Decoder.{lit, Right, Some, Starts}
-
--- the clash, with the flag `hit`: a 1 was read
-abbrev pub flag-st : ℕ → ℕ → ℕ → Bool → ℕ → Pass → ℕ → Bool → List ℕ → Bool
-flag-st I D P hit zero p i s m = false
-flag-st I D P hit (suc b) pixels i s m = false
-flag-st I D P hit (suc b) refining i s m = false
-flag-st I D P hit (suc b) sets i true m = false
-flag-st I D P hit (suc b) sets i false m = clash-by I D P b i m (not hit)
-
-unfoldable pub clash-flag : ℕ → ℕ → ℕ → Bool → State → Bool
-clash-flag I D P hit s = flag-st I D P hit (s .left) (s .pass) (s .place) (s .pending) (s .marks)
+use Rattle.nls.proofs.Judging.Decide.{None}
+use Rattle.nls.proofs.Judging.Decoder.{lit}
 
 or-no : (x y : Bool) → (x || y) ≡ false → (x ≡ false) × (y ≡ false)
 or-no true y e = absurd (true≢false e)
@@ -248,38 +234,3 @@ module _ (N D P : ℕ) (D-big : 4 ≤ D) (D-4 : D % 4 ≡ 0) (I-16 : 4 ^ N % 16 
     flag-of k w O b i m hi mk te z ow n true e =
         let r : (p : Question) × Plain p × Owed N State (ask I) (next I) S u p = first-1 A nothing (record { has = λ i b. ltb b P; neg = λ i. false }) (λ p. ⊥) S u (all-start N D P D-big D-4 I-16 D-I A false) (λ j e h. false≢true h) f e in
         absurd (none-owed A k w O b i m hi mk te z n (r .0) (r .1) (ow (r .0) (r .2)))
-
-    not-true : (x : Bool) → not x ≡ true → x ≡ false
-    not-true true e = absurd (false≢true e)
-    not-true false e = refl
-
-    module _ (k w : Bits) (O : Question → Type 0) (nb : lit u ≡ false → Blank k) (ow : (p : Question) → Owed N State (ask I) (next I) (start I D P) u p → O p) where
-      to-at : (l : ℕ) (p : Pass) (i : ℕ) (s : Bool) (m : List ℕ) → All-at N D P D-big D-4 I-16 D-I A false k w O l p i s m → Good-at D I D-big D-4 I-16 P (F1 (Fl u ⊥)) l p i s m
-          → flag-st I D P (lit u) l p i s m ≡ true → Clash-at N D P D-big D-4 I-16 D-I l p i s m
-      to-at zero p i s m z g e = false≢true e
-      to-at (suc b) pixels i s m z g e = false≢true e
-      to-at (suc b) refining i s m z g e = false≢true e
-      to-at (suc b) sets i true m z g e = false≢true e
-      to-at (suc b) sets i false m z g e = clash-to D I P b i m (not (lit u))
-          (λ a1 a2 a3 n. flag-to k w O b i m (omega arith) a1 a2 z g (nb (not-true (lit u) n)) (not-true (lit u) n))
-          (λ a1 a2 a3 n. flag-of k w O b i m (omega arith) a1 a2 z ow n (lit u) refl) e
-
-      of-at : (l : ℕ) (p : Pass) (i : ℕ) (s : Bool) (m : List ℕ) → All-at N D P D-big D-4 I-16 D-I A false k w O l p i s m → Good-at D I D-big D-4 I-16 P (F1 (Fl u ⊥)) l p i s m
-          → Clash-at N D P D-big D-4 I-16 D-I l p i s m → flag-st I D P (lit u) l p i s m ≡ true
-      of-at zero p i s m z g e = absurd e
-      of-at (suc b) pixels i s m z g e = absurd e
-      of-at (suc b) refining i s m z g e = absurd e
-      of-at (suc b) sets i true m z g e = absurd e
-      of-at (suc b) sets i false m z g e = clash-from D I P b i m (not (lit u))
-          (λ a1 a2 a3 n. flag-to k w O b i m (omega arith) a1 a2 z g (nb (not-true (lit u) n)) (not-true (lit u) n))
-          (λ a1 a2 a3 n. flag-of k w O b i m (omega arith) a1 a2 z ow n (lit u) refl) e
-
-  -- THE FLAG DECIDES: the test with one flag is the clash
-  pub right-flag : Right N D P D-big D-4 I-16 D-I (λ used hit s. clash-flag I D P hit s)
-  unfolding clash-flag
-  right-flag = record {
-    to = λ u w e. (let r : State = reach (4 ^ N) S u in to-at (w .0) u (w .2) (k (w .0) u (w .2)) (most N State (ask I) (next I) S u (record { has = λ i b. ltb b P; neg = λ i. false })) (Owing N D P D-big D-4 I-16 D-I (w .0) false S u (λ p. ⊥))
-        (λ h. blank-run S u nothing h (λ j e y. false≢true y)) (λ p o. owing N D P D-big D-4 I-16 D-I (w .0) false S u (λ p. ⊥) p o) (r .left) (r .pass) (r .place) (r .pending) (r .marks) (z (w .0) u (w .2)) (g1 (w .0) u (w .2)) e);
-    of = λ u w e. (let r : State = reach (4 ^ N) S u in of-at (w .0) u (w .2) (k (w .0) u (w .2)) (most N State (ask I) (next I) S u (record { has = λ i b. ltb b P; neg = λ i. false })) (Owing N D P D-big D-4 I-16 D-I (w .0) false S u (λ p. ⊥))
-        (λ h. blank-run S u nothing h (λ j e y. false≢true y)) (λ p o. owing N D P D-big D-4 I-16 D-I (w .0) false S u (λ p. ⊥) p o) (r .left) (r .pass) (r .place) (r .pending) (r .marks) (z (w .0) u (w .2)) (g1 (w .0) u (w .2)) e);
-  }

@@ -1,25 +1,20 @@
 -- What is not settled in the plane in progress is still open: T b j, "bit b of j may be 1"; M e j, "bit e of j is known to be 1". By the marks alone.
 use mathlib.Core.Path.{_≡_, refl, sym, ap, subst, _∙_}
-use mathlib.Core.Bool.{Bool, true, false, true≢false, false≢true}
-use mathlib.Core.Logic.{_⊎_, inl, inr}
-use mathlib.Core.List.{List, [], _∷_, _++_}
-use Prim.Native.Nat.{ℕ, zero, suc, _+_, _*_, _-_, _/_, _%_, _^_, _≤_, _<_}
+use mathlib.Core.Bool.{true, false, true≢false}
+use mathlib.Core.List.{List}
+use Prim.Native.Nat.{ℕ, suc, _+_, _*_, _/_, _%_, _^_, _≤_, _<_}
 use native.Mathlib.Omega.{arith}
-use native.Mathlib.Decide.{decLt, ℕ-discrete}
-use lib.ListN.{length, getD, set, take, length-set}
+use native.Mathlib.Decide.{ℕ-discrete}
+use lib.ListN.{length, getD, set}
 use lib.Seq.{getD-set-same, getD-set-other}
-use lib.Dec.{ltb, eqb, lit<, lit≤}
-use Rattle.nls.specs.Marks.{splitDesc, splitGrand}
-use Rattle.nls.proofs.Machine.Table.{Cfg, alone, stands, Ok, alone-no, no-alone, stands-no, no-stands}
+use lib.Dec.{lit<, lit≤}
+use Rattle.nls.proofs.Machine.Table.{Cfg, alone, stands}
 use Rattle.nls.proofs.Machine.Table
-use Rattle.nls.proofs.Machine.Split.{withD, withG, withA, sD-off, stands-D, sD-on, alone-on, alone-off, al-D-on, al-D-off, sG-D}
-use Rattle.nls.proofs.Machine.Push.{sD-G, al-G, alone-G, stands-G-on, stands-G-off, sG-G-off, sG-G-on}
-use Rattle.nls.proofs.Machine.Cover.{Under, kid, far, Core, Preds, Pix, Sets, Fine, is-alone, not-alone, is-D, is-G, mark-D, mark-G}
-use Rattle.nls.proofs.Judging.Clash.{dead-D, dead-G, via}
+use Rattle.nls.proofs.Machine.Split.{withD, withG, sD-off, stands-D, sD-on, alone-off, al-D-on, al-D-off, sG-D}
+use Rattle.nls.proofs.Machine.Push.{sD-G, al-G, alone-G, stands-G-off, sG-G-off, sG-G-on}
+use Rattle.nls.proofs.Machine.Cover.{Under, kid, far, Core, Preds, Pix, Sets, Fine, is-alone, is-D, is-G, mark-D, mark-G}
+use Rattle.nls.proofs.Judging.Clash.{dead-D, dead-G}
 use Rattle.nls.proofs.Judging.Apart.{apart-DD, apart-GD, apart-GG, grand-of}
-
-abbrev Fam2 : Type 1
-Fam2 = ℕ → ℕ → Type 0
 
 module _ (N D P : ℕ) (D-big : 4 ≤ D) (D-4 : D % 4 ≡ 0) (I-16 : 4 ^ N % 16 ≡ 0) (D-I : 4 * D ≤ 4 ^ N) where
   abbrev I : ℕ

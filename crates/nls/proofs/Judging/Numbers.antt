@@ -1,23 +1,20 @@
 -- MAGNITUDES AS NUMBERS: arrays of numbers below 2^P and arrays of bits are the same, so what is proved of bits holds of numbers.
 use mathlib.Core.Path.{_≡_, refl, sym, ap, subst, _∙_}
-use mathlib.Core.Bool.{Bool, true, false, not, _&&_, _||_, true≢false, false≢true}
-use mathlib.Core.Logic.{_⊎_, inl, inr}
+use mathlib.Core.Bool.{Bool, true, false, true≢false}
 use mathlib.Core.Option.{Option, none, some}
-use mathlib.Core.List.{List, [], _∷_, _++_}
-use Prim.Native.Nat.{ℕ, zero, suc, _+_, _*_, _-_, _/_, _%_, _^_, _≤_, _<_}
+use mathlib.Core.List.{List, [], _∷_}
+use Prim.Native.Nat.{ℕ, zero, suc, _+_, _*_, _/_, _%_, _^_, _≤_, _<_}
 use native.Mathlib.Omega.{arith}
 use native.Mathlib.Nat.{pow-suc, zero-div, div-one, div-eq-of-lt-le}
-use native.Mathlib.Decide.{decLt, ℕ-discrete}
+use native.Mathlib.Decide.{decLt}
 use lib.Pow.{shr-shr}
-use lib.Dec.{ltb, eqb, lit<, lit≤}
-use borrow.Author.Tests.{eqb-true, eqb-false, eq-eqb, ne-eqb}
+use lib.Dec.{eqb, lit<, lit≤}
+use borrow.Author.Tests.{eq-eqb, ne-eqb}
 use Rattle.bits.specs.Bits.{bit}
-use Rattle.nls.specs.Marks.{startMarks}
-use Rattle.nls.specs.Scan.{State, Question, bitOf, signOf, inDesc, inGrand, ask, next, reach, start}
-use Rattle.nls.proofs.Arrays.{Arr, Bits, bits-of, ans, inside, any}
+use Rattle.nls.specs.Scan.{Question, bitOf, signOf, inDesc, inGrand, ask, next}
+use Rattle.nls.proofs.Arrays.{Arr, Bits, bits-of, ans, inside}
 use Rattle.nls.proofs.Judging.Most.{told, Fits, any-mono, not-true-false}
 use Rattle.nls.proofs.Judging.Clash.{Valid}
-use Rattle.nls.proofs.Reading.Prefix.{agree}
 
 pub bit-0 : (x : ℕ) → bit x 0 ≡ eqb (x % 2) 1
 unfolding bit
@@ -61,35 +58,6 @@ pub bit-hi : (n x b : ℕ) → x < 2 ^ n → n ≤ b → bit x b ≡ false
 bit-hi zero x b h k = ap (λ (y : ℕ). bit y b) {x = x} {y = 0} (omega (arith, h)) ∙ zero-bit b
 bit-hi (suc n) x zero h k = absurd (omega arith)
 bit-hi (suc n) x (suc b) h k = bit-suc x b ∙ bit-hi n (x / 2) b (omega (arith, h, pow-suc 2 n)) (omega arith)
-
-low-eq : (x y : ℕ) → eqb (x % 2) 1 ≡ eqb (y % 2) 1 → x % 2 ≡ y % 2
-low-eq x y e = go (ℕ-discrete (x % 2) 1) (ℕ-discrete (y % 2) 1)
-  where
-    go : Dec (x % 2 ≡ 1) → Dec (y % 2 ≡ 1) → x % 2 ≡ y % 2
-    go (yes a) (yes b) = a ∙ sym b
-    go (no a) (no b) = omega arith
-    go (yes a) (no b) = absurd (true≢false (sym (eq-eqb _ _ a) ∙ e ∙ ne-eqb _ _ b))
-    go (no a) (yes b) = absurd (true≢false (sym (eq-eqb _ _ b) ∙ sym e ∙ ne-eqb _ _ a))
-
--- equal bits, equal numbers
-pub eq-bits : (n x y : ℕ) → x < 2 ^ n → y < 2 ^ n → ((b : ℕ) → b < n → bit x b ≡ bit y b) → x ≡ y
-eq-bits zero x y h k f = omega (arith, h, k)
-eq-bits (suc n) x y h k f =
-    omega (
-      arith,
-      low-eq x y (sym (bit-0 x) ∙ f 0 (omega arith) ∙ bit-0 y),
-      eq-bits n (x / 2) (y / 2) (omega (arith, h, pow-suc 2 n)) (omega (arith, k, pow-suc 2 n)) (λ b l. sym (bit-suc x b) ∙ f (suc b) (omega arith) ∙ bit-suc y b),
-    )
-
--- equal bits from k on, equal high parts
-pub eq-high : (k n x y : ℕ) → x < 2 ^ n → y < 2 ^ n → ((b : ℕ) → k ≤ b → b < n → bit x b ≡ bit y b) → x / 2 ^ k ≡ y / 2 ^ k
-eq-high zero n x y h j f = ap (λ (z : ℕ). z / 2 ^ 0) (eq-bits n x y h j (λ b l. f b (omega arith) l))
-eq-high (suc k) zero x y h j f = ap (λ (z : ℕ). z / 2 ^ suc k) {x = x} {y = y} (omega (arith, h, j))
-eq-high (suc k) (suc n) x y h j f =
-    half x ∙ eq-high k n (x / 2) (y / 2) (omega (arith, h, pow-suc 2 n)) (omega (arith, j, pow-suc 2 n)) (λ b l u. sym (bit-suc x b) ∙ f (suc b) (omega arith) (omega arith) ∙ bit-suc y b) ∙ sym (half y)
-  where
-    half : (z : ℕ) → z / 2 ^ suc k ≡ z / 2 / 2 ^ k
-    half z = ap (λ (e : ℕ). z / 2 ^ e) {x = suc k} {y = 1 + k} (omega arith) ∙ sym (shr-shr z 1 k)
 
 -- An array of numbers with P planes: P is the least with every magnitude below 2^P
 pub record Planes (I P : ℕ) (A : Arr) : Type 0 where
@@ -149,19 +117,3 @@ module _ (N : ℕ) where
 module _ (N D P : ℕ) (D-big : 4 ≤ D) (D-4 : D % 4 ≡ 0) (I-16 : 4 ^ N % 16 ≡ 0) (D-I : 4 * D ≤ 4 ^ N) where
   abbrev I : ℕ
   I = 4 ^ N
-
-  abbrev Of : Bits → List Bool → Type 0
-  Of A u = Fits N State (ask I) (next I) A (start I D P) u
-
-  -- SOME ARRAY OF BITS IS SOME ARRAY OF NUMBERS
-  pub to-numbers : (u : List Bool) → (B : Bits) × Valid I P B × Of B u → (A : Arr) × Planes I P A × Of (bits-of A) u
-  to-numbers u w = (arr-of P (w .0), planes-of I P (w .0) (w .1), fits-ext N State (ask I) (next I) (w .0) (bits-of (arr-of P (w .0))) (λ j e. sym (arr-has I P (w .0) (w .1) j e)) (λ j. refl) (start I D P) u (w .2))
-
-  pub to-bits : (u : List Bool) → (A : Arr) × Planes I P A × Of (bits-of A) u → (B : Bits) × Valid I P B × Of B u
-  to-bits u w = (bits-of (w .0), valid-of I P (w .0) (w .1), w .2)
-
-  -- two arrays whose streams begin with u have the same magnitudes down to the last finished plane
-  pub close : (A B : Arr) → Planes I P A → Planes I P B → (u : List Bool) → Of (bits-of A) u → Of (bits-of B) u → (j : ℕ) → j < I
-      → A .mag j / 2 ^ (reach (4 ^ N) (start I D P) u) .left ≡ B .mag j / 2 ^ (reach (4 ^ N) (start I D P) u) .left
-  close A B p q u f g j hj = eq-high ((reach (4 ^ N) (start I D P) u) .left) P (A .mag j) (B .mag j) (p .under j) (q .under j)
-      (λ b l h. agree N D P D-big D-4 I-16 D-I (bits-of A) (bits-of B) u f g j b hj l h)

@@ -1,25 +1,25 @@
 -- THE INVARIANT FOR REFUSALS, along a run that W fits: the cover, what is open, what is owed, all with one choice of the split sets.
 use mathlib.Core.Path.{_≡_, refl, sym, ap, subst, _∙_}
-use mathlib.Core.Bool.{Bool, true, false, not, _&&_, _||_, true≢false, false≢true}
+use mathlib.Core.Bool.{Bool, true, false, _&&_, _||_, true≢false, false≢true}
 use mathlib.Core.Logic.{_⊎_, inl, inr}
-use mathlib.Core.Option.{Option, none, some}
-use mathlib.Core.List.{List, [], _∷_, _++_}
-use Prim.Native.Nat.{ℕ, zero, suc, _+_, _*_, _-_, _/_, _%_, _^_, _≤_, _<_}
+use mathlib.Core.Option.{some}
+use mathlib.Core.List.{List, [], _∷_}
+use Prim.Native.Nat.{ℕ, zero, suc, _+_, _*_, _/_, _%_, _^_, _≤_, _<_}
 use native.Mathlib.Omega.{arith}
-use native.Mathlib.Decide.{decLt, ℕ-discrete}
-use lib.ListN.{length, getD, set, take}
+use native.Mathlib.Decide.{ℕ-discrete}
+use lib.ListN.{getD, set}
 use lib.Dec.{ltb, eqb, lit<, lit≤}
 use borrow.Author.Tests.{ltb-true, ltb-false, lt-ltb, eqb-true, eqb-false}
-use Rattle.nls.specs.Marks.{skip, setSkip, splitDesc, splitGrand, pushRoots, startMarks}
+use Rattle.nls.specs.Marks.{skip, setSkip, splitDesc, splitGrand, startMarks}
 use Rattle.nls.specs.Scan.{State, Look, over, silent, asks, Question, bitOf, signOf, inDesc, inGrand, Pass, pixels, sets, refining, at, look, lookAt, lookPixels, lookSets, lookRefining, tell, tellAt, tellSets, silently, settle, movesLeft, ask, asked, next, reach, start}
 use Rattle.nls.proofs.Arrays.{Bits, ans, inside, below}
 use Rattle.nls.proofs.Machine.Table.{Cfg, alone, stands, alone-no}
 use Rattle.nls.proofs.Machine.Split.{withD, withG, withA, same-D, same-G, al-at, al-else, al-D-on, al-D-off, sD-off}
 use Rattle.nls.proofs.Machine.Push.{al-G, sD-G}
-use Rattle.nls.proofs.Machine.Cover.{Under, Preds, hide, More, is-alone, Core, Pix, Sets, Fine, pix-hush, pix-zero, pix-one, pix-end, sets-hush, sets-D0, sets-D1, sets-G0, sets-G1, sets-C, sets-end, fine-hush, fine-ask, fine-np, fine-end, is-D, is-G}
+use Rattle.nls.proofs.Machine.Cover.{Under, Preds, hide, is-alone, Pix, Sets, Fine, pix-hush, pix-zero, pix-one, pix-end, sets-hush, sets-D0, sets-D1, sets-G0, sets-G1, sets-C, sets-end, fine-hush, fine-ask, fine-np, fine-end, is-D, is-G}
 use Rattle.nls.proofs.Machine.Steps.{Fam, preds, From, more-Z, pix-Z, sets-Z, fine-Z, MoreI}
-use Rattle.nls.proofs.Judging.Most.{_⊑_, told, afterO, after, clear, sign, stays, and-r, most, Fits, sign-other}
-use Rattle.nls.proofs.Reading.Know.{know, knowO, know-grows, know-one, know-other, know-sgn-has, know-neg, add, least}
+use Rattle.nls.proofs.Judging.Most.{_⊑_, told, afterO, after, clear, sign, stays, and-r, most, Fits}
+use Rattle.nls.proofs.Reading.Know.{know, knowO, know-grows, know-one, know-sgn-has, know-neg, add, least}
 use Rattle.nls.proofs.Reading.Whole.{fam, Known, Zof, learned, below-under}
 use Rattle.nls.proofs.Judging.Clash.{dead-D, dead-G}
 use Rattle.nls.proofs.Judging.Fresh.{PixFr, SetFr, FineFr, frp-hush, frp-one, frp-end, frs-end, frf-hush, frf-np, frs-C, frp-zero, frs-hush, frs-D0, frs-G0, frs-D1, frs-G1, frf-end}

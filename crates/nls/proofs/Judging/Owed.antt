@@ -1,13 +1,13 @@
 -- A smaller array fits the same answers, if each question that was answered 1 still has a member.
-use mathlib.Core.Path.{_≡_, refl, sym, ap, subst, _∙_}
-use mathlib.Core.Bool.{Bool, true, false, not, _&&_, _||_, true≢false, false≢true}
+use mathlib.Core.Path.{_≡_, refl, sym, subst, _∙_}
+use mathlib.Core.Bool.{Bool, true, false, _&&_, true≢false}
 use mathlib.Core.Logic.{_⊎_, inl, inr}
 use mathlib.Core.Option.{Option, none, some}
-use mathlib.Core.List.{List, [], _∷_, _++_}
-use Prim.Native.Nat.{ℕ, zero, suc, _+_, _*_, _-_, _/_, _%_, _^_, _≤_, _<_}
-use lib.Dec.{ltb, eqb}
+use mathlib.Core.List.{List, [], _∷_}
+use Prim.Native.Nat.{ℕ, _/_, _^_}
+use lib.Dec.{ltb}
 use Rattle.nls.specs.Scan.{Question, bitOf, signOf, inDesc, inGrand}
-use Rattle.nls.proofs.Arrays.{below, any, Bits, inside, ans}
+use Rattle.nls.proofs.Arrays.{below, Bits, inside, ans}
 use Rattle.nls.proofs.Judging.Most.{_⊑_, told, Fits, any-mono, not-true-false}
 
 module _ (N : ℕ) where

@@ -1,29 +1,27 @@
 -- REFUSAL 12: after bits that some array of P planes fits, a next bit fits none exactly if it is a 0 at a clash.
 use mathlib.Core.Path.{_≡_, refl, sym, ap, subst, _∙_}
-use mathlib.Core.Bool.{Bool, true, false, not, _&&_, _||_, true≢false, false≢true}
+use mathlib.Core.Bool.{Bool, true, false, not, _&&_, true≢false, false≢true}
 use mathlib.Core.Logic.{_⊎_, inl, inr}
-use mathlib.Core.Option.{Option, none, some}
+use mathlib.Core.Option.{none, some}
 use mathlib.Core.List.{List, [], _∷_, _++_}
-use Prim.Native.Nat.{ℕ, zero, suc, _+_, _*_, _-_, _/_, _%_, _^_, _≤_, _<_}
+use Prim.Native.Nat.{ℕ, zero, suc, _*_, _/_, _%_, _^_, _≤_, _<_}
 use native.Mathlib.Omega.{arith}
-use native.Mathlib.Decide.{decLt, ℕ-discrete}
-use lib.ListN.{length, getD, set, take}
-use lib.Dec.{ltb, eqb, lit<, lit≤}
-use borrow.Author.Tests.{ltb-true, ltb-false, lt-ltb, eqb-true, eqb-false, eq-eqb}
-use Rattle.nls.specs.Marks.{startMarks}
+use native.Mathlib.Decide.{ℕ-discrete}
+use lib.ListN.{getD}
+use lib.Dec.{ltb, eqb}
+use borrow.Author.Tests.{ltb-true, lt-ltb, eqb-true, eq-eqb}
 use Rattle.nls.specs.Scan.{State, Look, over, silent, asks, Question, bitOf, signOf, inDesc, inGrand, Pass, pixels, sets, refining, look, lookAt, lookPixels, lookSets, lookRefining, ask, asked, next, reach, start}
-use Rattle.nls.proofs.Arrays.{Bits, inside, ans, below, any}
-use Rattle.nls.proofs.Machine.Run.{fit-append, fit-prefix}
-use Rattle.nls.proofs.Judging.Most.{_⊑_, told, Fits, most, most-fits, most-keeps, most-below, clear, after, and-l, and-r, and-i, any-find, any-some, member, not-true-false}
+use Rattle.nls.proofs.Arrays.{Bits, inside, ans, below}
+use Rattle.nls.proofs.Machine.Run.{fit-append}
+use Rattle.nls.proofs.Judging.Most.{_⊑_, told, Fits, most, most-fits, most-keeps, most-below, clear, and-l, and-r, and-i, any-find, any-some, not-true-false}
 use Rattle.nls.proofs.Reading.Know.{least, least-below}
 use Rattle.nls.proofs.Judging.Owed.{Owed, owed-true, change}
-use Rattle.nls.proofs.Machine.Cover.{Under, kid, far, Sets, is-alone, is-D, is-G}
-use Rattle.nls.proofs.Machine.Table.{Cfg, alone, stands}
-use Rattle.nls.proofs.Machine.Steps.{preds, From, Good, Good-at}
-use Rattle.nls.proofs.Reading.Whole.{fam, Known, under-below, below-under, run}
-use Rattle.nls.proofs.Judging.Clash.{Valid, Clash, last-child, last-grand, last-desc, last-root, clash-child, clash-grand, clash-desc, clash-root}
-use Rattle.nls.proofs.Machine.Start.{nothing, good-start}
-use Rattle.nls.proofs.Judging.Open.{All, All-at, Owing, all-run, all-start, full, clear-out, InPix, InSets, InFine}
+use Rattle.nls.proofs.Machine.Cover.{Under, is-alone, is-D, is-G}
+use Rattle.nls.proofs.Machine.Table.{alone, stands}
+use Rattle.nls.proofs.Reading.Whole.{under-below, below-under}
+use Rattle.nls.proofs.Judging.Clash.{Valid, Clash}
+use Rattle.nls.proofs.Machine.Start.{nothing}
+use Rattle.nls.proofs.Judging.Open.{All, All-at, Owing, all-run, all-start, clear-out}
 use Rattle.nls.proofs.Judging.Enough.{Enough, Open1, enough-pix, open-pix, enough-fine, open-fine, enough-C, open-C, enough-D, open-D, enough-G, open-G}
 
 module _ (N : ℕ) where

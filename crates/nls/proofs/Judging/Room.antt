@@ -1,22 +1,22 @@
 -- REFUSAL 12, the other half, in place: where there is no clash, the set around the question has a member elsewhere.
 use mathlib.Core.Path.{_≡_, refl, sym, ap, subst, _∙_}
-use mathlib.Core.Bool.{Bool, true, false, not, _&&_, _||_, true≢false, false≢true}
+use mathlib.Core.Bool.{Bool, true, false, _||_, true≢false}
 use mathlib.Core.Logic.{_⊎_, inl, inr}
-use mathlib.Core.List.{List, [], _∷_, _++_}
-use Prim.Native.Nat.{ℕ, zero, suc, _+_, _*_, _-_, _/_, _%_, _^_, _≤_, _<_}
+use mathlib.Core.List.{List}
+use Prim.Native.Nat.{ℕ, zero, suc, _+_, _*_, _/_, _%_, _^_, _≤_, _<_}
 use native.Mathlib.Omega.{arith}
 use native.Mathlib.Decide.{decLt, ℕ-discrete}
-use lib.ListN.{length, getD, set, take}
-use lib.Dec.{ltb, eqb, lit<, lit≤}
+use lib.ListN.{getD}
+use lib.Dec.{ltb, eqb, lit≤}
 use borrow.Author.Tests.{ltb-true, ltb-false, eqb-true, eqb-false}
 use Rattle.nls.proofs.Arrays.{Bits}
-use Rattle.nls.proofs.Machine.Table.{Cfg, alone, stands, Ok, alone-no, no-alone, stands-no, no-stands, no-gd, no-dg, low}
-use Rattle.nls.proofs.Machine.Cover.{Under, kid, far, Core, More, Preds, Sets, is-alone, not-alone, is-D, is-G, mark-D, mark-G}
-use Rattle.nls.proofs.Machine.Steps.{Fam, preds, From}
+use Rattle.nls.proofs.Machine.Table.{Cfg, alone, stands, alone-no, no-alone, stands-no, no-stands}
+use Rattle.nls.proofs.Machine.Cover.{Under, kid, far, Core, Sets, is-alone, is-D, is-G, mark-D, mark-G}
+use Rattle.nls.proofs.Machine.Steps.{preds, From}
 use Rattle.nls.proofs.Reading.Whole.{fam, Known, under-ge}
 use Rattle.nls.proofs.Judging.Apart.{Cmp, same, over, below, cmp}
 use Rattle.nls.proofs.Judging.Fresh.{SetFr}
-use Rattle.nls.proofs.Judging.Clash.{Valid, Clash, last-child, last-grand, last-desc, last-root, via}
+use Rattle.nls.proofs.Judging.Clash.{Clash, last-child, last-grand, last-desc, last-root}
 
 module _ (N D P : ℕ) (D-big : 4 ≤ D) (D-4 : D % 4 ≡ 0) (I-16 : 4 ^ N % 16 ≡ 0) (D-I : 4 * D ≤ 4 ^ N) where
   abbrev I : ℕ

@@ -1,23 +1,22 @@
 -- COVER: in each plane every coefficient is asked for, or lies in a set that was answered 0.
 -- X b i: "bit b of coefficient i is settled", for any X that grows with the answers.
 use mathlib.Core.Path.{_≡_, refl, sym, ap, subst, _∙_}
-use mathlib.Core.Bool.{Bool, true, false, not, _&&_, _||_, true≢false, false≢true}
+use mathlib.Core.Bool.{Bool, true, false, true≢false}
 use mathlib.Core.Logic.{_⊎_, inl, inr}
-use mathlib.Core.List.{List, [], _∷_, _++_}
+use mathlib.Core.List.{List}
 use Prim.Native.Nat.{ℕ, zero, suc, _+_, _*_, _-_, _/_, _%_, _^_, _≤_, _<_}
 use native.Mathlib.Omega.{arith}
 use native.Mathlib.Nat.{pow-suc}
 use native.Mathlib.Decide.{decLt, ℕ-discrete}
-use lib.ListN.{length, getD, set, take, length-set}
+use lib.ListN.{length, getD, set, length-set}
 use lib.Seq.{getD-set-same, getD-set-other}
-use lib.Dec.{ltb, eqb, lit<, lit≤}
-use borrow.Author.Tests.{ltb-true, ltb-false, le-ltb, lt-ltb, eqb-true, eqb-false, eq-eqb, ne-eqb}
+use lib.Dec.{ltb, lit<, lit≤}
+use borrow.Author.Tests.{ltb-false, le-ltb, lt-ltb}
 use Rattle.nls.specs.Marks.{skip, setSkip, splitDesc, splitGrand}
-use Rattle.nls.specs.Scan.{State, Look, over, silent, asks, Question, bitOf, signOf, inDesc, inGrand, Pass, pixels, sets, refining, at, look, lookAt, lookPixels, lookSets, lookRefining, tell, tellAt, tellSets}
 use Rattle.nls.proofs.Arrays.{four}
-use Rattle.nls.proofs.Machine.Table.{Cfg, up, alone, stands, Ok, Table, alone-no, no-alone, stands-no, no-stands, no-gd, no-dg, low, gap, skip-5, skip-7, up-low, up-5, up-7}
-use Rattle.nls.proofs.Machine.Push.{table-G, ok-G, len-G, sD-G, al-G, alone-G, stands-G-on, stands-G-off, sG-G-off, sG-G-on}
-use Rattle.nls.proofs.Machine.Split.{withD, withG, withA, table-A, ok-A, kind-no, al-at, al-else, alone-A, stands-A, same-D, same-G, sD-on, sD-off, sG-D, al-D-on, al-D-off, stands-D, alone-on, alone-off, table-D, ok-D}
+use Rattle.nls.proofs.Machine.Table.{Cfg, up, alone, stands, Ok, Table, alone-no, no-alone, stands-no, no-stands, no-dg, gap, skip-5, skip-7, up-low, up-5, up-7}
+use Rattle.nls.proofs.Machine.Push.{table-G, ok-G, len-G, sD-G, al-G, alone-G, stands-G-off, sG-G-off, sG-G-on}
+use Rattle.nls.proofs.Machine.Split.{withD, withG, withA, table-A, ok-A, kind-no, al-at, al-else, alone-A, stands-A, same-D, same-G, sD-off, sG-D, al-D-on, al-D-off, stands-D, alone-on, alone-off, table-D, ok-D}
 
 -- What a run may know, besides: Y i, the sign of i; QD h and QG q, why the set was split; Z i, that a bit of i is 1
 pub record Preds : Type 1 where

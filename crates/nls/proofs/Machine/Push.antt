@@ -1,17 +1,17 @@
 -- What a push writes, and that a split of GRAND keeps what the table says.
 use mathlib.Core.Path.{_≡_, refl, sym, ap, subst, _∙_}
-use mathlib.Core.Bool.{Bool, true, false, not, _&&_, _||_, true≢false, false≢true}
+use mathlib.Core.Bool.{Bool, true, false, _||_, true≢false, false≢true}
 use mathlib.Core.Logic.{_⊎_, inl, inr}
-use mathlib.Core.List.{List, [], _∷_, _++_}
-use Prim.Native.Nat.{ℕ, zero, suc, _+_, _*_, _-_, _/_, _%_, _^_, _≤_, _<_}
+use mathlib.Core.List.{List}
+use Prim.Native.Nat.{ℕ, zero, suc, _+_, _*_, _/_, _%_, _≤_, _<_}
 use native.Mathlib.Omega.{arith}
 use native.Mathlib.Decide.{decLt, decLe, ℕ-discrete}
-use lib.ListN.{length, getD, set, take, length-set}
+use lib.ListN.{length, getD, set, length-set}
 use lib.Seq.{getD-set-same, getD-set-other}
 use lib.Dec.{ltb, eqb, lit<, lit≤}
-use borrow.Author.Tests.{ltb-true, ltb-false, le-ltb, lt-ltb, eqb-true, eqb-false, eq-eqb, ne-eqb}
+use borrow.Author.Tests.{le-ltb, lt-ltb, eq-eqb, ne-eqb}
 use Rattle.nls.specs.Marks.{pushFrom, push, splitGrand, pushRoots}
-use Rattle.nls.proofs.Machine.Table.{Cfg, up, alone, stands, Ok, Table, alone-no, no-alone, stands-no, no-stands, no-gd, no-dg, low, up-low, up-5, up-7}
+use Rattle.nls.proofs.Machine.Table.{Cfg, up, alone, stands, Ok, Table, alone-no, no-alone, stands-no, no-dg, low, up-5, up-7}
 use Rattle.nls.proofs.Machine.Split.{withG}
 
 -- k is j, 4j, 16j ..

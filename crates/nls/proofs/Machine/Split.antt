@@ -1,16 +1,13 @@
 -- Splitting a set keeps what the table says.
 use mathlib.Core.Path.{_≡_, refl, sym, ap, subst, _∙_}
-use mathlib.Core.Bool.{Bool, true, false, not, _&&_, _||_, true≢false, false≢true}
-use mathlib.Core.List.{List, [], _∷_, _++_}
-use Prim.Native.Nat.{ℕ, zero, suc, _+_, _*_, _-_, _/_, _%_, _^_, _≤_, _<_}
+use mathlib.Core.Bool.{Bool, true, false, _||_, true≢false, false≢true}
+use Prim.Native.Nat.{ℕ, _*_, _/_, _%_, _≤_, _<_}
 use native.Mathlib.Omega.{arith}
 use native.Mathlib.Decide.{decLt, ℕ-discrete}
-use lib.ListN.{length, getD, set, take}
-use lib.Dec.{ltb, eqb, lit<, lit≤}
-use borrow.Author.Tests.{ltb-true, ltb-false, le-ltb, lt-ltb, eqb-true, eqb-false, eq-eqb, ne-eqb}
-use Rattle.nls.specs.Marks.{skip, setSkip}
+use lib.Dec.{ltb, eqb}
+use borrow.Author.Tests.{eq-eqb, ne-eqb}
 use mathlib.Core.Logic.{_⊎_, inl, inr}
-use Rattle.nls.proofs.Machine.Table.{up-low, up-5, up-7, Cfg, up, alone, stands, Ok, Table, alone-no, no-alone, stands-no, no-stands, no-gd, no-dg, low}
+use Rattle.nls.proofs.Machine.Table.{up-low, up-5, up-7, Cfg, up, alone, stands, Ok, Table, alone-no, stands-no, no-stands, no-gd, no-dg}
 
 -- DESC(g) is split: its four children stand alone, with MCP
 unfoldable pub withD : ℕ → Cfg → Cfg

@@ -1,26 +1,21 @@
 -- The table at the start, and demand 2 for a whole stream from there.
 use mathlib.Core.Path.{_≡_, refl, sym, ap, subst, _∙_}
-use mathlib.Core.Bool.{Bool, true, false, not, _&&_, _||_, true≢false, false≢true}
+use mathlib.Core.Bool.{Bool, true, false, _||_, false≢true}
 use mathlib.Core.Logic.{_⊎_, inl, inr}
-use mathlib.Core.Option.{Option, none, some}
-use mathlib.Core.List.{List, [], _∷_, _++_}
-use Prim.Native.Nat.{ℕ, zero, suc, _+_, _*_, _-_, _/_, _%_, _^_, _≤_, _<_}
+use mathlib.Core.List.{List, _++_}
+use Prim.Native.Nat.{ℕ, zero, suc, _+_, _*_, _-_, _/_, _%_, _≤_, _<_}
 use native.Mathlib.Omega.{arith}
-use native.Mathlib.Decide.{decLt, ℕ-discrete}
-use lib.ListN.{length, getD, set, take, replicate, length-append, length-replicate, getD-replicate, List·getD-append}
+use lib.ListN.{length, getD, replicate, length-append, length-replicate, getD-replicate, List·getD-append}
 use lib.Seq.{getD-append-add}
-use lib.Dec.{ltb, eqb, lit<, lit≤}
-use borrow.Author.Tests.{ltb-true, ltb-false, le-ltb, lt-ltb}
+use lib.Dec.{ltb, lit<, lit≤}
+use borrow.Author.Tests.{ltb-true}
 use Rattle.nls.specs.Marks.{pushRoots, startMarks}
-use Rattle.nls.specs.Scan.{State, at, pixels, start, look, reach, ask, next, settle}
+use Rattle.nls.specs.Scan.{at, pixels, start}
 use Rattle.nls.proofs.Arrays.{Bits}
-use Rattle.nls.proofs.Machine.Table.{Cfg, up, alone, stands, Ok, Table, alone-no, no-alone, stands-no, no-stands, up-low}
-use Rattle.nls.proofs.Machine.Push.{Done, done-0, done-roots, Head, Line, here, down, On, on?, line-mod, kinds, line-ge}
-use Rattle.nls.proofs.Machine.Cover.{Core, Pix, Preds}
-use Rattle.nls.proofs.Machine.Steps.{Fam, preds, Good, From, good-settle}
-use Rattle.nls.proofs.Judging.Most.{_⊑_, Fits}
-use Rattle.nls.proofs.Reading.Know.{least}
-use Rattle.nls.proofs.Reading.Whole.{whole, fam, Known, Is-over}
+use Rattle.nls.proofs.Machine.Table.{Cfg, up, alone, stands, Table, no-alone, no-stands, up-low}
+use Rattle.nls.proofs.Machine.Push.{Done, done-0, done-roots, Head, Line, down, On, on?, line-mod, kinds, line-ge}
+use Rattle.nls.proofs.Machine.Cover.{Pix, Preds}
+use Rattle.nls.proofs.Machine.Steps.{Fam, preds, Good, good-settle}
 
 abbrev pub c0 : Cfg
 c0 = record { sD = λ h. false; sG = λ q. false; al = λ j. 1 }
@@ -117,14 +112,3 @@ module _ (D I : ℕ) (D-big : 4 ≤ D) (D-4 : D % 4 ≡ 0) (I-16 : I % 16 ≡ 0)
 
 abbrev pub nothing : Bits
 nothing = record { has = λ i b. false; neg = λ i. false }
-
--- DEMAND 2 (ii): the bits of a whole stream of A decode to A
-pub whole-stream : (N D P : ℕ) (D-big : 4 ≤ D) (D-4 : D % 4 ≡ 0) (I-16 : 4 ^ N % 16 ≡ 0) (D-I : 4 * D ≤ 4 ^ N) (A : Bits) (u : List Bool)
-    → Fits N State (ask (4 ^ N)) (next (4 ^ N)) A (start (4 ^ N) D P) u
-    → Is-over (look (4 ^ N) (reach (4 ^ N) (start (4 ^ N) D P) u))
-    → (j : ℕ) → j < 4 ^ N → ((b : ℕ) → b < P → (least N State (ask (4 ^ N)) (next (4 ^ N)) (start (4 ^ N) D P) u nothing) .has j b ≡ A .has j b)
-    × ((b : ℕ) → b < P → A .has j b ≡ true → (least N State (ask (4 ^ N)) (next (4 ^ N)) (start (4 ^ N) D P) u nothing) .neg j ≡ A .neg j)
-unfolding _⊑_
-whole-stream N D P D-big D-4 I-16 D-I A u f o =
-    whole N D P D-big D-4 I-16 A nothing (start (4 ^ N) D P) u
-    (good-start D (4 ^ N) D-big D-4 I-16 D-I P (fam N D P D-big D-4 I-16 A nothing) (λ j z. false≢true (z .1))) (λ i b h. absurd (false≢true h)) f o

@@ -1,20 +1,17 @@
 -- The invariant of the scan, over the machine's own moves.
-use mathlib.Core.Path.{_≡_, refl, sym, ap, subst, _∙_}
-use mathlib.Core.Bool.{Bool, true, false, not, _&&_, _||_, true≢false, false≢true}
-use mathlib.Core.Logic.{_⊎_, inl, inr}
-use mathlib.Core.Option.{Option, none, some}
-use mathlib.Core.List.{List, [], _∷_, _++_}
-use Prim.Native.Nat.{ℕ, zero, suc, _+_, _*_, _-_, _/_, _%_, _^_, _≤_, _<_}
+use mathlib.Core.Path.{_≡_, refl, sym, subst}
+use mathlib.Core.Bool.{Bool, true, false}
+use mathlib.Core.List.{List}
+use Prim.Native.Nat.{ℕ, zero, suc, _+_, _/_, _%_, _≤_, _<_}
 use native.Mathlib.Omega.{arith}
-use native.Mathlib.Decide.{decLt, ℕ-discrete}
-use lib.ListN.{length, getD, set, take}
+use native.Mathlib.Decide.{ℕ-discrete}
+use lib.ListN.{getD}
 use lib.Dec.{ltb, eqb, lit<, lit≤}
 use borrow.Author.Tests.{ltb-true, ltb-false, eqb-true, eqb-false}
-use Rattle.nls.specs.Marks.{skip, setSkip, splitDesc, splitGrand}
-use Rattle.nls.specs.Scan.{State, Look, over, silent, asks, Question, bitOf, signOf, inDesc, inGrand, Pass, pixels, sets, refining, at, look, lookAt, lookPixels, lookSets, lookRefining, tell, tellAt, tellSets, silently, settle, movesLeft, ask, asked, next}
-use Rattle.nls.proofs.Machine.Table.{Cfg, alone, stands}
+use Rattle.nls.specs.Scan.{State, Look, over, silent, asks, Question, bitOf, signOf, inDesc, inGrand, Pass, pixels, sets, refining, at, look, lookAt, lookPixels, lookSets, lookRefining, tell, tellAt, tellSets, silently, settle, movesLeft, next}
+use Rattle.nls.proofs.Machine.Table.{Cfg, alone}
 use Rattle.nls.proofs.Machine.Split.{withD, withG, withA}
-use Rattle.nls.proofs.Machine.Cover.{Under, Preds, hide, More, more-hide, is-alone, Core, Pix, Sets, Fine, pix-hush, pix-zero, pix-one, pix-end, sets-hush, sets-D0, sets-D1, sets-G0, sets-G1, sets-C, sets-end, fine-hush, fine-ask, fine-np, fine-end, is-D, is-G}
+use Rattle.nls.proofs.Machine.Cover.{Under, Preds, hide, More, is-alone, Pix, Sets, Fine, pix-hush, pix-zero, pix-one, pix-end, sets-hush, sets-D0, sets-D1, sets-G0, sets-G1, sets-C, sets-end, fine-hush, fine-ask, fine-np, fine-end, is-D, is-G}
 
 -- What a run knows: X b j, bit b of j is settled; and, by plane, why a set was split
 pub record Fam : Type 1 where

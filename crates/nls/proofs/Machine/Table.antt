@@ -1,15 +1,13 @@
 -- What the table of marks holds, from which sets are split. A mark is known from the split sets and from the mark at a quarter of its place.
 use mathlib.Core.Path.{_≡_, refl, sym, ap, subst, _∙_}
-use mathlib.Core.Bool.{Bool, true, false, not, _&&_, _||_, true≢false, false≢true}
-use mathlib.Core.List.{List, [], _∷_, _++_}
+use mathlib.Core.Bool.{Bool, true, false, _||_, true≢false, false≢true}
 use Prim.Native.Nat.{ℕ, zero, suc, _+_, _*_, _-_, _/_, _%_, _^_, _≤_, _<_}
 use native.Mathlib.Omega.{arith}
 use native.Mathlib.Nat.{pow-suc}
 use native.Mathlib.Decide.{decLt, ℕ-discrete}
-use lib.ListN.{length, getD, set, take}
-use lib.Dec.{ltb, eqb, lit<, lit≤}
-use borrow.Author.Tests.{ltb-true, ltb-false, le-ltb, lt-ltb}
-use Rattle.nls.specs.Marks.{skip, setSkip}
+use lib.Dec.{ltb, lit<, lit≤}
+use borrow.Author.Tests.{ltb-false, le-ltb, lt-ltb}
+use Rattle.nls.specs.Marks.{skip}
 
 -- which sets are split, and the marks of the coefficients that stand alone
 pub record Cfg : Type 0 where

@@ -1,14 +1,14 @@
 -- The known bits: the least array that a run of answers allows, sign and all.
-use mathlib.Core.Path.{_≡_, refl, sym, ap, subst, _∙_}
-use mathlib.Core.Bool.{Bool, true, false, not, _&&_, _||_, true≢false, false≢true}
+use mathlib.Core.Path.{_≡_, refl, ap, _∙_}
+use mathlib.Core.Bool.{Bool, true, false, _&&_, _||_, false≢true}
 use mathlib.Core.Option.{Option, none, some}
-use mathlib.Core.List.{List, [], _∷_, _++_}
-use Prim.Native.Nat.{ℕ, zero, suc, _+_, _*_, _-_, _/_, _%_, _^_, _≤_, _<_}
-use lib.Dec.{ltb, eqb}
-use borrow.Author.Tests.{eqb-true, eqb-false, eq-eqb}
+use mathlib.Core.List.{List, [], _∷_}
+use Prim.Native.Nat.{ℕ}
+use lib.Dec.{eqb}
+use borrow.Author.Tests.{eqb-true, eq-eqb}
 use Rattle.nls.specs.Scan.{Question, bitOf, signOf, inDesc, inGrand}
-use Rattle.nls.proofs.Arrays.{Bits, inside, ans}
-use Rattle.nls.proofs.Judging.Most.{_⊑_, told, Fits, sign, sign-self, sign-other, and-l, and-r, and-i}
+use Rattle.nls.proofs.Arrays.{Bits, ans}
+use Rattle.nls.proofs.Judging.Most.{_⊑_, told, Fits, sign, sign-self, sign-other}
 
 -- bit b of i is known
 unfoldable pub add : ℕ → ℕ → Bits → Bits

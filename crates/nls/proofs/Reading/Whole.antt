@@ -1,22 +1,20 @@
 -- DEMAND 2, a whole stream: what is known at the end is the array.
-use mathlib.Core.Path.{_≡_, refl, sym, ap, subst, _∙_}
-use mathlib.Core.Bool.{Bool, true, false, not, _&&_, _||_, true≢false, false≢true}
+use mathlib.Core.Path.{_≡_, sym, _∙_}
+use mathlib.Core.Bool.{Bool, true, false, _&&_, true≢false, false≢true}
 use mathlib.Core.Logic.{_⊎_, inl, inr}
 use mathlib.Core.Option.{Option, none, some}
-use mathlib.Core.List.{List, [], _∷_, _++_}
-use Prim.Native.Nat.{ℕ, zero, suc, _+_, _*_, _-_, _/_, _%_, _^_, _≤_, _<_}
+use mathlib.Core.List.{List, [], _∷_}
+use Prim.Native.Nat.{ℕ, zero, suc, _*_, _/_, _%_, _^_, _≤_, _<_}
 use native.Mathlib.Omega.{arith}
 use native.Mathlib.Nat.{pow-suc}
-use lib.ListN.{length, getD, set, take}
-use lib.Dec.{ltb, eqb, lit<, lit≤}
-use borrow.Author.Tests.{ltb-true, ltb-false, eqb-true, eqb-false, eq-eqb, lt-ltb}
-use Rattle.nls.specs.Scan.{State, Look, over, silent, asks, Question, bitOf, signOf, inDesc, inGrand, Pass, pixels, sets, refining, look, lookAt, tell, ask, asked, next, reach}
-use Rattle.nls.proofs.Arrays.{Bits, inside, ans, below, any}
-use Rattle.nls.specs.Scan.{lookPixels, lookSets, lookRefining}
+use lib.Dec.{ltb, eqb}
+use borrow.Author.Tests.{eqb-true, eq-eqb, lt-ltb}
+use Rattle.nls.specs.Scan.{State, Look, over, silent, asks, Question, bitOf, signOf, inDesc, inGrand, look, ask, asked, next, reach}
+use Rattle.nls.proofs.Arrays.{Bits, inside, ans, below}
 use Rattle.nls.proofs.Judging.Most.{_⊑_, told, Fits, and-l, and-r, and-i, or-l, or-r, or-cases, any-find, member}
-use Rattle.nls.proofs.Reading.Know.{least, least-below, know, knowO, know-grows, know-one, know-other, know-sign, know-sgn-has, know-neg}
+use Rattle.nls.proofs.Reading.Know.{least, know, knowO, know-grows, know-one, know-other, know-sign, know-sgn-has, know-neg}
 use Rattle.nls.proofs.Machine.Cover.{Under, kid, far}
-use Rattle.nls.proofs.Machine.Steps.{Fam, preds, withZ, Good, Good-at, From, Learned, On-ask, good-next, good-mono}
+use Rattle.nls.proofs.Machine.Steps.{Fam, withZ, Good, Learned, On-ask, good-next, good-mono}
 
 pub under-ge : (g i : ℕ) → Under g i → 4 * g ≤ i
 under-ge g i (kid e) = omega arith
@@ -32,11 +30,6 @@ under-below (suc n) g i h k (far u) = or-r (eqb (i / 4) g) (below n g (i / 4)) (
 -- bit b of A at j is known
 abbrev pub Known : Bits → Bits → ℕ → ℕ → Type 0
 Known A k b j = A .has j b ≡ true → k .has j b ≡ true
-
-abbrev pub Is-over : Look → Type 0
-Is-over over = Unit {0}
-Is-over (silent t) = ⊥
-Is-over (asks q) = ⊥
 
 pub below-under : (n g i : ℕ) → below n g i ≡ true → Under g i
 unfolding below
@@ -114,50 +107,3 @@ module _ (N D P : ℕ) (D-big : 4 ≤ D) (D-4 : D % 4 ≡ 0) (I-16 : 4 ^ N % 16 
   unfolding reach
   run A k s [] g f = g
   run A k s (a ∷ u) g f = run A (knowO (ask I s) a k) (next I s a) u (one-bit A k s a g (f .0)) (f .1)
-
-  -- at the end
-  ends : (F : Fam) (l : ℕ) (p : Pass) (i : ℕ) (s : Bool) (m : List ℕ) → Good-at D I D-big D-4 I-16 P F l p i s m → Is-over (lookAt I l p i s m)
-      → ((b : ℕ) → b < P → (j : ℕ) → j < I → F .X b j) × ((j : ℕ) → j < I → F .Z j → F .Y j)
-  ends F zero p i s m g o = ((λ b bp. g .0 b (omega arith) bp), g .1)
-  ends F (suc c) pixels i true m g o = absurd o
-  ends F (suc c) sets i true m g o = absurd o
-  ends F (suc c) refining i true m g o = absurd o
-  ends F (suc c) pixels i false m g o = absurd (go (ltb i I) (eqb (getD m i 0) 1) o)
-    where
-      go : (x y : Bool) → Is-over (lookPixels c i m x y) → ⊥
-      go false y z = z
-      go true true z = z
-      go true false z = z
-  ends F (suc c) sets i false m g o = absurd (go (ltb i I) (eqb (getD m i 0) 5) (eqb (getD m i 0) 6) (eqb (getD m i 0) 4) o)
-    where
-      go : (x y w v : Bool) → Is-over (lookSets c i m x y w v) → ⊥
-      go false y w v z = z
-      go true true w v z = z
-      go true false true v z = z
-      go true false false true z = z
-      go true false false false z = z
-  ends F (suc c) refining i false m g o = absurd (go (ltb i I) (eqb (getD m i 0) 3) (eqb (getD m i 0) 2) o)
-    where
-      go : (x y w : Bool) → Is-over (lookRefining c i m x y w) → ⊥
-      go false y w z = z
-      go true true w z = z
-      go true false true z = z
-      go true false false z = z
-
-  same : (x y : Bool) → (x ≡ true → y ≡ true) → (y ≡ true → x ≡ true) → x ≡ y
-  same true y f g = sym (f refl)
-  same false true f g = g refl
-  same false false f g = refl
-
-  -- A WHOLE STREAM IS THE ARRAY: when the scan is over each known bit is A's bit, and the sign of each coefficient that is not 0 is A's
-  pub whole : (A k : Bits) (s : State) (u : List Bool) → Ok-at (fam A k) s → k ⊑ A → Fits N State (ask I) (next I) A s u → Is-over (look I (reach (4 ^ N) s u))
-      → (j : ℕ) → j < I → ((b : ℕ) → b < P → (least N State (ask I) (next I) s u k) .has j b ≡ A .has j b)
-      × ((b : ℕ) → b < P → A .has j b ≡ true → (least N State (ask I) (next I) s u k) .neg j ≡ A .neg j)
-  unfolding _⊑_
-  whole A k s u g l f o j hj =
-      let r : State = reach (4 ^ N) s u in
-      let e : ((b : ℕ) → b < P → (j : ℕ) → j < I → Known A (least N State (ask I) (next I) s u k) b j) × ((j : ℕ) → j < I → Zof (least N State (ask I) (next I) s u k) j → (least N State (ask I) (next I) s u k) .neg j ≡ A .neg j)
-      = ends (fam A (least N State (ask I) (next I) s u k)) (r .left) (r .pass) (r .place) (r .pending) (r .marks) (run A k s u g f) o in (
-        (λ b hb. same _ _ (λ h. least-below N State (ask I) (next I) A s u k f l j b h) (λ h. e .0 b hb j hj h)),
-        λ b hb h. e .1 j hj (b, e .0 b hb j hj h),
-      )
