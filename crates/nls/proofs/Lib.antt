@@ -1,3 +1,4 @@
+pub mod Booleans
 pub mod Arrays
 pub mod Machine
 pub mod Reading

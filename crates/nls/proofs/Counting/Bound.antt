@@ -9,6 +9,7 @@ use borrow.Author.Tests.{lt-ltb, lt-leb}
 use lib.Dec.{T, ltb, leb, le→leb}
 use lib.Pow.{pow-mono, pow-pos}
 use lib.ListN.{length}
+use Rattle.nls.proofs.Booleans.{T-true}
 use Rattle.nls.proofs.Counting.Sums.{sum, sum-cong, sum-le, sum-const, sum-zero}
 use Rattle.nls.proofs.Counting.Tree.{Size, D, Q, I, desc-zero, grand-zero}
 use Rattle.nls.proofs.Counting.Parts.{ι, over-all, big, split-desc, split-grand, alone, stands-desc, stands-grand, parts, splits, bigs, body}
@@ -26,10 +27,6 @@ worst z P = I z * (P + 1) + (I z - D z) / 4 + (I z - 4 * D z) / 16
 ι-le : (t : Bool) → ι t ≤ 1
 ι-le true = omega arith
 ι-le false = omega arith
-
-T-true : (t : Bool) → T t → t ≡ true
-T-true true h = refl
-T-true false h = absurd h
 
 module _ (z : Size) (mag : ℕ → ℕ) where
   -- from a plane on nothing is big, so nothing is split

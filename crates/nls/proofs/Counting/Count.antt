@@ -2,7 +2,7 @@
 -- Assumes nothing.
 use Prim.Native.Nat.{ℕ, zero, suc, _+_, _*_, _-_, _^_, _/_, _%_, _≤_, _<_}
 use mathlib.Core.Path.{_≡_, refl, ap, sym, _∙_}
-use mathlib.Core.Bool.{Bool, true, false, not, _&&_, _||_, cond}
+use mathlib.Core.Bool.{Bool, true, false, not, _&&_, _||_, cond, and-false}
 use mathlib.Core.List.{List, [], _∷_, _++_}
 use native.Mathlib.Nat.{le-trans, zero-add, pow-succ', div-eq-of-lt, div-eq-of-lt-le}
 use native.Mathlib.Omega.{arith}
@@ -252,10 +252,6 @@ by-first z g =
 
     early : (p : ℕ) → p < D z → h p ≡ 0
     early p u = rw (lt-leb (D z) p u)
-
-    and-false : (t : Bool) → (t && false) ≡ false
-    and-false true = refl
-    and-false false = refl
 
     other : (q p : ℕ) → 4 * q < p → p < 4 * q + 4 → h p ≡ 0
     other q p k l =

@@ -2,7 +2,7 @@
 -- Assumes nothing.
 use Prim.Native.Nat.{ℕ, suc, _+_, _^_, _/_, _≤_, _<_}
 use mathlib.Core.Path.{_≡_, refl, ap}
-use mathlib.Core.Bool.{Bool, true, false, not, _||_, cond}
+use mathlib.Core.Bool.{Bool, true, false, _||_, cond}
 use mathlib.Core.List.{[]}
 use mathlib.Core.Logic.{_⊎_, inl, inr, ⊎-elim}
 use native.Mathlib.Nat.{sub-zero}
@@ -10,6 +10,7 @@ use native.Mathlib.Numerals.{add-one}
 use native.Mathlib.Omega.{arith}
 use borrow.Author.Tests.{le-ltb, ltb-true, ltb-false, eqb-true, ne-eqb}
 use lib.Dec.{T, ltb, eqb, T-not}
+use Rattle.nls.proofs.Booleans.{T-false, T-true, of-true, of-false}
 use Rattle.nls.proofs.Counting.Sums.{each}
 use Rattle.nls.proofs.Counting.Tree.{Size, D, Q, I, grand-none}
 use Rattle.nls.proofs.Counting.Parts.{ι, big, alone, split-desc, split-grand, pixel, refine}
@@ -27,20 +28,6 @@ same-mark m x v y h = tell (eqb y x) refl
 marked : (m : Table) (x : ℕ) → m x ≡ 1 → (t : Bool) (y : ℕ) → cond t (put m x 2) m y ≡ cond (eqb y x) (cond t 2 1) (m y)
 marked m x v true y = refl
 marked m x v false y = same-mark m x 1 y v
-
-pub T-false : (t : Bool) → (T t → ⊥) → t ≡ false
-T-false true h = absurd (h tt)
-T-false false h = refl
-
-pub T-true : (t : Bool) → T t → t ≡ true
-T-true true h = refl
-T-true false h = absurd h
-
-pub of-true : (t : Bool) → t ≡ true → T t
-of-true t e = rw e tt
-
-pub of-false : (t : Bool) → t ≡ false → T (not t)
-of-false t e = rw e tt
 
 module _ (z : Size) (mag : ℕ → ℕ) where
   pub closed1 : (b q : ℕ) → z .e ≤ q → T (split-grand z mag b q) → T (split-desc z mag b q)

@@ -2,13 +2,14 @@
 -- Assumes nothing.
 use Prim.Native.Nat.{ℕ, zero, suc, _+_, _*_, _-_, _^_, _/_, _%_, _≤_, _<_}
 use mathlib.Core.Path.{_≡_, refl, ap, sym, subst, _∙_}
-use mathlib.Core.Bool.{Bool, true, false, not, _&&_, _||_, cond}
+use mathlib.Core.Bool.{Bool, true, false, not, _&&_, _||_, cond, and-false, or-true}
 use mathlib.Core.List.{List, [], _∷_, _++_, append-assoc}
 use mathlib.Core.Logic.{_⊎_, inl, inr, ⊎-elim}
 use native.Mathlib.Nat.{le-refl, zero-add, pow-succ'}
 use native.Mathlib.Omega.{arith}
 use borrow.Author.Tests.{lt-ltb, le-ltb, eqb-true, eqb-false, le-leb, lt-leb, ne-eqb}
 use lib.Dec.{T, ltb, leb, eqb, lt→ltb, T-not, not-T}
+use Rattle.nls.proofs.Booleans.{T-or, T-false, T-true, of-true, of-false}
 use Rattle.nls.proofs.Counting.Sums.{each, each-at, each-cons, each-none, each-jump, order}
 use Rattle.nls.proofs.Counting.Tree.{Size, D, Q, I, desc, grand, desc-none, grand-none}
 use Rattle.nls.proofs.Counting.Parts.{ι, big, bit, coded, split-desc, split-grand, test-grand, test-desc, children, group}
@@ -16,16 +17,12 @@ use Rattle.nls.proofs.Counting.Count.{desc-shrinks, grand-shrinks, desc
 use Rattle.nls.proofs.Counting.Summary.{has-desc, has-grand, has-desc-is, has-grand-is}
 use Rattle.nls.proofs.Counting.Tiles.{up, down, up-le, in-run, pow4-pos, Alone, StandsD, StandsG, Cov, Spot, after-alone, after-run, below-sg, not-sd, not-sg}
 use Rattle.nls.proofs.Counting.Steps.{Table, skip, go, go-on, go-over, set-step, open-desc, open-grand, code, code-far, skip-code, Marks, remark, retell}
-use Rattle.nls.proofs.Counting.Passes.{closed1, found, T-true, T-false, of-true, of-false}
+use Rattle.nls.proofs.Counting.Passes.{closed1, found}
 use Rattle.nls.proofs.Counting.Opens.{flip, grand-opens, desc-opens, same-spot, same-marks, same-desc}
 
-or-true : (s t : Bool) → T t → T (s || t)
-or-true true t h = tt
-or-true false t h = h
-
-or-left : (s t : Bool) → T s → T (s || t)
-or-left true t h = tt
-or-left false t h = absurd h
+T-or-right : (s t : Bool) → T t → T (s || t)
+T-or-right true t h = tt
+T-or-right false t h = h
 
 or-out : (s t : Bool) → T (not s) → T (s || t) → T t
 or-out true t h k = absurd h
@@ -34,14 +31,6 @@ or-out false t h k = k
 or-map : (s t u : Bool) → (T t → T u) → T (s || t) → T (s || u)
 or-map true t u h k = tt
 or-map false t u h k = h k
-
-or-right-true : (s : Bool) → (s || true) ≡ true
-or-right-true true = refl
-or-right-true false = refl
-
-and-false : (s : Bool) → (s && false) ≡ false
-and-false true = refl
-and-false false = refl
 
 cond-nil : {X : Type 0} (t : Bool) → _≡_ {A = List X} (cond t [] []) []
 cond-nil true = refl
@@ -135,7 +124,7 @@ module _ (z : Size) (mag : ℕ → ℕ) (neg : ℕ → Bool) (b : ℕ) where
 
   cst-past : (c x : ℕ) → x < c → cst c x ≡ found z mag b x
   unfolding cst
-  cst-past c x h = rw (lt-ltb x c h, or-right-true (was x))
+  cst-past c x h = rw (lt-ltb x c h, or-true (was x))
 
   cst-was : (c x : ℕ) → T (was x) → cst c x ≡ found z mag b x
   unfolding cst
@@ -257,7 +246,7 @@ module _ (z : Size) (mag : ℕ → ℕ) (neg : ℕ → Bool) (b : ℕ) where
   now-alone : (p x g : ℕ) → 4 * p ≤ x → x < 4 * p + 4 → T (split-desc z mag b p) → Alone z (sdt (suc p)) (sgt g) x
   now-alone p x g u v t =
       let s : x / 4 ≡ p = omega arith in
-      or-true (ltb x (D z)) (sdt (suc p) (x / 4)) (rw (s, sdt-in (suc p) p (le-refl _)) t)
+      T-or-right (ltb x (D z)) (sdt (suc p) (x / 4)) (rw (s, sdt-in (suc p) p (le-refl _)) t)
 
   kid-mark : (p c : ℕ) (m : Table) → z .e ≤ p → p < Q z → T (split-desc z mag b p) → T (not (split-desc z mag (suc b) p))
       → 4 * p ≤ c → c < 4 * p + 4 → State (suc p) (suc p) c m → m c ≡ 4
@@ -451,7 +440,7 @@ module _ (z : Size) (mag : ℕ → ℕ) (neg : ℕ → Bool) (b : ℕ) where
       same-marks z (sdt p) (sgt p) (sdt (suc p)) (sgt (suc p)) hd hg (λ x. cst (4 * p) x) (λ x. cst (4 * suc p) x) m
       (λ x u v. adv-c (4 * p) (4 * suc p) x (omega arith) (λ o o′. alone-was p p x o v)) w in
       let last : (4 * p + 3) / 4 ≡ p = omega arith in
-      let lone : Alone z (sdt p) (sgt p) (4 * p + 3) = or-true (ltb (4 * p + 3) (D z)) (sdt p ((4 * p + 3) / 4)) (rw (last, sdt-out p p (le-refl p)) y) in
+      let lone : Alone z (sdt p) (sgt p) (4 * p + 3) = T-or-right (ltb (4 * p + 3) (D z)) (sdt p ((4 * p + 3) / 4)) (rw (last, sdt-out p p (le-refl p)) y) in
       let at : Spot z (sdt p) (sgt p) (suc (4 * p + 3)) =
       after-alone z (sdt p) (sgt p) (closed-1 p p (omega arith)) (closed-2 p p (le-refl p)) (4 * p + 3) lone in
       let next : suc (4 * p + 3) ≡ 4 * suc p = omega arith in
@@ -576,7 +565,7 @@ module _ (z : Size) (mag : ℕ → ℕ) (neg : ℕ → Bool) (b : ℕ) where
             (rw sixteen at (grand-opens z mag neg b (sdt p) (sgt p) (closed-1 p p (omega arith)) (closed-2 p p (le-refl p)) (λ x. cst (4 * p) x) m a v st w))) in
             let st′ : StandsD z (sdt p) (sgt (suc p)) p = (
               rw (sdt-out p p (le-refl p)) (old-kid p (omega arith) (omega arith)),
-              or-true (ltb p (D z)) (sgt (suc p) (p / 4)) (rw (up-is, sgt-in (suc p) a (omega arith)) y),
+              T-or-right (ltb p (D z)) (sgt (suc p) (p / 4)) (rw (up-is, sgt-in (suc p) a (omega arith)) y),
             ) in
             let r = s1 p (open-grand z mag neg b m (4 * p)) h e l st′ w′ in
             rw (out-cons p l, group-grand p a v d yes-d not-g, o, append-assoc (test-desc z mag neg b p) (children z mag neg b p) R)
@@ -739,7 +728,7 @@ module _ (z : Size) (mag : ℕ → ℕ) (neg : ℕ → Bool) (b : ℕ) where
       let e : suc n + f ≡ suc (n + f) = omega arith in
       let next : 4 * p + 4 ≡ 4 * suc p = omega arith in
       let lone : Alone z (split-desc z mag (suc b)) (split-grand z mag (suc b)) (4 * p) =
-      or-left (ltb (4 * p) (D z)) (split-desc z mag (suc b) (4 * p / 4)) (lt→ltb (4 * p) (D z) (omega arith)) in
+      T-or (ltb (4 * p) (D z)) (split-desc z mag (suc b) (4 * p / 4)) (lt→ltb (4 * p) (D z) (omega arith)) in
       let st = coef-step m (4 * p) (found z mag b (4 * p)) (w .coef (4 * p) (omega arith) lone) (found-le (4 * p)) in
       rw e (res-on (n + f) m m (4 * p) (4 * suc p) [] o (omega arith) (st .0) (st .1) (st .2 ∙ next) (before n (suc p) f m o (omega arith) w r))
 
@@ -754,7 +743,7 @@ module _ (z : Size) (mag : ℕ → ℕ) (neg : ℕ → Bool) (b : ℕ) where
       (λ y u. sym (sdt-out (z .e) y u)) (λ y u. sym (sgt-out (z .e) y (omega arith)))
       (λ x. found z mag b x) (λ x. cst (4 * z .e) x) m (λ x u t. sym (cst-was (4 * z .e) x t)) w in
       let last : Alone z (sdt (z .e)) (sgt (z .e)) (4 * z .e - 1) =
-      or-left (ltb (4 * z .e - 1) (D z)) (sdt (z .e) ((4 * z .e - 1) / 4)) (lt→ltb (4 * z .e - 1) (D z) (omega arith)) in
+      T-or (ltb (4 * z .e - 1) (D z)) (sdt (z .e) ((4 * z .e - 1) / 4)) (lt→ltb (4 * z .e - 1) (D z) (omega arith)) in
       let at : Spot z (sdt (z .e)) (sgt (z .e)) (suc (4 * z .e - 1)) =
       after-alone z (sdt (z .e)) (sgt (z .e)) (closed-1 (z .e) (z .e) (omega arith)) (closed-2 (z .e) (z .e) (le-refl _)) (4 * z .e - 1) last in
       let here : suc (4 * z .e - 1) ≡ 4 * z .e = omega arith in

@@ -8,6 +8,7 @@ use native.Mathlib.Nat.{le-refl, zero-add, pow-succ', pow-le-pow-right}
 use native.Mathlib.Omega.{arith}
 use borrow.Author.Tests.{eqb-true, eqb-false}
 use lib.Dec.{T, ltb, eqb, ltb→lt, nltb→le, lt→ltb, T-not, not-T}
+use Rattle.nls.proofs.Booleans.{T-or, bool}
 use Rattle.nls.proofs.Counting.Tree.{Size, D}
 
 -- k steps up from x, and k steps down by first children
@@ -68,14 +69,6 @@ nor-left false t h = tt
 nor-right : (s t : Bool) → T (not (s || t)) → T (not t)
 nor-right true t h = absurd h
 nor-right false t h = h
-
-or-left : (s t : Bool) → T s → T (s || t)
-or-left true t h = tt
-or-left false t h = absurd h
-
-bool : (t : Bool) → T t ⊎ T (not t)
-bool true = inl tt
-bool false = inr tt
 
 module _ (z : Size) (sd sg : ℕ → Bool) where
   -- a coefficient that stands alone; DESC(a), GRAND(a) that stands; a set over what is k steps down from a
@@ -184,7 +177,7 @@ module _ (z : Size) (sd sg : ℕ → Bool) where
             absurd (h k c (in-run k (up k (suc x)) x (omega (arith, ne)) (omega arith)))
 
     pub first-spot : Spot 0
-    first-spot = inl (or-left (ltb 0 (D z)) (sd (0 / 4)) (lt→ltb 0 (D z) (omega arith)))
+    first-spot = inl (T-or (ltb 0 (D z)) (sd (0 / 4)) (lt→ltb 0 (D z) (omega arith)))
 
     pub after-alone : (x : ℕ) → Alone x → Spot (suc x)
     after-alone x t =

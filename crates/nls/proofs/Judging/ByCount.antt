@@ -1,6 +1,6 @@
 -- THE COUNT: at the last root of the first plane D + 3D/4 - 1 bits were used exactly if no 1 was read. So the decoder needs the count and no flag.
 use mathlib.Core.Path.{_≡_, refl, sym, ap, subst, _∙_}
-use mathlib.Core.Bool.{Bool, true, false, not, _||_, true≢false, false≢true}
+use mathlib.Core.Bool.{Bool, true, false, not, _||_, true≢false, false≢true, or-true, or-false, or-assoc}
 use mathlib.Core.Logic.{_⊎_, inl, inr}
 use mathlib.Core.Option.{some}
 use mathlib.Core.List.{List, [], _∷_}
@@ -10,6 +10,7 @@ use native.Mathlib.Decide.{decLt, ℕ-discrete}
 use lib.ListN.{length, getD}
 use lib.Dec.{ltb, eqb}
 use borrow.Author.Tests.{ltb-true, ltb-false, eqb-true, eqb-false, eq-eqb}
+use Rattle.tree.proofs.Lists.{or-left}
 use Rattle.nls.specs.Marks.{skip, setSkip, startMarks}
 use Rattle.nls.specs.Scan.{State, Look, over, silent, asks, Question, Pass, pixels, sets, refining, at, look, lookAt, lookPixels, lookSets, lookRefining, tell, tellAt, tellSets, silently, settle, movesLeft, ask, asked, next, reach, start}
 use Rattle.nls.proofs.Arrays.{Bits}
@@ -27,25 +28,9 @@ use Rattle.nls.proofs.Judging.Decide.{clash-by, None, clash-to, clash-f
 use Rattle.nls.proofs.Judging.Flag.{F1, Fl, on-ask1, Blank, blank-run, flag-to, flag-of, z, g1}
 use Rattle.nls.proofs.Judging.Decoder.{lit, Right, Some}
 
-t-or : (x y : Bool) → x ≡ true → (x || y) ≡ true
-t-or true y e = refl
-t-or false y e = absurd (false≢true e)
-
-or-t : (x : Bool) → (x || true) ≡ true
-or-t true = refl
-or-t false = refl
-
 f-or : (x : Bool) → x ≡ false → (x || false) ≡ false
 f-or true e = absurd (true≢false e)
 f-or false e = refl
-
-or-nil : (x : Bool) → (x || false) ≡ x
-or-nil true = refl
-or-nil false = refl
-
-or-step : (x a y : Bool) → ((x || a) || y) ≡ (x || (a || y))
-or-step true a y = refl
-or-step false a y = refl
 
 module _ (N D P : ℕ) (D-big : 4 ≤ D) (D-4 : D % 4 ≡ 0) (I-16 : 4 ^ N % 16 ≡ 0) (D-I : 4 * D ≤ 4 ^ N) where
   abbrev I : ℕ
@@ -189,13 +174,13 @@ module _ (N D P : ℕ) (D-big : 4 ≤ D) (D-4 : D % 4 ≡ 0) (I-16 : 4 ^ N % 16 
 
       on-0 : (x y : ℕ) → y ≡ x + 1 → Tally n hit x → Tally (n + 1) (hit || false) y
       on-0 x y e (inl t) = inl (f-or hit (t .0), omega (arith, t .1))
-      on-0 x y e (inr t) = inr (t-or hit false (t .0), omega (arith, t .1))
+      on-0 x y e (inr t) = inr (or-left hit false (t .0), omega (arith, t .1))
 
       jt-pix : (b i : ℕ) (m : List ℕ) (x y a : Bool) → ltb i I ≡ x → eqb (getD m i 0) 1 ≡ y → AA (suc b) pixels i false m → J-at n hit (suc b) pixels i false m → told N A (asked I (lookPixels b i m x y)) a
           → J (n + 1) (hit || a) (tellAt I (suc b) pixels i false m a)
       jt-pix b i m false y a ex ey z j t = absurd t
       jt-pix b i m true false a ex ey z j t = absurd t
-      jt-pix b i m true true true ex ey z j t = λ e. (or-t hit, over1 (D - (D - i)) (j e))
+      jt-pix b i m true true true ex ey z j t = λ e. (or-true hit, over1 (D - (D - i)) (j e))
       jt-pix b i m true true false ex ey z j t = λ e. on-0 (D - (D - i)) (D - (D - (i + 1))) (omega (arith, low e (decLt i D))) (j e)
         where
           mk : getD m i 0 ≡ 1
@@ -212,7 +197,7 @@ module _ (N D P : ℕ) (D-big : 4 ≤ D) (D-4 : D % 4 ≡ 0) (I-16 : 4 ^ N % 16 
           → Good-at D I D-big D-4 I-16 P (F1 fl) (suc b) sets i false m → J-at n hit (suc b) sets i false m → told N A (asked I (lookSets b i m x d g c)) a → J (n + 1) (hit || a) (tellSets I (suc b) i m a d g)
       jt-sets b i m false d g c a ex ed eg ec z f j t = absurd t
       jt-sets b i m true false false false a ex ed eg ec z f j t = absurd t
-      jt-sets b i m true true g c true ex ed eg ec z f j t = λ e l. inr (or-t hit, over1 (D + (i / 4 - D / 4)) (j e l))
+      jt-sets b i m true true g c true ex ed eg ec z f j t = λ e l. inr (or-true hit, over1 (D + (i / 4 - D / 4)) (j e l))
       jt-sets b i m true true g c false ex ed eg ec z f j t = λ e l.
           (let is : (i % 4 ≡ 0) × (stands D I (z .1 .0) (i / 4) ≡ true) × ((z .1 .0) .sD (i / 4) ≡ false) × (D ≤ i) = is-D D I D-big D-4 I-16 (z .1 .0) m (z .1 .1 .g .core) i (ltb-true i I ex) (eqb-true _ _ ed) in
           on-0 (D + (i / 4 - D / 4)) (D + ((i + 4) / 4 - D / 4)) (omega (arith, is .0, is .3)) (j e (omega arith)))
@@ -224,7 +209,7 @@ module _ (N D P : ℕ) (D-big : 4 ≤ D) (D-4 : D % 4 ≡ 0) (I-16 : 4 ^ N % 16 
         where
           far : (i ≡ 16 * (i / 16)) × ((z .1 .0) .sD (i / 16) ≡ true) × ((z .1 .0) .sG (i / 16) ≡ false) × (D ≤ 4 * (i / 16)) × (alone D I (z .1 .0) i ≡ false) → i + 16 < 4 * D → ⊥
           far r l = omega (arith, r .0, r .3)
-      jt-sets b i m true false false true true ex ed eg ec z f j t = λ e l. (or-t hit, over1 (D + (i / 4 - D / 4)) (j e l))
+      jt-sets b i m true false false true true ex ed eg ec z f j t = λ e l. (or-true hit, over1 (D + (i / 4 - D / 4)) (j e l))
       jt-sets b i m true false false true false ex ed eg ec z f j t = λ e l. go (j e (omega arith))
         where
           mk : getD m i 0 ≡ 4
@@ -245,12 +230,12 @@ module _ (N D P : ℕ) (D-big : 4 ≤ D) (D-4 : D % 4 ≡ 0) (I-16 : 4 ^ N % 16 
 
           go : Tally n hit (D + (i / 4 - D / 4)) → Tally (n + 1) (hit || false) (D + ((i + 1) / 4 - D / 4))
           go (inl r) = absurd (fn (r .0) (was ((f .1 .0) .sD (i / 4)) refl))
-          go (inr r) = inr (t-or hit false (r .0), omega (arith, r .1))
+          go (inr r) = inr (or-left hit false (r .0), omega (arith, r .1))
 
       jt : (l : ℕ) (p : Pass) (i : ℕ) (s : Bool) (m : List ℕ) (a : Bool) → AA l p i s m → Good-at D I D-big D-4 I-16 P (F1 fl) l p i s m → J-at n hit l p i s m → told N A (asked I (lookAt I l p i s m)) a → J (n + 1) (hit || a) (tellAt I l p i s m a)
       jt zero p i s m a z f j t = absurd t
-      jt (suc b) pixels i true m a z f j t = λ e. inr (t-or hit a ((j e) .0), omega (arith, (j e) .1))
-      jt (suc b) sets i true m a z f j t = λ e l. inr (t-or hit a ((j e (omega arith)) .0), omega (arith, (j e (omega arith)) .1))
+      jt (suc b) pixels i true m a z f j t = λ e. inr (or-left hit a ((j e) .0), omega (arith, (j e) .1))
+      jt (suc b) sets i true m a z f j t = λ e l. inr (or-left hit a ((j e (omega arith)) .0), omega (arith, (j e (omega arith)) .1))
       jt (suc b) refining i true m a z f j t = absurd z
       jt (suc b) pixels i false m a z f j t = jt-pix b i m (ltb i I) (eqb (getD m i 0) 1) a refl refl z j t
       jt (suc b) sets i false m a z f j t = jt-sets b i m (ltb i I) (eqb (getD m i 0) 5) (eqb (getD m i 0) 6) (eqb (getD m i 0) 4) a refl refl refl refl z f j t
@@ -282,9 +267,9 @@ module _ (N D P : ℕ) (D-big : 4 ≤ D) (D-4 : D % 4 ≡ 0) (I-16 : 4 ^ N % 16 
     j-run : (k w : Bits) (O : Question → Type 0) (n : ℕ) (hit : Bool) (fl : Type 0) → (hit ≡ false → fl → ⊥) → (s : State) (u : List Bool) → k ⊑ A → All N D P D-big D-4 I-16 D-I A false k w O s → Good D I D-big D-4 I-16 P (F1 fl) s → J n hit s
         → Fits N State (ask I) (next I) A s u → J (n + length u) (hit || lit u) (reach (4 ^ N) s u)
     unfolding reach lit
-    j-run k w O n hit fl fn s [] l z g j f = subst (λ (x : Bool). J (n + 0) x s) (sym (or-nil hit)) (subst (λ (x : ℕ). J x hit s) {x = n} {y = n + 0} (omega arith) j)
+    j-run k w O n hit fl fn s [] l z g j f = subst (λ (x : Bool). J (n + 0) x s) (sym (or-false hit)) (subst (λ (x : ℕ). J x hit s) {x = n} {y = n + 0} (omega arith) j)
     j-run k w O n hit fl fn s (a ∷ u) l z g j f =
-        subst (λ (x : Bool). J (n + suc (length u)) x (reach (4 ^ N) (next I s a) u)) (or-step hit a (lit u))
+        subst (λ (x : Bool). J (n + suc (length u)) x (reach (4 ^ N) (next I s a) u)) (or-assoc hit a (lit u))
         (subst (λ (x : ℕ). J x ((hit || a) || lit u) (reach (4 ^ N) (next I s a) u)) {x = (n + 1) + length u} {y = n + suc (length u)} (omega arith)
         (j-run (knowO (ask I s) a k) (afterO N (ask I s) a w) (λ p. O p ⊎ ((a ≡ true) × (ask I s ≡ some p))) (n + 1) (hit || a) (fl ⊎ (a ≡ true)) (fn-next hit a fl fn) (next I s a) u
         (belowO N State (ask I) (next I) A k (ask I s) a (f .0) l) (all-next N D P D-big D-4 I-16 D-I A false k w O s a z (f .0)) (good1 s a fl g (f .0)) (j-next k w O n hit fl fn s a l z g j (f .0)) (f .1)))

@@ -6,14 +6,14 @@ use Prim.Native.Nat.{ℕ, zero, suc, _+_, _*_, _/_, _%_, _^_, _≤_, _<_}
 use native.Mathlib.Omega.{arith}
 use native.Mathlib.Decide.{decLt, ℕ-discrete}
 use lib.ListN.{getD}
-use lib.Dec.{ltb}
 use borrow.Author.Tests.{lt-ltb}
+use Rattle.sizes.proofs.Laws.{both}
 use Rattle.nls.specs.Scan.{bitOf, inDesc, inGrand}
 use Rattle.nls.proofs.Arrays.{Bits, inside, ans, below}
 use Rattle.nls.proofs.Machine.Table.{Cfg, alone, stands, Ok, alone-no, no-alone, stands-no, no-dg, low}
 use Rattle.nls.proofs.Machine.Cover.{Under, kid, far, Core, Sets, is-alone, is-D, is-G}
 use Rattle.nls.proofs.Machine.Steps.{preds, From}
-use Rattle.nls.proofs.Judging.Most.{and-i, member}
+use Rattle.nls.proofs.Judging.Most.{member}
 use Rattle.nls.proofs.Reading.Whole.{fam, Known, under-below, under-ge}
 
 -- An array of P planes: no bit from P on, and one in plane P - 1
@@ -104,11 +104,11 @@ module _ (N D P : ℕ) (D-big : 4 ≤ D) (D-4 : D % 4 ≡ 0) (I-16 : 4 ^ N % 16 
 
     yes-D : (g j : ℕ) → 1 ≤ g → j < I → Under g j → A .has j b ≡ true → ans N A (inDesc g b) ≡ true
     unfolding ans inside
-    yes-D g j g1 hj u a = member N (λ x. below N g x) A b j (and-i (ltb j I) (below N g j) (lt-ltb j I hj) (under-below N g j g1 hj u)) a
+    yes-D g j g1 hj u a = member N (λ x. below N g x) A b j (both (lt-ltb j I hj) (under-below N g j g1 hj u)) a
 
     yes-G : (q j : ℕ) → 1 ≤ q → j < I → Under q (j / 4) → A .has j b ≡ true → ans N A (inGrand q b) ≡ true
     unfolding ans inside
-    yes-G q j g1 hj u a = member N (λ x. below N q (x / 4)) A b j (and-i (ltb j I) (below N q (j / 4)) (lt-ltb j I hj) (under-below N q (j / 4) g1 (omega arith) u)) a
+    yes-G q j g1 hj u a = member N (λ x. below N q (x / 4)) A b j (both (lt-ltb j I hj) (under-below N q (j / 4) g1 (omega arith) u)) a
 
     pub clash-grand : getD m t 0 ≡ 6 → ((j : ℕ) → j / 4 ≡ t / 16 → getD m j 0 ≡ 1) → ans N A (inGrand (t / 16) b) ≡ true
     clash-grand mk f =

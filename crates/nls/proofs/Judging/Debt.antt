@@ -9,7 +9,7 @@ use Rattle.nls.specs.Scan.{Question, bitOf, inDesc, inGrand}
 use Rattle.nls.proofs.Arrays.{Bits}
 use Rattle.nls.proofs.Machine.Table.{Cfg, alone}
 use Rattle.nls.proofs.Machine.Split.{withD, withG, withA, al-at, al-else, alone-A, sD-on, sD-off, sG-D, al-D-on, al-D-off, alone-off}
-use Rattle.nls.proofs.Machine.Push.{sD-G, al-G, alone-G, sG-G-on, sG-G-off}
+use Rattle.nls.proofs.Machine.Push.{sD-G, al-G, alone-G, sG-on, sG-off}
 use Rattle.nls.proofs.Machine.Cover.{Under}
 
 module _ (D I P : ℕ) where
@@ -193,15 +193,15 @@ module _ (D I P : ℕ) where
   }
     where
       grow : (h : ℕ) → c .sG h ≡ true → Dec (h ≡ g) → (withG g c) .sG h ≡ true
-      grow h y (yes q) = sG-G-on g c h q
-      grow h y (no q) = sG-G-off g c h q ∙ y
+      grow h y (yes q) = sG-on g c h q
+      grow h y (no q) = sG-off g c h q ∙ y
 
       oG′ : (h e : ℕ) → O (inGrand h e) ⊎ (inGrand g b ≡ inGrand h e) → ((withG g c) .sG h ≡ true) × (b ≤ e) × ((j x : ℕ) → j < I → Under h (j / 4) → k .has j x ≡ true → x ≤ e)
       oG′ h e (inl o) = let r : (c .sG h ≡ true) × (b ≤ e) × ((j x : ℕ) → j < I → Under h (j / 4) → k .has j x ≡ true → x ≤ e) = p .oG h e o in (grow h (r .0) (ℕ-discrete h g), r .1, r .2)
       oG′ h e (inr y) =
           let e1 : g ≡ h = cc in
           let e2 : b ≡ e = cc in
-          (sG-G-on g c h (sym e1), omega arith, λ j x hj u w. absurd (new j x hj (subst (λ (y : ℕ). Under y (j / 4)) (sym e1) u) w))
+          (sG-on g c h (sym e1), omega arith, λ j x hj u w. absurd (new j x hj (subst (λ (y : ℕ). Under y (j / 4)) (sym e1) u) w))
 
       oD′ : (h e : ℕ) → O (inDesc h e) ⊎ (inGrand g b ≡ inDesc h e) → ((withG g c) .sD h ≡ true) × (b ≤ e) × ((j x : ℕ) → j < I → Under h j → k .has j x ≡ true → x ≤ e)
       oD′ h e (inr y) = absurd (let bad : _≡_ {A = ℕ} 0 1 = cc in omega arith)

@@ -1,6 +1,6 @@
 -- THE WHOLE ARRAY: at the last root of the first plane, "nothing was found significant" is "no 1 was read". So the decoder needs one flag and no walk.
 use mathlib.Core.Path.{_≡_, refl, sym, ap, subst, _∙_}
-use mathlib.Core.Bool.{Bool, true, false, not, _||_, true≢false, false≢true}
+use mathlib.Core.Bool.{Bool, true, false, not, true≢false, false≢true}
 use mathlib.Core.Logic.{_⊎_, inl, inr}
 use mathlib.Core.Option.{Option, none, some}
 use mathlib.Core.List.{List, [], _∷_}
@@ -10,6 +10,7 @@ use native.Mathlib.Decide.{decLt, ℕ-discrete}
 use lib.ListN.{getD}
 use lib.Dec.{ltb, eqb}
 use Rattle.nls.specs.Scan.{State, Look, over, silent, asks, Question, bitOf, signOf, inDesc, inGrand, Pass, pixels, sets, refining, look, lookAt, lookPixels, lookSets, lookRefining, ask, asked, next, reach, start}
+use Rattle.nls.proofs.Booleans.{neither}
 use Rattle.nls.proofs.Arrays.{Bits}
 use Rattle.nls.proofs.Judging.Most.{told, Fits, most, afterO}
 use Rattle.nls.proofs.Reading.Know.{least, know, knowO, know-sgn-has}
@@ -23,10 +24,6 @@ use Rattle.nls.proofs.Judging.Open.{All, All-at, Owing, all-next, all-r
 use Rattle.nls.proofs.Judging.Enough.{whole-D}
 use Rattle.nls.proofs.Judging.Decide.{None}
 use Rattle.nls.proofs.Judging.Decoder.{lit}
-
-or-no : (x y : Bool) → (x || y) ≡ false → (x ≡ false) × (y ≡ false)
-or-no true y e = absurd (true≢false e)
-or-no false y e = (refl, e)
 
 abbrev Plain : Question → Type 0
 Plain (bitOf i b) = Unit {0}
@@ -45,11 +42,11 @@ Fl (a ∷ u) fl = Fl u (fl ⊎ (a ≡ true))
 pub unfl : (u : List Bool) (fl : Type 0) → (fl → ⊥) → lit u ≡ false → Fl u fl → ⊥
 unfolding lit
 unfl [] fl n e x = n x
-unfl (a ∷ u) fl n e x = unfl u (fl ⊎ (a ≡ true)) go ((or-no a (lit u) e) .1) x
+unfl (a ∷ u) fl n e x = unfl u (fl ⊎ (a ≡ true)) go ((neither a (lit u) e) .1) x
   where
     go : fl ⊎ (a ≡ true) → ⊥
     go (inl y) = n y
-    go (inr y) = true≢false (sym y ∙ (or-no a (lit u) e) .0)
+    go (inr y) = true≢false (sym y ∙ (neither a (lit u) e) .0)
 
 module _ (N D P : ℕ) (D-big : 4 ≤ D) (D-4 : D % 4 ≡ 0) (I-16 : 4 ^ N % 16 ≡ 0) (D-I : 4 * D ≤ 4 ^ N) where
   abbrev I : ℕ

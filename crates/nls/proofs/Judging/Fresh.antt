@@ -11,7 +11,7 @@ use lib.Dec.{lit<, lit≤}
 use Rattle.nls.proofs.Machine.Table.{Cfg, alone, stands}
 use Rattle.nls.proofs.Machine.Table
 use Rattle.nls.proofs.Machine.Split.{withD, withG, sD-off, stands-D, sD-on, alone-off, al-D-on, al-D-off, sG-D}
-use Rattle.nls.proofs.Machine.Push.{sD-G, al-G, alone-G, stands-G-off, sG-G-off, sG-G-on}
+use Rattle.nls.proofs.Machine.Push.{sD-G, al-G, alone-G, stands-G-off, sG-off, sG-on}
 use Rattle.nls.proofs.Machine.Cover.{Under, kid, far, Core, Preds, Pix, Sets, Fine, is-alone, is-D, is-G, mark-D, mark-G}
 use Rattle.nls.proofs.Judging.Clash.{dead-D, dead-G}
 use Rattle.nls.proofs.Judging.Apart.{apart-DD, apart-GD, apart-GG, grand-of}
@@ -321,10 +321,10 @@ module _ (N D P : ℕ) (D-big : 4 ≤ D) (D-4 : D % 4 ≡ 0) (I-16 : 4 ^ N % 16 
               p .fD x hx z (mark-D′ c m (g .core) x hx (i .0) (i .3) (sym (stands-G-off D I (t / 16) c (x / 4) q) ∙ i .1) (sym (sD-G (t / 16) c (x / 4)) ∙ i .2)) j hj u
 
           fG′ : (x : ℕ) → x < I → t ≤ x → getD m′ x 0 ≡ 6 → (j : ℕ) → j < I → Under (x / 16) (j / 4) → Dec (x / 16 ≡ t / 16) → T b j
-          fG′ x hx z e j hj u (yes q) = absurd (true≢false (sym (sG-G-on (t / 16) c (x / 16) q) ∙ (isG c′ m′ (g′ .core) x hx e) .2))
+          fG′ x hx z e j hj u (yes q) = absurd (true≢false (sym (sG-on (t / 16) c (x / 16) q) ∙ (isG c′ m′ (g′ .core) x hx e) .2))
           fG′ x hx z e j hj u (no q) =
               let i : (x ≡ 16 * (x / 16)) × (c′ .sD (x / 16) ≡ true) × (c′ .sG (x / 16) ≡ false) × (D ≤ 4 * (x / 16)) × (alone D I c′ x ≡ false) = isG c′ m′ (g′ .core) x hx e in
-              p .fG x hx z (mark-G′ c m (g .core) x hx (i .0) (i .3) (sym (sD-G (t / 16) c (x / 16)) ∙ i .1) (sym (sG-G-off (t / 16) c (x / 16) q) ∙ i .2)) j hj u
+              p .fG x hx z (mark-G′ c m (g .core) x hx (i .0) (i .3) (sym (sD-G (t / 16) c (x / 16)) ∙ i .1) (sym (sG-off (t / 16) c (x / 16) q) ∙ i .2)) j hj u
 
       -- the next plane: nothing is settled in it, and no MNP is left
       pub frf-end : (t : ℕ) (c : Cfg) (m : List ℕ) (b₀ : ℕ) → b ≡ suc b₀ → FineR t c m → I ≤ t → FineFr T M b t m → ((j : ℕ) → j < I → T b₀ j) → PixFr T M b₀ 0 m

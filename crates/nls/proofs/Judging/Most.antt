@@ -1,6 +1,6 @@
 -- The greatest array that a run of answers allows. Nothing here looks at marks: it holds of any machine that asks.
 use mathlib.Core.Path.{_≡_, refl, sym, ap, subst, _∙_}
-use mathlib.Core.Bool.{Bool, true, false, not, _&&_, _||_, true≢false, false≢true}
+use mathlib.Core.Bool.{Bool, true, false, not, _&&_, true≢false, false≢true}
 use mathlib.Core.Option.{Option, none, some}
 use mathlib.Core.Logic.{_⊎_, inl, inr}
 use mathlib.Core.List.{List, [], _∷_}
@@ -8,7 +8,10 @@ use Prim.Native.Nat.{ℕ, zero, suc, _/_, _^_, _<_}
 use native.Mathlib.Omega.{arith}
 use lib.Dec.{ltb, eqb}
 use borrow.Author.Tests.{eqb-true, eqb-false, eq-eqb, ltb-true}
+use Rattle.sizes.proofs.Laws.{both-left, both-right, both}
+use Rattle.tree.proofs.Lists.{or-left, or-right}
 use Rattle.nls.specs.Scan.{Question, bitOf, signOf, inDesc, inGrand}
+use Rattle.nls.proofs.Booleans.{or-cases, not-true-false}
 use Rattle.nls.proofs.Arrays.{below, any, Bits, inside, ans}
 
 -- every bit of A is in B
@@ -34,45 +37,14 @@ after N (inDesc g b) false w = clear N (inDesc g b) b w
 after N (inGrand g b) true w = w
 after N (inGrand g b) false w = clear N (inGrand g b) b w
 
-pub and-l : (a b : Bool) → (a && b) ≡ true → a ≡ true
-and-l true b h = refl
-and-l false b h = h
-
-pub and-r : (a b : Bool) → (a && b) ≡ true → b ≡ true
-and-r true b h = h
-and-r false b h = absurd (false≢true h)
-
-pub and-i : (a b : Bool) → a ≡ true → b ≡ true → (a && b) ≡ true
-and-i true b h k = k
-and-i false b h k = h
-
-pub or-cases : (a b : Bool) → (a || b) ≡ true → (a ≡ true) ⊎ (b ≡ true)
-or-cases true b h = inl refl
-or-cases false b h = inr h
-
-pub or-l : (a b : Bool) → a ≡ true → (a || b) ≡ true
-or-l true b h = refl
-or-l false b h = absurd (false≢true h)
-
-pub or-r : (a b : Bool) → b ≡ true → (a || b) ≡ true
-or-r true b h = refl
-or-r false b h = h
-
-pub not-true-false : (a : Bool) → (a ≡ true → ⊥) → a ≡ false
-not-true-false true h = absurd (h refl)
-not-true-false false h = refl
-
-eqb-ne : (j n : ℕ) → eqb j n ≡ false → (j ≡ n → ⊥)
-eqb-ne j n q = eqb-false j n q
-
 pub any-some : (n : ℕ) (p : ℕ → Bool) (j : ℕ) → j < n → p j ≡ true → any n p ≡ true
 unfolding any
 any-some zero p j h e = absurd (omega arith)
 any-some (suc n) p j h e = go (eqb j n) refl (λ k. any-some n p j k e)
   where
     go : (t : Bool) → eqb j n ≡ t → (j < n → any n p ≡ true) → any (suc n) p ≡ true
-    go true q ih = or-l (p n) (any n p) (subst (λ (k : ℕ). p k ≡ true) (eqb-true j n q) e)
-    go false q ih = or-r (p n) (any n p) (ih (omega (arith, eqb-ne j n q)))
+    go true q ih = or-left (p n) (any n p) (subst (λ (k : ℕ). p k ≡ true) (eqb-true j n q) e)
+    go false q ih = or-right (p n) (any n p) (ih (omega (arith, eqb-false j n q)))
 
 pub any-find : (n : ℕ) (p : ℕ → Bool) → any n p ≡ true → (j : ℕ) × (j < n) × (p j ≡ true)
 unfolding any
@@ -87,7 +59,7 @@ any-find (suc n) p h = go (or-cases (p n) (any n p) h) (any-find n p)
 pub any-mono : (n : ℕ) (s p q : ℕ → Bool) → ((j : ℕ) → p j ≡ true → q j ≡ true) → any n (λ j. s j && p j) ≡ true → any n (λ j. s j && q j) ≡ true
 any-mono n s p q h e =
     let r : (j : ℕ) × (j < n) × ((s j && p j) ≡ true) = any-find n (λ j. s j && p j) e in
-    any-some n (λ j. s j && q j) (r .0) (r .1) (and-i (s (r .0)) (q (r .0)) (and-l (s (r .0)) (p (r .0)) (r .2)) (h (r .0) (and-r (s (r .0)) (p (r .0)) (r .2))))
+    any-some n (λ j. s j && q j) (r .0) (r .1) (both (both-left (s (r .0)) (p (r .0)) (r .2)) (h (r .0) (both-right (s (r .0)) (p (r .0)) (r .2))))
 
 pub sign-self : (i : ℕ) (a : Bool) (v : Bits) → (sign i a v) .neg i ≡ a
 unfolding sign
@@ -118,13 +90,13 @@ module _ (N : ℕ) where
   pub after-has : (q : Question) (a : Bool) (w : Bits) → after N q a w ⊑ w
   unfolding after clear sign _⊑_
   after-has (bitOf i b) true w j c h = h
-  after-has (bitOf i b) false w j c h = and-r (not (inside N (bitOf i b) j && eqb c b)) (w .has j c) h
+  after-has (bitOf i b) false w j c h = both-right (not (inside N (bitOf i b) j && eqb c b)) (w .has j c) h
   after-has (signOf i) true w j c h = h
   after-has (signOf i) false w j c h = h
   after-has (inDesc g b) true w j c h = h
-  after-has (inDesc g b) false w j c h = and-r (not (inside N (inDesc g b) j && eqb c b)) (w .has j c) h
+  after-has (inDesc g b) false w j c h = both-right (not (inside N (inDesc g b) j && eqb c b)) (w .has j c) h
   after-has (inGrand g b) true w j c h = h
-  after-has (inGrand g b) false w j c h = and-r (not (inside N (inGrand g b) j && eqb c b)) (w .has j c) h
+  after-has (inGrand g b) false w j c h = both-right (not (inside N (inGrand g b) j && eqb c b)) (w .has j c) h
 
   -- A bit that is not about q at b stays
   pub stays : (x y v : Bool) → ((x ≡ true) → (y ≡ true) → ⊥) → v ≡ true → (not (x && y) && v) ≡ true
@@ -136,7 +108,7 @@ module _ (N : ℕ) where
   pub member : (s : ℕ → Bool) (A : Bits) (b j : ℕ) → (ltb j (4 ^ N) && s j) ≡ true → A .has j b ≡ true
       → any (4 ^ N) (λ k. (ltb k (4 ^ N) && s k) && A .has k b) ≡ true
   member s A b j m h = any-some (4 ^ N) (λ k. (ltb k (4 ^ N) && s k) && A .has k b) j
-      (ltb-true j (4 ^ N) (and-l (ltb j (4 ^ N)) (s j) m)) (and-i (ltb j (4 ^ N) && s j) (A .has j b) m h)
+      (ltb-true j (4 ^ N) (both-left (ltb j (4 ^ N)) (s j) m)) (both m h)
 
   set-keeps : (s : ℕ → Bool) (A w : Bits) (b : ℕ) → any (4 ^ N) (λ k. (ltb k (4 ^ N) && s k) && A .has k b) ≡ false
       → A ⊑ w → (j c : ℕ) → A .has j c ≡ true → (not ((ltb j (4 ^ N) && s j) && eqb c b) && w .has j c) ≡ true

@@ -1,5 +1,5 @@
 -- MAGNITUDES AS NUMBERS: arrays of numbers below 2^P and arrays of bits are the same, so what is proved of bits holds of numbers.
-use mathlib.Core.Path.{_≡_, refl, sym, ap, subst, _∙_}
+use mathlib.Core.Path.{_≡_, sym, ap, subst, _∙_}
 use mathlib.Core.Bool.{Bool, true, false, true≢false}
 use mathlib.Core.Option.{Option, none, some}
 use mathlib.Core.List.{List, [], _∷_}
@@ -12,8 +12,9 @@ use lib.Dec.{eqb, lit<, lit≤}
 use borrow.Author.Tests.{eq-eqb, ne-eqb}
 use Rattle.bits.specs.Bits.{bit}
 use Rattle.nls.specs.Scan.{Question, bitOf, signOf, inDesc, inGrand, ask, next}
+use Rattle.nls.proofs.Booleans.{not-true-false, same-bool}
 use Rattle.nls.proofs.Arrays.{Arr, Bits, bits-of, ans, inside}
-use Rattle.nls.proofs.Judging.Most.{told, Fits, any-mono, not-true-false}
+use Rattle.nls.proofs.Judging.Most.{told, Fits, any-mono}
 use Rattle.nls.proofs.Judging.Clash.{Valid}
 
 pub bit-0 : (x : ℕ) → bit x 0 ≡ eqb (x % 2) 1
@@ -93,18 +94,12 @@ planes-of I P B v = record { under = λ j. num-lt P (B .has j); least = (v .top 
     big (no z) = omega (arith, z)
 
 module _ (N : ℕ) where
-  -- answers depend on bits and signs only
-  same : (x y : Bool) → (x ≡ true → y ≡ true) → (y ≡ true → x ≡ true) → x ≡ y
-  same true y f g = sym (f refl)
-  same false true f g = g refl
-  same false false f g = refl
-
   pub ans-ext : (A B : Bits) → ((i b : ℕ) → A .has i b ≡ B .has i b) → ((i : ℕ) → A .neg i ≡ B .neg i) → (q : Question) → ans N A q ≡ ans N B q
   unfolding ans
   ans-ext A B f g (bitOf i b) = f i b
   ans-ext A B f g (signOf i) = g i
-  ans-ext A B f g (inDesc h b) = same _ _ (any-mono (4 ^ N) (λ j. inside N (inDesc h b) j) (λ j. A .has j b) (λ j. B .has j b) (λ j e. sym (f j b) ∙ e)) (any-mono (4 ^ N) (λ j. inside N (inDesc h b) j) (λ j. B .has j b) (λ j. A .has j b) (λ j e. f j b ∙ e))
-  ans-ext A B f g (inGrand h b) = same _ _ (any-mono (4 ^ N) (λ j. inside N (inGrand h b) j) (λ j. A .has j b) (λ j. B .has j b) (λ j e. sym (f j b) ∙ e)) (any-mono (4 ^ N) (λ j. inside N (inGrand h b) j) (λ j. B .has j b) (λ j. A .has j b) (λ j e. f j b ∙ e))
+  ans-ext A B f g (inDesc h b) = same-bool _ _ (any-mono (4 ^ N) (λ j. inside N (inDesc h b) j) (λ j. A .has j b) (λ j. B .has j b) (λ j e. sym (f j b) ∙ e)) (any-mono (4 ^ N) (λ j. inside N (inDesc h b) j) (λ j. B .has j b) (λ j. A .has j b) (λ j e. f j b ∙ e))
+  ans-ext A B f g (inGrand h b) = same-bool _ _ (any-mono (4 ^ N) (λ j. inside N (inGrand h b) j) (λ j. A .has j b) (λ j. B .has j b) (λ j e. sym (f j b) ∙ e)) (any-mono (4 ^ N) (λ j. inside N (inGrand h b) j) (λ j. B .has j b) (λ j. A .has j b) (λ j e. f j b ∙ e))
 
   pub fits-ext : (S : Type 0) (ask : S → Option Question) (next : S → Bool → S) (A B : Bits) → ((i b : ℕ) → A .has i b ≡ B .has i b) → ((i : ℕ) → A .neg i ≡ B .neg i) → (s : S) (u : List Bool) → Fits N S ask next A s u → Fits N S ask next B s u
   fits-ext S ask next A B f g s [] h = tt

@@ -7,9 +7,11 @@ use native.Mathlib.Omega.{arith}
 use lib.ListN.{getD}
 use lib.Dec.{ltb, eqb}
 use borrow.Author.Tests.{ltb-true, lt-ltb, le-ltb}
+use Rattle.sizes.proofs.Laws.{both-right, both}
 use Rattle.nls.specs.Scan.{State, Look, over, silent, asks, Question, bitOf, signOf, inDesc, inGrand, Pass, pixels, sets, refining, look, lookAt, lookPixels, lookSets, lookRefining, ask, asked, next, start}
+use Rattle.nls.proofs.Booleans.{same-bool}
 use Rattle.nls.proofs.Arrays.{Arr, Bits, bits-of, ans, inside}
-use Rattle.nls.proofs.Judging.Most.{told, Fits, and-r, and-i}
+use Rattle.nls.proofs.Judging.Most.{told, Fits}
 use Rattle.nls.proofs.Judging.Clash.{Valid}
 use Rattle.nls.proofs.Judging.Refuse.{find-desc, find-grand, yes-desc, yes-grand}
 use Rattle.nls.proofs.Judging.Numbers.{Planes, num, b2n, arr-of, arr-has, planes-of, fits-ext}
@@ -52,11 +54,6 @@ module _ (I : ℕ) where
 abbrev pub only : ℕ → Bits → Bits
 only I B = record { has = λ j e. ltb j I && B .has j e; neg = B .neg }
 
-same : (x y : Bool) → (x ≡ true → y ≡ true) → (y ≡ true → x ≡ true) → x ≡ y
-same true y f g = sym (f refl)
-same false true f g = g refl
-same false false f g = refl
-
 keep : (x y : Bool) → x ≡ true → (x && y) ≡ y
 keep true y e = refl
 keep false y e = absurd (false≢true e)
@@ -77,12 +74,12 @@ module _ (N : ℕ) where
   only-ans : (B : Bits) (q : Question) → In (4 ^ N) (asks q) → ans N B q ≡ ans N (only (4 ^ N) B) q
   only-ans B (bitOf i b) h = unfold ans in sym (keep (ltb i (4 ^ N)) (B .has i b) (lt-ltb i (4 ^ N) h))
   only-ans B (signOf i) h = unfold ans in refl
-  only-ans B (inDesc g b) h = same _ _
-      (λ e. (let r : (j : ℕ) × (j < 4 ^ N) × (inside N (inDesc g b) j ≡ true) × (B .has j b ≡ true) = find-desc N B g b e in yes-desc N (only (4 ^ N) B) g b (r .0) (r .1) (r .2) (and-i (ltb (r .0) (4 ^ N)) (B .has (r .0) b) (lt-ltb (r .0) (4 ^ N) (r .1)) (r .3))))
-      (λ e. (let r : (j : ℕ) × (j < 4 ^ N) × (inside N (inDesc g b) j ≡ true) × ((ltb j (4 ^ N) && B .has j b) ≡ true) = find-desc N (only (4 ^ N) B) g b e in yes-desc N B g b (r .0) (r .1) (r .2) (and-r (ltb (r .0) (4 ^ N)) (B .has (r .0) b) (r .3))))
-  only-ans B (inGrand g b) h = same _ _
-      (λ e. (let r : (j : ℕ) × (j < 4 ^ N) × (inside N (inGrand g b) j ≡ true) × (B .has j b ≡ true) = find-grand N B g b e in yes-grand N (only (4 ^ N) B) g b (r .0) (r .1) (r .2) (and-i (ltb (r .0) (4 ^ N)) (B .has (r .0) b) (lt-ltb (r .0) (4 ^ N) (r .1)) (r .3))))
-      (λ e. (let r : (j : ℕ) × (j < 4 ^ N) × (inside N (inGrand g b) j ≡ true) × ((ltb j (4 ^ N) && B .has j b) ≡ true) = find-grand N (only (4 ^ N) B) g b e in yes-grand N B g b (r .0) (r .1) (r .2) (and-r (ltb (r .0) (4 ^ N)) (B .has (r .0) b) (r .3))))
+  only-ans B (inDesc g b) h = same-bool _ _
+      (λ e. (let r : (j : ℕ) × (j < 4 ^ N) × (inside N (inDesc g b) j ≡ true) × (B .has j b ≡ true) = find-desc N B g b e in yes-desc N (only (4 ^ N) B) g b (r .0) (r .1) (r .2) (both (lt-ltb (r .0) (4 ^ N) (r .1)) (r .3))))
+      (λ e. (let r : (j : ℕ) × (j < 4 ^ N) × (inside N (inDesc g b) j ≡ true) × ((ltb j (4 ^ N) && B .has j b) ≡ true) = find-desc N (only (4 ^ N) B) g b e in yes-desc N B g b (r .0) (r .1) (r .2) (both-right (ltb (r .0) (4 ^ N)) (B .has (r .0) b) (r .3))))
+  only-ans B (inGrand g b) h = same-bool _ _
+      (λ e. (let r : (j : ℕ) × (j < 4 ^ N) × (inside N (inGrand g b) j ≡ true) × (B .has j b ≡ true) = find-grand N B g b e in yes-grand N (only (4 ^ N) B) g b (r .0) (r .1) (r .2) (both (lt-ltb (r .0) (4 ^ N) (r .1)) (r .3))))
+      (λ e. (let r : (j : ℕ) × (j < 4 ^ N) × (inside N (inGrand g b) j ≡ true) × ((ltb j (4 ^ N) && B .has j b) ≡ true) = find-grand N (only (4 ^ N) B) g b e in yes-grand N B g b (r .0) (r .1) (r .2) (both-right (ltb (r .0) (4 ^ N)) (B .has (r .0) b) (r .3))))
 
   pub only-fits : (B : Bits) (s : State) (u : List Bool) → Fits N State (ask (4 ^ N)) (next (4 ^ N)) B s u → Fits N State (ask (4 ^ N)) (next (4 ^ N)) (only (4 ^ N) B) s u
   unfolding ask
@@ -96,8 +93,8 @@ module _ (N : ℕ) where
 
   pub only-valid : (P : ℕ) (B : Bits) → Valid (4 ^ N) P B → Valid (4 ^ N) P (only (4 ^ N) B)
   only-valid P B v = record {
-    cap = λ j e h. v .cap j e (and-r (ltb j (4 ^ N)) (B .has j e) h);
-    top = (v .top .0, v .top .1, v .top .2, v .top .3, and-i (ltb (v .top .0) (4 ^ N)) (B .has (v .top .0) (v .top .1)) (lt-ltb (v .top .0) (4 ^ N) (v .top .2)) (v .top .4));
+    cap = λ j e h. v .cap j e (both-right (ltb j (4 ^ N)) (B .has j e) h);
+    top = (v .top .0, v .top .1, v .top .2, v .top .3, both (lt-ltb (v .top .0) (4 ^ N) (v .top .2)) (v .top .4));
   }
 
   -- SOME ARRAY OF BITS IS SOME LIST OF NUMBERS: 0 from I on

@@ -10,6 +10,7 @@ use native.Mathlib.Decide.{ℕ-discrete}
 use lib.ListN.{getD, set}
 use lib.Dec.{ltb, eqb, lit<, lit≤}
 use borrow.Author.Tests.{ltb-true, ltb-false, lt-ltb, eqb-true, eqb-false}
+use Rattle.sizes.proofs.Laws.{both-right}
 use Rattle.nls.specs.Marks.{skip, setSkip, splitDesc, splitGrand, startMarks}
 use Rattle.nls.specs.Scan.{State, Look, over, silent, asks, Question, bitOf, signOf, inDesc, inGrand, Pass, pixels, sets, refining, at, look, lookAt, lookPixels, lookSets, lookRefining, tell, tellAt, tellSets, silently, settle, movesLeft, ask, asked, next, reach, start}
 use Rattle.nls.proofs.Arrays.{Bits, ans, inside, below}
@@ -18,7 +19,7 @@ use Rattle.nls.proofs.Machine.Split.{withD, withG, withA, same-D, same-
 use Rattle.nls.proofs.Machine.Push.{al-G, sD-G}
 use Rattle.nls.proofs.Machine.Cover.{Under, Preds, hide, is-alone, Pix, Sets, Fine, pix-hush, pix-zero, pix-one, pix-end, sets-hush, sets-D0, sets-D1, sets-G0, sets-G1, sets-C, sets-end, fine-hush, fine-ask, fine-np, fine-end, is-D, is-G}
 use Rattle.nls.proofs.Machine.Steps.{Fam, preds, From, more-Z, pix-Z, sets-Z, fine-Z, MoreI}
-use Rattle.nls.proofs.Judging.Most.{_⊑_, told, afterO, after, clear, sign, stays, and-r, most, Fits}
+use Rattle.nls.proofs.Judging.Most.{_⊑_, told, afterO, after, clear, sign, stays, most, Fits}
 use Rattle.nls.proofs.Reading.Know.{know, knowO, know-grows, know-one, know-sgn-has, know-neg, add, least}
 use Rattle.nls.proofs.Reading.Whole.{fam, Known, Zof, learned, below-under}
 use Rattle.nls.proofs.Judging.Clash.{dead-D, dead-G}
@@ -47,11 +48,11 @@ module _ (N : ℕ) where
 
   desc0 : (g b : ℕ) (w : Bits) (j e : ℕ) → (Under g j → e ≡ b → ⊥) → w .has j e ≡ true → (after N (inDesc g b) false w) .has j e ≡ true
   unfolding after inside
-  desc0 g b w j e n h = clear-out (inDesc g b) b w j e (λ x. n (below-under N g j (and-r (ltb j (4 ^ N)) (below N g j) x))) h
+  desc0 g b w j e n h = clear-out (inDesc g b) b w j e (λ x. n (below-under N g j (both-right (ltb j (4 ^ N)) (below N g j) x))) h
 
   grand0 : (g b : ℕ) (w : Bits) (j e : ℕ) → (Under g (j / 4) → e ≡ b → ⊥) → w .has j e ≡ true → (after N (inGrand g b) false w) .has j e ≡ true
   unfolding after inside
-  grand0 g b w j e n h = clear-out (inGrand g b) b w j e (λ x. n (below-under N g (j / 4) (and-r (ltb j (4 ^ N)) (below N g (j / 4)) x))) h
+  grand0 g b w j e n h = clear-out (inGrand g b) b w j e (λ x. n (below-under N g (j / 4) (both-right (ltb j (4 ^ N)) (below N g (j / 4)) x))) h
 
   sgn-has : (i : ℕ) (a : Bool) (w : Bits) (j e : ℕ) → (after N (signOf i) a w) .has j e ≡ w .has j e
   unfolding after sign

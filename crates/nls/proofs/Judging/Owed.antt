@@ -7,8 +7,9 @@ use mathlib.Core.List.{List, [], _∷_}
 use Prim.Native.Nat.{ℕ, _/_, _^_}
 use lib.Dec.{ltb}
 use Rattle.nls.specs.Scan.{Question, bitOf, signOf, inDesc, inGrand}
+use Rattle.nls.proofs.Booleans.{not-true-false}
 use Rattle.nls.proofs.Arrays.{below, Bits, inside, ans}
-use Rattle.nls.proofs.Judging.Most.{_⊑_, told, Fits, any-mono, not-true-false}
+use Rattle.nls.proofs.Judging.Most.{_⊑_, told, Fits, any-mono}
 
 module _ (N : ℕ) where
   mono : (B W : Bits) → B ⊑ W → ((i : ℕ) → B .neg i ≡ W .neg i) → (q : Question) → ans N B q ≡ true → ans N W q ≡ true

@@ -10,10 +10,12 @@ use native.Mathlib.Decide.{ℕ-discrete}
 use lib.ListN.{getD}
 use lib.Dec.{ltb, eqb}
 use borrow.Author.Tests.{ltb-true, lt-ltb, eqb-true, eq-eqb}
+use Rattle.sizes.proofs.Laws.{both-left, both-right, both}
 use Rattle.nls.specs.Scan.{State, Look, over, silent, asks, Question, bitOf, signOf, inDesc, inGrand, Pass, pixels, sets, refining, look, lookAt, lookPixels, lookSets, lookRefining, ask, asked, next, reach, start}
+use Rattle.nls.proofs.Booleans.{not-true-false}
 use Rattle.nls.proofs.Arrays.{Bits, inside, ans, below}
 use Rattle.nls.proofs.Machine.Run.{fit-append}
-use Rattle.nls.proofs.Judging.Most.{_⊑_, told, Fits, most, most-fits, most-keeps, most-below, clear, and-l, and-r, and-i, any-find, any-some, not-true-false}
+use Rattle.nls.proofs.Judging.Most.{_⊑_, told, Fits, most, most-fits, most-keeps, most-below, clear, any-find, any-some}
 use Rattle.nls.proofs.Reading.Know.{least, least-below}
 use Rattle.nls.proofs.Judging.Owed.{Owed, owed-true, change}
 use Rattle.nls.proofs.Machine.Cover.{Under, is-alone, is-D, is-G}
@@ -36,7 +38,7 @@ module _ (N : ℕ) where
 
   clear-below : (q : Question) (b : ℕ) (W : Bits) (j e : ℕ) → (clear N q b W) .has j e ≡ true → W .has j e ≡ true
   unfolding clear
-  clear-below q b W j e h = and-r (not (inside N q j && eqb e b)) (W .has j e) h
+  clear-below q b W j e h = both-right (not (inside N q j && eqb e b)) (W .has j e) h
 
   -- the answer is 0 afterwards
   cleared-one : (i b : ℕ) (W : Bits) → ans N (clear N (bitOf i b) b W) (bitOf i b) ≡ false
@@ -47,29 +49,29 @@ module _ (N : ℕ) where
   unfolding ans
   cleared-desc g b W = not-true-false _ (λ h.
       let r : (j : ℕ) × (j < 4 ^ N) × ((inside N (inDesc g b) j && (clear N (inDesc g b) b W) .has j b) ≡ true) = any-find (4 ^ N) (λ j. inside N (inDesc g b) j && (clear N (inDesc g b) b W) .has j b) h in
-      clear-in (inDesc g b) b W (r .0) (and-l (inside N (inDesc g b) (r .0)) _ (r .2)) (and-r (inside N (inDesc g b) (r .0)) _ (r .2)))
+      clear-in (inDesc g b) b W (r .0) (both-left (inside N (inDesc g b) (r .0)) _ (r .2)) (both-right (inside N (inDesc g b) (r .0)) _ (r .2)))
 
   cleared-grand : (g b : ℕ) (W : Bits) → ans N (clear N (inGrand g b) b W) (inGrand g b) ≡ false
   unfolding ans
   cleared-grand g b W = not-true-false _ (λ h.
       let r : (j : ℕ) × (j < 4 ^ N) × ((inside N (inGrand g b) j && (clear N (inGrand g b) b W) .has j b) ≡ true) = any-find (4 ^ N) (λ j. inside N (inGrand g b) j && (clear N (inGrand g b) b W) .has j b) h in
-      clear-in (inGrand g b) b W (r .0) (and-l (inside N (inGrand g b) (r .0)) _ (r .2)) (and-r (inside N (inGrand g b) (r .0)) _ (r .2)))
+      clear-in (inGrand g b) b W (r .0) (both-left (inside N (inGrand g b) (r .0)) _ (r .2)) (both-right (inside N (inGrand g b) (r .0)) _ (r .2)))
 
   in-desc : (g b j : ℕ) → 1 ≤ g → j < 4 ^ N → Under g j → inside N (inDesc g b) j ≡ true
   unfolding inside
-  in-desc g b j g1 hj u = and-i (ltb j (4 ^ N)) (below N g j) (lt-ltb j (4 ^ N) hj) (under-below N g j g1 hj u)
+  in-desc g b j g1 hj u = both (lt-ltb j (4 ^ N) hj) (under-below N g j g1 hj u)
 
   in-grand : (g b j : ℕ) → 1 ≤ g → j < 4 ^ N → Under g (j / 4) → inside N (inGrand g b) j ≡ true
   unfolding inside
-  in-grand g b j g1 hj u = and-i (ltb j (4 ^ N)) (below N g (j / 4)) (lt-ltb j (4 ^ N) hj) (under-below N g (j / 4) g1 (omega arith) u)
+  in-grand g b j g1 hj u = both (lt-ltb j (4 ^ N) hj) (under-below N g (j / 4) g1 (omega arith) u)
 
   desc-in : (g b j : ℕ) → inside N (inDesc g b) j ≡ true → Under g j × (j < 4 ^ N)
   unfolding inside
-  desc-in g b j h = (below-under N g j (and-r (ltb j (4 ^ N)) (below N g j) h), ltb-true j (4 ^ N) (and-l (ltb j (4 ^ N)) (below N g j) h))
+  desc-in g b j h = (below-under N g j (both-right (ltb j (4 ^ N)) (below N g j) h), ltb-true j (4 ^ N) (both-left (ltb j (4 ^ N)) (below N g j) h))
 
   grand-in : (g b j : ℕ) → inside N (inGrand g b) j ≡ true → Under g (j / 4) × (j < 4 ^ N)
   unfolding inside
-  grand-in g b j h = (below-under N g (j / 4) (and-r (ltb j (4 ^ N)) (below N g (j / 4)) h), ltb-true j (4 ^ N) (and-l (ltb j (4 ^ N)) (below N g (j / 4)) h))
+  grand-in g b j h = (below-under N g (j / 4) (both-right (ltb j (4 ^ N)) (below N g (j / 4)) h), ltb-true j (4 ^ N) (both-left (ltb j (4 ^ N)) (below N g (j / 4)) h))
 
   one-in : (i b j : ℕ) → inside N (bitOf i b) j ≡ true → j ≡ i
   unfolding inside
@@ -85,21 +87,21 @@ module _ (N : ℕ) where
 
   pub yes-desc : (W : Bits) (g b j : ℕ) → j < 4 ^ N → inside N (inDesc g b) j ≡ true → W .has j b ≡ true → ans N W (inDesc g b) ≡ true
   unfolding ans
-  yes-desc W g b j hj i h = any-some (4 ^ N) (λ x. inside N (inDesc g b) x && W .has x b) j hj (and-i (inside N (inDesc g b) j) (W .has j b) i h)
+  yes-desc W g b j hj i h = any-some (4 ^ N) (λ x. inside N (inDesc g b) x && W .has x b) j hj (both i h)
 
   pub yes-grand : (W : Bits) (g b j : ℕ) → j < 4 ^ N → inside N (inGrand g b) j ≡ true → W .has j b ≡ true → ans N W (inGrand g b) ≡ true
   unfolding ans
-  yes-grand W g b j hj i h = any-some (4 ^ N) (λ x. inside N (inGrand g b) x && W .has x b) j hj (and-i (inside N (inGrand g b) j) (W .has j b) i h)
+  yes-grand W g b j hj i h = any-some (4 ^ N) (λ x. inside N (inGrand g b) x && W .has x b) j hj (both i h)
 
   pub find-desc : (W : Bits) (g b : ℕ) → ans N W (inDesc g b) ≡ true → (j : ℕ) × (j < 4 ^ N) × (inside N (inDesc g b) j ≡ true) × (W .has j b ≡ true)
   unfolding ans
   find-desc W g b h = let r : (j : ℕ) × (j < 4 ^ N) × ((inside N (inDesc g b) j && W .has j b) ≡ true) = any-find (4 ^ N) (λ x. inside N (inDesc g b) x && W .has x b) h in
-      (r .0, r .1, and-l (inside N (inDesc g b) (r .0)) (W .has (r .0) b) (r .2), and-r (inside N (inDesc g b) (r .0)) (W .has (r .0) b) (r .2))
+      (r .0, r .1, both-left (inside N (inDesc g b) (r .0)) (W .has (r .0) b) (r .2), both-right (inside N (inDesc g b) (r .0)) (W .has (r .0) b) (r .2))
 
   pub find-grand : (W : Bits) (g b : ℕ) → ans N W (inGrand g b) ≡ true → (j : ℕ) × (j < 4 ^ N) × (inside N (inGrand g b) j ≡ true) × (W .has j b ≡ true)
   unfolding ans
   find-grand W g b h = let r : (j : ℕ) × (j < 4 ^ N) × ((inside N (inGrand g b) j && W .has j b) ≡ true) = any-find (4 ^ N) (λ x. inside N (inGrand g b) x && W .has x b) h in
-      (r .0, r .1, and-l (inside N (inGrand g b) (r .0)) (W .has (r .0) b) (r .2), and-r (inside N (inGrand g b) (r .0)) (W .has (r .0) b) (r .2))
+      (r .0, r .1, both-left (inside N (inGrand g b) (r .0)) (W .has (r .0) b) (r .2), both-right (inside N (inGrand g b) (r .0)) (W .has (r .0) b) (r .2))
 
 module _ (N D P : ℕ) (D-big : 4 ≤ D) (D-4 : D % 4 ≡ 0) (I-16 : 4 ^ N % 16 ≡ 0) (D-I : 4 * D ≤ 4 ^ N) where
   abbrev I : ℕ

@@ -9,6 +9,7 @@ use native.Mathlib.Decide.{decLt, ℕ-discrete}
 use lib.ListN.{getD}
 use lib.Dec.{ltb, eqb, lit≤}
 use borrow.Author.Tests.{ltb-true, ltb-false, eqb-true, eqb-false}
+use Rattle.nls.proofs.Booleans.{neither}
 use Rattle.nls.proofs.Arrays.{Bits}
 use Rattle.nls.proofs.Machine.Table.{Cfg, alone, stands, alone-no, no-alone, stands-no, no-stands}
 use Rattle.nls.proofs.Machine.Cover.{Under, kid, far, Core, Sets, is-alone, is-D, is-G, mark-D, mark-G}
@@ -238,10 +239,6 @@ module _ (N D P : ℕ) (D-big : 4 ≤ D) (D-4 : D % 4 ≡ 0) (I-16 : 4 ^ N % 16 
                 at j h (yes q) = ap f q ∙ e
                 at j h (no q) = r j (omega arith)
 
-        or-no : (x y : Bool) → (x || y) ≡ false → (x ≡ false) × (y ≡ false)
-        or-no true y e = absurd (true≢false e)
-        or-no false y e = (refl, e)
-
         or-yes : (x y : Bool) → (x || y) ≡ true → (y ≡ true → ⊥) → x ≡ true
         or-yes true y e h = refl
         or-yes false y e h = absurd (h e)
@@ -267,7 +264,7 @@ module _ (N D P : ℕ) (D-big : 4 ≤ D) (D-4 : D % 4 ≡ 0) (I-16 : 4 ^ N % 16 
             → (j : ℕ) × (j < I) × (W .has j b ≡ true) × (Under (t / 4) j → ⊥)
         last e (inr r) y = low-one (r .0) (r .1) (eqb-false _ _ (r .2)) (ℕ-discrete (c .al (r .0)) 2) (ℕ-discrete (c .al (r .0)) 3)
         last e (inl r) (inl y) = absurd (n (last-root mk e bP (λ j h. eqb-true _ _ (r j h)) (λ h lo ht. eqb-true _ _ (or-yes (eqb (getD m (4 * h) 0) 5) (ltb (4 * h) D) (y h (omega arith)) (λ q. omega (arith, ltb-true (4 * h) D q))))))
-        last e (inl r) (inr y) = bad (y .0) (y .1) (or-no (eqb (getD m (4 * y .0) 0) 5) (ltb (4 * y .0) D) (y .2)) (c .sD (y .0)) refl
+        last e (inl r) (inr y) = bad (y .0) (y .1) (neither (eqb (getD m (4 * y .0) 0) 5) (ltb (4 * y .0) D) (y .2)) (c .sD (y .0)) refl
           where
             bad : (h : ℕ) → h < t / 4 → (eqb (getD m (4 * h) 0) 5 ≡ false) × (ltb (4 * h) D ≡ false) → (x : Bool) → c .sD h ≡ x → (j : ℕ) × (j < I) × (W .has j b ≡ true) × (Under (t / 4) j → ⊥)
             bad h ht q true s = split h (ltb-false (4 * h) D (q .1)) (omega arith) (λ z. omega arith) s

@@ -15,7 +15,7 @@ use borrow.Author.Tests.{ltb-false, le-ltb, lt-ltb}
 use Rattle.nls.specs.Marks.{skip, setSkip, splitDesc, splitGrand}
 use Rattle.nls.proofs.Arrays.{four}
 use Rattle.nls.proofs.Machine.Table.{Cfg, up, alone, stands, Ok, Table, alone-no, no-alone, stands-no, no-stands, no-dg, gap, skip-5, skip-7, up-low, up-5, up-7}
-use Rattle.nls.proofs.Machine.Push.{table-G, ok-G, len-G, sD-G, al-G, alone-G, stands-G-off, sG-G-off, sG-G-on}
+use Rattle.nls.proofs.Machine.Push.{table-G, ok-G, len-G, sD-G, al-G, alone-G, stands-G-off, sG-off, sG-on}
 use Rattle.nls.proofs.Machine.Split.{withD, withG, withA, table-A, ok-A, kind-no, al-at, al-else, alone-A, stands-A, same-D, same-G, sD-off, sG-D, al-D-on, al-D-off, stands-D, alone-on, alone-off, table-D, ok-D}
 
 -- What a run may know, besides: Y i, the sign of i; QD h and QG q, why the set was split; Z i, that a bit of i is 1
@@ -186,7 +186,7 @@ module _ (D I : ℕ) (D-big : 4 ≤ D) (D-4 : D % 4 ≡ 0) (I-16 : I % 16 ≡ 0)
     where
       qG′ : (h : ℕ) → (withG q c) .sG h ≡ true → Dec (h ≡ q) → R .QG h
       qG′ h e (yes z) = subst (R .QG) (sym z) y
-      qG′ h e (no z) = k .qG h (sym (sG-G-off q c h z) ∙ e)
+      qG′ h e (no z) = k .qG h (sym (sG-off q c h z) ∙ e)
 
       zs′ : (j : ℕ) → (alone D I c j ≡ true) × (2 ≤ c .al j) × (c .al j ≤ 3) → (alone D I (withG q c) j ≡ true) × (2 ≤ (withG q c) .al j) × ((withG q c) .al j ≤ 3)
       zs′ j r = (alone-G D I q c j ∙ r .0, omega (arith, al-G q c j), omega (arith, al-G q c j))
@@ -817,5 +817,5 @@ module _ (D I : ℕ) (D-big : 4 ≤ D) (D-4 : D % 4 ≡ 0) (I-16 : I % 16 ≡ 0)
       old h z s (no e) = sym (stands-G-off D I q c h e) ∙ s
 
       oldG : (h : ℕ) → 16 * h < t → (withG q c) .sG h ≡ false → Dec (h ≡ q) → c .sG h ≡ false
-      oldG h z s (yes e) = absurd (true≢false (sym (sG-G-on q c h e) ∙ s))
-      oldG h z s (no e) = sym (sG-G-off q c h e) ∙ s
+      oldG h z s (yes e) = absurd (true≢false (sym (sG-on q c h e) ∙ s))
+      oldG h z s (no e) = sym (sG-off q c h e) ∙ s

@@ -1,12 +1,14 @@
 -- Splitting a set keeps what the table says.
 use mathlib.Core.Path.{_≡_, refl, sym, ap, subst, _∙_}
-use mathlib.Core.Bool.{Bool, true, false, _||_, true≢false, false≢true}
+use mathlib.Core.Bool.{Bool, true, false, _||_, true≢false, false≢true, or-true}
 use Prim.Native.Nat.{ℕ, _*_, _/_, _%_, _≤_, _<_}
 use native.Mathlib.Omega.{arith}
 use native.Mathlib.Decide.{decLt, ℕ-discrete}
 use lib.Dec.{ltb, eqb}
 use borrow.Author.Tests.{eq-eqb, ne-eqb}
 use mathlib.Core.Logic.{_⊎_, inl, inr}
+use Rattle.tree.proofs.Lists.{or-left, or-right}
+use Rattle.nls.proofs.Booleans.{or-off}
 use Rattle.nls.proofs.Machine.Table.{up-low, up-5, up-7, Cfg, up, alone, stands, Ok, Table, alone-no, stands-no, no-stands, no-gd, no-dg}
 
 -- DESC(g) is split: its four children stand alone, with MCP
@@ -29,17 +31,9 @@ pick-false : {A : Type 0} (t : Bool) (x y : A) → t ≡ false → (elim t as (�
 pick-false true x y e = absurd (true≢false e)
 pick-false false x y e = refl
 
-or-on : (a b : Bool) → a ≡ true → (a || b) ≡ true
-or-on true b e = refl
-or-on false b e = absurd (false≢true e)
-
-or-off : (a b : Bool) → a ≡ false → (a || b) ≡ b
-or-off true b e = absurd (true≢false e)
-or-off false b e = refl
-
 pub sD-on : (g : ℕ) (c : Cfg) (h : ℕ) → h ≡ g → (withD g c) .sD h ≡ true
 unfolding withD
-sD-on g c h e = or-on (eqb h g) (c .sD h) (eq-eqb h g e)
+sD-on g c h e = or-left (eqb h g) (c .sD h) (eq-eqb h g e)
 
 pub sD-off : (g : ℕ) (c : Cfg) (h : ℕ) → (h ≡ g → ⊥) → (withD g c) .sD h ≡ c .sD h
 unfolding withD
@@ -61,13 +55,9 @@ pub stands-D : (D I g : ℕ) (c : Cfg) (h : ℕ) → stands D I (withD g c) h �
 unfolding stands withD
 stands-D D I g c h = refl
 
-or-t : (x : Bool) → (x || true) ≡ true
-or-t true = refl
-or-t false = refl
-
 pub alone-on : (D I g : ℕ) (c : Cfg) (j : ℕ) → j / 4 ≡ g → alone D I (withD g c) j ≡ true
 unfolding alone
-alone-on D I g c j e = ap (λ (x : Bool). ltb j D || x) (sD-on g c (j / 4) e) ∙ or-t (ltb j D)
+alone-on D I g c j e = ap (λ (x : Bool). ltb j D || x) (sD-on g c (j / 4) e) ∙ or-true (ltb j D)
 
 pub alone-off : (D I g : ℕ) (c : Cfg) (j : ℕ) → (j / 4 ≡ g → ⊥) → alone D I (withD g c) j ≡ alone D I c j
 unfolding alone
@@ -186,11 +176,7 @@ module _ (D I : ℕ) (D-big : 4 ≤ D) (c : Cfg) (o : Ok D I c) (m : ℕ → ℕ
 
     gd′ : (q : ℕ) → c′ .sG q ≡ true → c′ .sD q ≡ true
     unfolding withD
-    gd′ q e = go (eqb q g) (c .sD q) (o .gd q e)
-      where
-        go : (x y : Bool) → y ≡ true → (x || y) ≡ true
-        go true y h = refl
-        go false y h = h
+    gd′ q e = or-right (eqb q g) (c .sD q) (o .gd q e)
 
     pub ok-D : Ok D I c′
     ok-D = record { gd = gd′; dg = λ h e. dg′ h e (ℕ-discrete h g); lo = λ h e. lo′ h e (ℕ-discrete h g); hi = λ h e. hi′ h e (ℕ-discrete h g) }

@@ -8,6 +8,7 @@ use native.Mathlib.Decide.{decLt, ℕ-discrete}
 use lib.Dec.{ltb, lit<, lit≤}
 use borrow.Author.Tests.{ltb-false, le-ltb, lt-ltb}
 use Rattle.nls.specs.Marks.{skip}
+use Rattle.nls.proofs.Booleans.{neither}
 
 -- which sets are split, and the marks of the coefficients that stand alone
 pub record Cfg : Type 0 where
@@ -40,10 +41,6 @@ module _ (D I : ℕ) where
     pub mid : (j : ℕ) → j < I → alone c j ≡ false → j % 4 ≡ 0 → stands c (j / 4) ≡ false → j / 4 % 4 ≡ 0 → c .sD (j / 4 / 4) ≡ true → m j ≡ 6
     pub deep : (j : ℕ) → j < I → alone c j ≡ false → j % 4 ≡ 0 → stands c (j / 4) ≡ false → j / 4 % 4 ≡ 0 → c .sD (j / 4 / 4) ≡ false → m j ≡ up (m (j / 4))
 
-  or-false : (a b : Bool) → (a || b) ≡ false → (a ≡ false) × (b ≡ false)
-  or-false true b h = absurd (true≢false h)
-  or-false false b h = (refl, h)
-
   false-or-i : (a b : Bool) → a ≡ false → b ≡ false → (a || b) ≡ false
   false-or-i true b h k = absurd (true≢false h)
   false-or-i false b h k = k
@@ -54,7 +51,7 @@ module _ (D I : ℕ) where
 
   pub no-alone : (c : Cfg) (j : ℕ) → alone c j ≡ false → (D ≤ j) × (c .sD (j / 4) ≡ false)
   unfolding alone
-  no-alone c j h = let r : (ltb j D ≡ false) × (c .sD (j / 4) ≡ false) = or-false (ltb j D) (c .sD (j / 4)) h in (ltb-false j D (r .0), r .1)
+  no-alone c j h = let r : (ltb j D ≡ false) × (c .sD (j / 4) ≡ false) = neither (ltb j D) (c .sD (j / 4)) h in (ltb-false j D (r .0), r .1)
 
   pub stands-no : (c : Cfg) (h : ℕ) → D ≤ h → c .sG (h / 4) ≡ false → stands c h ≡ false
   unfolding stands
@@ -62,7 +59,7 @@ module _ (D I : ℕ) where
 
   pub no-stands : (c : Cfg) (h : ℕ) → stands c h ≡ false → (D ≤ h) × (c .sG (h / 4) ≡ false)
   unfolding stands
-  no-stands c h k = let r : (ltb h D ≡ false) × (c .sG (h / 4) ≡ false) = or-false (ltb h D) (c .sG (h / 4)) k in (ltb-false h D (r .0), r .1)
+  no-stands c h k = let r : (ltb h D ≡ false) × (c .sG (h / 4) ≡ false) = neither (ltb h D) (c .sG (h / 4)) k in (ltb-false h D (r .0), r .1)
 
   -- contrapositives
   flip : (a b : Bool) → (a ≡ true → b ≡ true) → b ≡ false → a ≡ false

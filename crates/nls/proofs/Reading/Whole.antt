@@ -9,9 +9,12 @@ use native.Mathlib.Omega.{arith}
 use native.Mathlib.Nat.{pow-suc}
 use lib.Dec.{ltb, eqb}
 use borrow.Author.Tests.{eqb-true, eq-eqb, lt-ltb}
+use Rattle.sizes.proofs.Laws.{both-left, both-right, both}
+use Rattle.tree.proofs.Lists.{or-left, or-right}
 use Rattle.nls.specs.Scan.{State, Look, over, silent, asks, Question, bitOf, signOf, inDesc, inGrand, look, ask, asked, next, reach}
+use Rattle.nls.proofs.Booleans.{or-cases}
 use Rattle.nls.proofs.Arrays.{Bits, inside, ans, below}
-use Rattle.nls.proofs.Judging.Most.{_⊑_, told, Fits, and-l, and-r, and-i, or-l, or-r, or-cases, any-find, member}
+use Rattle.nls.proofs.Judging.Most.{_⊑_, told, Fits, any-find, member}
 use Rattle.nls.proofs.Reading.Know.{least, know, knowO, know-grows, know-one, know-other, know-sign, know-sgn-has, know-neg}
 use Rattle.nls.proofs.Machine.Cover.{Under, kid, far}
 use Rattle.nls.proofs.Machine.Steps.{Fam, withZ, Good, Learned, On-ask, good-next, good-mono}
@@ -24,8 +27,8 @@ under-ge g i (far u) = omega (arith, under-ge g (i / 4) u)
 pub under-below : (n g i : ℕ) → 1 ≤ g → i < 4 ^ n → Under g i → below n g i ≡ true
 unfolding below
 under-below zero g i h k u = absurd (omega (arith, under-ge g i u))
-under-below (suc n) g i h k (kid e) = or-l (eqb (i / 4) g) (below n g (i / 4)) (eq-eqb (i / 4) g e)
-under-below (suc n) g i h k (far u) = or-r (eqb (i / 4) g) (below n g (i / 4)) (under-below n g (i / 4) h (omega (arith, pow-suc 4 n)) u)
+under-below (suc n) g i h k (kid e) = or-left (eqb (i / 4) g) (below n g (i / 4)) (eq-eqb (i / 4) g e)
+under-below (suc n) g i h k (far u) = or-right (eqb (i / 4) g) (below n g (i / 4)) (under-below n g (i / 4) h (omega (arith, pow-suc 4 n)) u)
 
 -- bit b of A at j is known
 abbrev pub Known : Bits → Bits → ℕ → ℕ → Type 0
@@ -66,18 +69,18 @@ module _ (N D P : ℕ) (D-big : 4 ≤ D) (D-4 : D % 4 ≡ 0) (I-16 : 4 ^ N % 16 
   learned A k (signOf i) a e = (know-sign i a k ∙ sym e, λ j z. (z .0, sym (know-sgn-has i a k j (z .0)) ∙ z .1))
   learned A k (inDesc g b) true e =
       let r : (j : ℕ) × (j < I) × (((ltb j I && below N g j) && A .has j b) ≡ true) = any-find I (λ j. (ltb j I && below N g j) && A .has j b) e in (
-        (r .0, b, r .1, below-under N g (r .0) (and-r (ltb (r .0) I) (below N g (r .0)) (and-l (ltb (r .0) I && below N g (r .0)) (A .has (r .0) b) (r .2))), omega arith, and-r (ltb (r .0) I && below N g (r .0)) (A .has (r .0) b) (r .2)),
+        (r .0, b, r .1, below-under N g (r .0) (both-right (ltb (r .0) I) (below N g (r .0)) (both-left (ltb (r .0) I && below N g (r .0)) (A .has (r .0) b) (r .2))), omega arith, both-right (ltb (r .0) I && below N g (r .0)) (A .has (r .0) b) (r .2)),
         λ j z. (z .0, unfold know in z .1),
       )
   learned A k (inDesc g b) false e =
-      ((λ g1 i hi u h. absurd (true≢false (sym (member N (λ j. below N g j) A b i (and-i (ltb i I) (below N g i) (lt-ltb i I hi) (under-below N g i g1 hi u)) h) ∙ e))), λ j z. (z .0, unfold know in z .1))
+      ((λ g1 i hi u h. absurd (true≢false (sym (member N (λ j. below N g j) A b i (both (lt-ltb i I hi) (under-below N g i g1 hi u)) h) ∙ e))), λ j z. (z .0, unfold know in z .1))
   learned A k (inGrand g b) true e =
       let r : (j : ℕ) × (j < I) × (((ltb j I && below N g (j / 4)) && A .has j b) ≡ true) = any-find I (λ j. (ltb j I && below N g (j / 4)) && A .has j b) e in (
-        (r .0, b, r .1, below-under N g (r .0 / 4) (and-r (ltb (r .0) I) (below N g (r .0 / 4)) (and-l (ltb (r .0) I && below N g (r .0 / 4)) (A .has (r .0) b) (r .2))), omega arith, and-r (ltb (r .0) I && below N g (r .0 / 4)) (A .has (r .0) b) (r .2)),
+        (r .0, b, r .1, below-under N g (r .0 / 4) (both-right (ltb (r .0) I) (below N g (r .0 / 4)) (both-left (ltb (r .0) I && below N g (r .0 / 4)) (A .has (r .0) b) (r .2))), omega arith, both-right (ltb (r .0) I && below N g (r .0 / 4)) (A .has (r .0) b) (r .2)),
         λ j z. (z .0, unfold know in z .1),
       )
   learned A k (inGrand g b) false e =
-      ((λ g1 i hi u h. absurd (true≢false (sym (member N (λ j. below N g (j / 4)) A b i (and-i (ltb i I) (below N g (i / 4)) (lt-ltb i I hi) (under-below N g (i / 4) g1 (omega arith) u)) h) ∙ e))), λ j z. (z .0, unfold know in z .1))
+      ((λ g1 i hi u h. absurd (true≢false (sym (member N (λ j. below N g (j / 4)) A b i (both (lt-ltb i I hi) (under-below N g (i / 4) g1 (omega arith) u)) h) ∙ e))), λ j z. (z .0, unfold know in z .1))
 
   abbrev pub Zof : Bits → ℕ → Type 0
   Zof k j = (e : ℕ) × (k .has j e ≡ true)
