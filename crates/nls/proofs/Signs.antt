@@ -15,6 +15,8 @@ use Rattle.sizes.specs.Tables.{table}
 use Rattle.sizes.proofs.Tables.{table-length, table-at}
 use Rattle.bits.specs.Bits.{bit}
 use Rattle.coef.specs.Coef.{at, magAt, magnitude, negative, signed, IsPlanes}
+use Rattle.bits.proofs.Laws.{bit-none}
+use Rattle.coef.proofs.Laws.{magnitude-signed}
 use Rattle.nls.specs.Scan.{Question, bitOf, signOf, inDesc, inGrand, State, Look, over, silent, asks, Pass, pixels, sets, refining, look, lookAt, lookPixels, lookSets, lookRefining, tell, tellAt, tellSets, settle, ask, asked, next, start}
 use Rattle.nls.specs.Scan as Scan
 use Rattle.nls.specs.Marks.{startMarks}
@@ -27,7 +29,6 @@ use Rattle.nls.proofs.Judging.Most.{told}
 use Rattle.nls.proofs.Judging.Clash.{Valid}
 use Rattle.nls.proofs.Judging.Numbers.{Planes, ans-ext, valid-of}
 use Rattle.nls.proofs.Judging.Only.{to-list}
-use Rattle.nls.proofs.Joined.Answers.{zero-bit}
 use Rattle.nls.proofs.Kept.{AfterMove, settle-keeps}
 use Rattle.nls.proofs.Lists.{arrOf}
 use Rattle.nls.proofs.Streams.{begins-iff}
@@ -142,18 +143,13 @@ module _ (N : ℕ) (B : Bits) where
 abbrev pub listOf : ℕ → Arr → List ℤ
 listOf n A = table n (λ j. signed (A .neg j) (A .mag j))
 
-signed-mag : (s : Bool) (x : ℕ) → magnitude (signed s x) ≡ x
-signed-mag false x = refl
-signed-mag true zero = refl
-signed-mag true (suc x) = refl
-
 signed-neg : (s : Bool) (x : ℕ) → (x ≡ 0 → ⊥) → negative (signed s x) ≡ s
 signed-neg false x h = refl
 signed-neg true zero h = absurd (h refl)
 signed-neg true (suc x) h = refl
 
 bit-some : (x b : ℕ) → bit x b ≡ true → x ≡ 0 → ⊥
-bit-some x b h e = true≢false (sym h ∙ ap (λ (y : ℕ). bit y b) e ∙ zero-bit b)
+bit-some x b h e = true≢false (sym h ∙ ap (λ (y : ℕ). bit y b) e ∙ bit-none b)
 
 module _ (n : ℕ) (A : Arr) (rest : (j : ℕ) → n ≤ j → A .mag j ≡ 0) where
   list-mag : (j : ℕ) → magAt (listOf n A) j ≡ A .mag j
@@ -163,7 +159,7 @@ module _ (n : ℕ) (A : Arr) (rest : (j : ℕ) → n ≤ j → A .mag j ≡ 0) w
       on (inl h) =
           ap (λ (z : ℤ). magnitude z) (List·getD-eq-default (listOf n A) (pos 0) {n = j} (omega (arith, h, table-length n (λ j. signed (A .neg j) (A .mag j)))))
           ∙ sym (rest j h)
-      on (inr h) = ap (λ (z : ℤ). magnitude z) (table-at n (λ j. signed (A .neg j) (A .mag j)) j (pos 0) h) ∙ signed-mag (A .neg j) (A .mag j)
+      on (inr h) = ap (λ (z : ℤ). magnitude z) (table-at n (λ j. signed (A .neg j) (A .mag j)) j (pos 0) h) ∙ magnitude-signed (A .neg j) (A .mag j)
 
   list-neg : (j b : ℕ) → bit (A .mag j) b ≡ true → A .neg j ≡ negative (at (listOf n A) j)
   list-neg j b h = on (order n j)

@@ -15,11 +15,12 @@ use Rattle.sizes.specs.Sizes.{allOf, Sized}
 use Rattle.sizes.specs.Tables.{table}
 use Rattle.sizes.proofs.Tables.{table-at, table-ext, table-is}
 use Rattle.coef.specs.Coef.{at, magAt, magnitude, negative, signed, IsPlanes}
+use Rattle.coef.proofs.Laws.{magnitude-signed, signed-back}
 use Rattle.nls.specs.Stream.{after, stream}
 use Rattle.nls.specs.Reading.{known, midpoint, valueBy, highBits, lastPlane, precisionAt, valuesBy, precisions, planesFinished, worstError}
 use Rattle.nls.specs.Judging.{Begins}
 use Rattle.nls.proofs.Streams.{ends-left}
-use Rattle.nls.proofs.HighBits.{mag-signed, signed-zero, signed-back, high-all, high-magnitude, high-negative}
+use Rattle.nls.proofs.HighBits.{signed-zero, high-all, high-magnitude, high-negative}
 use Rattle.nls.proofs.Known.{Sound, known-sound, precision-left, lower-round, room}
 use Rattle.nls.proofs.KnownBits.{known-bits}
 
@@ -125,7 +126,7 @@ value-range N L P u rule fair i h = on (eqb m 0)
 
     on : (t : Bool) → magnitude (cond t (pos 0) (signed (negative (at (known N L P u .bits) i)) (rule k m))) < 2 ^ P
     on true = one-le-pow P 2 (omega arith)
-    on false = rw mag-signed (omega (arith, fair .high k m, more, one-le-pow k 2 (omega arith)))
+    on false = rw magnitude-signed (omega (arith, fair .high k m, more, one-le-pow k 2 (omega arith)))
 
 -- CUT: the values are the rule's at the known bits and precisions of any array whose stream begins so
 pub cut : (N L : ℕ) → Sized N L → (P : ℕ) (A : List ℤ) (u : List Bool) → Begins N L P A u → (rule : ℕ → ℕ → ℕ)

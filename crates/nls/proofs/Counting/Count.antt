@@ -18,7 +18,7 @@ T→1 : (t : Bool) → T t → 1 ≤ ι t
 T→1 true h = omega arith
 T→1 false h = absurd h
 
-ι-mono : (s t : Bool) → (T s → T t) → ι s ≤ ι t
+pub ι-mono : (s t : Bool) → (T s → T t) → ι s ≤ ι t
 ι-mono false t h = omega arith
 ι-mono true t h = T→1 t (h tt)
 

@@ -4,14 +4,14 @@ use Prim.Native.Nat.{ℕ, suc, _+_, _^_, _/_, _≤_, _<_}
 use mathlib.Core.Path.{_≡_, refl, ap}
 use mathlib.Core.Bool.{Bool, true, false, _||_, cond}
 use mathlib.Core.List.{[]}
-use mathlib.Core.Logic.{_⊎_, inl, inr, ⊎-elim}
+use mathlib.Core.Logic.{⊎-elim}
 use native.Mathlib.Nat.{sub-zero}
 use native.Mathlib.Numerals.{add-one}
 use native.Mathlib.Omega.{arith}
-use borrow.Author.Tests.{le-ltb, ltb-true, ltb-false, eqb-true, ne-eqb}
+use borrow.Author.Tests.{le-ltb, eqb-true, ne-eqb}
 use lib.Dec.{T, ltb, eqb, T-not}
 use Rattle.nls.proofs.Booleans.{T-false, T-true, of-true, of-false}
-use Rattle.nls.proofs.Counting.Sums.{each}
+use Rattle.nls.proofs.Counting.Sums.{each, order}
 use Rattle.nls.proofs.Counting.Tree.{Size, D, Q, I, grand-none}
 use Rattle.nls.proofs.Counting.Parts.{ι, big, alone, split-desc, split-grand, pixel, refine}
 use Rattle.nls.proofs.Counting.Count.{big-mono, grand-splits, desc-known, big-alone, bit-big}
@@ -32,14 +32,7 @@ marked m x v false y = same-mark m x 1 y v
 module _ (z : Size) (mag : ℕ → ℕ) where
   pub closed1 : (b q : ℕ) → z .e ≤ q → T (split-grand z mag b q) → T (split-desc z mag b q)
   unfolding split-grand
-  closed1 b q h t = ⊎-elim (λ l. grand-splits z mag b q (omega arith) l t) (λ l. absurd (rw (grand-none z (λ c. ι (big z mag b c)) q (omega arith)) at t)) (less q (Q z))
-    where
-      less : (m n : ℕ) → (m < n) ⊎ (n ≤ m)
-      less m n = tell (ltb m n) refl
-        where
-          tell : (t : Bool) → ltb m n ≡ t → (m < n) ⊎ (n ≤ m)
-          tell true e = inl (ltb-true m n e)
-          tell false e = inr (ltb-false m n e)
+  closed1 b q h t = ⊎-elim (λ l. absurd (rw (grand-none z (λ c. ι (big z mag b c)) q (omega arith)) at t)) (λ l. grand-splits z mag b q (omega arith) l t) (order (Q z) q)
 
   -- the marks of coefficients between planes, and after the pixel pass and the set pass
   unfoldable pub rest : ℕ → ℕ → ℕ

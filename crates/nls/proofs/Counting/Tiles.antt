@@ -4,10 +4,11 @@ use Prim.Native.Nat.{ℕ, zero, suc, _+_, _*_, _-_, _^_, _/_, _≤_, _<_}
 use mathlib.Core.Path.{_≡_, refl, sym, subst, _∙_}
 use mathlib.Core.Bool.{Bool, true, false, not, _||_}
 use mathlib.Core.Logic.{_⊎_, inl, inr, ⊎-elim}
-use native.Mathlib.Nat.{le-refl, zero-add, pow-succ', pow-le-pow-right}
+use native.Mathlib.Nat.{le-refl, zero-add, pow-succ', one-le-pow}
 use native.Mathlib.Omega.{arith}
 use borrow.Author.Tests.{eqb-true, eqb-false}
 use lib.Dec.{T, ltb, eqb, ltb→lt, nltb→le, lt→ltb, T-not, not-T}
+use Rattle.nls.proofs.Counting.Sums.{order}
 use Rattle.nls.proofs.Booleans.{T-or, bool}
 use Rattle.nls.proofs.Counting.Tree.{Size, D}
 
@@ -52,7 +53,7 @@ in-run zero a x p q = omega arith
 in-run (suc k) a x p q = in-run k a (x / 4) (omega arith) (omega (arith, pow-succ' 4 k))
 
 pub pow4-pos : (k : ℕ) → 1 ≤ 4 ^ k
-pow4-pos k = pow-le-pow-right {n = 4} (omega arith) {i = 0} {j = k} (omega arith)
+pow4-pos k = one-le-pow k 4 (omega arith)
 
 pub up-down : (k a : ℕ) → up k (down k a) ≡ a
 up-down k a = in-run k a (down k a) (le-refl _) (omega (arith, pow4-pos k))
@@ -133,15 +134,12 @@ module _ (z : Size) (sd sg : ℕ → Bool) where
         (c .2)
 
     pub unique : (k k′ x : ℕ) → Cov k (up k x) → Cov k′ (up k′ x) → k ≡ k′
-    unique k k′ x c c′ = ⊎-elim (λ l. absurd (lower k k′ l c c′)) (λ r. ⊎-elim (λ l. absurd (lower k′ k l c′ c)) (λ r′. omega arith) (less k′ k)) (less k k′)
+    unique k k′ x c c′ = ⊎-elim (λ r. ⊎-elim (λ r′. omega arith) (λ l. absurd (lower k′ k l c′ c)) (order k k′)) (λ l. absurd (lower k k′ l c c′)) (order k′ k)
       where
         lower : (k k′ : ℕ) → k < k′ → Cov k (up k x) → Cov k′ (up k′ x) → ⊥
         lower k k′ l c c′ =
             let e : k′ ≡ k + suc (k′ - suc k) = omega arith in
             once k (k′ - suc k) x c (subst (λ (n : ℕ). Cov n (up n x)) e c′)
-
-        less : (m n : ℕ) → (m < n) ⊎ (n ≤ m)
-        less m n = ⊎-elim (λ t. inl (ltb→lt m n t)) (λ t. inr (nltb→le m n t)) (bool (ltb m n))
 
     -- what does not stand alone is covered
     climb : (f k x : ℕ) → up k x ≤ f → 1 ≤ k → z .e ≤ up k x → T (not (sd (up k x))) → (n : ℕ) × Cov n (up n x)

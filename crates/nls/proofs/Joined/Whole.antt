@@ -2,11 +2,10 @@
 -- Assumes nothing.
 use Prim.Native.Nat.{ℕ, suc, _+_, _*_, _-_, _^_, _/_, _≤_, _<_}
 use mathlib.Core.Path.{_≡_, refl, ap, sym, _∙_}
-use mathlib.Core.Bool.{Bool, true, false}
+use mathlib.Core.Bool.{Bool}
 use mathlib.Core.List.{List, _++_}
 use native.Mathlib.Nat.{le-refl}
 use native.Mathlib.Omega.{arith}
-use lib.Dec.{T}
 use lib.Pow.{pow-lt}
 use lib.ListN.{length, take, replicate}
 use lib.Seq.{take-all}
@@ -17,7 +16,7 @@ use Rattle.nls.proofs.Reading.Know.{least}
 use Rattle.nls.proofs.Counting.Sums.{sum, sum-le}
 use Rattle.nls.proofs.Counting.Tree.{Size, Q, I}
 use Rattle.nls.proofs.Counting.Parts.{ι, big, split-desc, split-grand, plane, body, parts, splits, bigs}
-use Rattle.nls.proofs.Counting.Count.{plane-count, big-mono, desc-shrinks, grand-shrinks}
+use Rattle.nls.proofs.Counting.Count.{plane-count, big-mono, desc-shrinks, grand-shrinks, ι-mono}
 use Rattle.nls.proofs.Counting.Bound.{nonzeros, worst-is, size, all-is, coarsest-is, bits-count, bits-bound, bound-reached}
 use Rattle.nls.proofs.Counting.Lists.{start-l}
 use Rattle.nls.proofs.Joined.Leads.{Runs, runs-stream, runs-ends}
@@ -40,12 +39,6 @@ whole N L P A = answersOf N (bits-of A) (bound N L P) (begin N L P)
 pub record Planes (n : ℕ) (mag : ℕ → ℕ) (P : ℕ) : Type 0 where
   pub below : (i : ℕ) → i < n → mag i < 2 ^ P
   pub least : (R : ℕ) → ((i : ℕ) → i < n → mag i < 2 ^ R) → P ≤ R
-
--- no more is split or found in a higher plane
-ι-le : (s t : Bool) → (T s → T t) → ι s ≤ ι t
-ι-le false t h = omega arith
-ι-le true true h = omega arith
-ι-le true false h = absurd (h tt)
 
 module _ (N L : ℕ) (b : 1 ≤ L) (c : L < N) where
   abbrev z : Size
@@ -114,16 +107,16 @@ module _ (N L : ℕ) (b : 1 ≤ L) (c : L < N) where
         omega (
           arith,
           sum-le (z .e) (Q z - z .e) (λ i. ι (split-desc z (A .mag) (suc k) i)) (λ i. ι (split-desc z (A .mag) k i))
-              (λ i u v. ι-le (split-desc z (A .mag) (suc k) i) (split-desc z (A .mag) k i) (desc-shrinks z (A .mag) k i)),
+              (λ i u v. ι-mono (split-desc z (A .mag) (suc k) i) (split-desc z (A .mag) k i) (desc-shrinks z (A .mag) k i)),
           sum-le (z .e) (z .j - z .e) (λ i. ι (split-grand z (A .mag) (suc k) i)) (λ i. ι (split-grand z (A .mag) k i))
-              (λ i u v. ι-le (split-grand z (A .mag) (suc k) i) (split-grand z (A .mag) k i) (grand-shrinks z (A .mag) k i)),
+              (λ i u v. ι-mono (split-grand z (A .mag) (suc k) i) (split-grand z (A .mag) k i) (grand-shrinks z (A .mag) k i)),
         )
 
     bigs-fall : (k : ℕ) → bigs z (A .mag) (suc k) ≤ bigs z (A .mag) k
     unfolding bigs
     bigs-fall k =
         sum-le 0 (I z) (λ i. ι (big z (A .mag) (suc k) i)) (λ i. ι (big z (A .mag) k i))
-        (λ i u v. ι-le (big z (A .mag) (suc k) i) (big z (A .mag) k i) (big-mono z (A .mag) k i))
+        (λ i u v. ι-mono (big z (A .mag) (suc k) i) (big z (A .mag) k i) (big-mono z (A .mag) k i))
 
     -- the parts after it, the sets split in it, the coefficients found in it
     pub plane-by-plane : (k : ℕ) → k < P

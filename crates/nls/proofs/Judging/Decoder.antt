@@ -2,7 +2,7 @@
 use mathlib.Core.Path.{_≡_, refl, sym, ap, subst, _∙_}
 use mathlib.Core.Bool.{Bool, true, false, not, _&&_, _||_, true≢false, false≢true}
 use mathlib.Core.Option.{Option, none, some}
-use mathlib.Core.List.{List, [], _∷_, _++_}
+use mathlib.Core.List.{List, [], _∷_, _++_, append-nil, append-assoc}
 use Prim.Native.Nat.{ℕ, zero, suc, _+_, _*_, _-_, _%_, _^_, _≤_}
 use native.Mathlib.Omega.{arith}
 use lib.ListN.{length, getD, length-append}
@@ -43,14 +43,6 @@ lit-snoc [] true = refl
 lit-snoc [] false = refl
 lit-snoc (true ∷ u) a = refl
 lit-snoc (false ∷ u) a = lit-snoc u a
-
-app-assoc : (u : List Bool) (a : Bool) (v : List Bool) → (u ++ (a ∷ [])) ++ v ≡ u ++ (a ∷ v)
-app-assoc [] a v = refl
-app-assoc (x ∷ u) a v = ap {B = List Bool} (λ r. x ∷ r) (app-assoc u a v)
-
-app-nil : (u : List Bool) → u ++ [] ≡ u
-app-nil [] = refl
-app-nil (x ∷ u) = ap {B = List Bool} (λ r. x ∷ r) (app-nil u)
 
 module _ (N D P : ℕ) (D-big : 4 ≤ D) (D-4 : D % 4 ≡ 0) (I-16 : 4 ^ N % 16 ≡ 0) (D-I : 4 * D ≤ 4 ^ N) where
   abbrev I : ℕ
@@ -135,8 +127,8 @@ module _ (N D P : ℕ) (D-big : 4 ≤ D) (D-4 : D % 4 ≡ 0) (I-16 : 4 ^ N % 16 
 
   decode-from : (cl : ℕ → Bool → State → Bool) → Right cl → (v u r : List Bool) → v ≡ u ++ r → Some u → Means v (decode I cl (length u) (lit u) (reach (4 ^ N) S u) r)
   unfolding decode
-  decode-from cl rt v u [] e w = (ap (λ (x : List Bool). reach (4 ^ N) S x) (sym (e ∙ app-nil u)), subst Some (sym (e ∙ app-nil u)) w)
-  decode-from cl rt v u (a ∷ r) e w = go (ask I (reach (4 ^ N) S u)) refl (decode-from cl rt v (u ++ (a ∷ [])) r (e ∙ sym (app-assoc u a r)))
+  decode-from cl rt v u [] e w = (ap (λ (x : List Bool). reach (4 ^ N) S x) (sym (e ∙ append-nil u)), subst Some (sym (e ∙ append-nil u)) w)
+  decode-from cl rt v u (a ∷ r) e w = go (ask I (reach (4 ^ N) S u)) refl (decode-from cl rt v (u ++ (a ∷ [])) r (e ∙ sym (append-assoc u (a ∷ []) r)))
     where
       len : length (u ++ (a ∷ [])) ≡ length u + 1
       len = length-append {A = Bool} u (a ∷ [])

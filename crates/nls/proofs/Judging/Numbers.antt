@@ -1,64 +1,29 @@
 -- MAGNITUDES AS NUMBERS: arrays of numbers below 2^P and arrays of bits are the same, so what is proved of bits holds of numbers.
-use mathlib.Core.Path.{_≡_, sym, ap, subst, _∙_}
-use mathlib.Core.Bool.{Bool, true, false, true≢false}
+use mathlib.Core.Path.{_≡_, sym, subst, _∙_}
+use mathlib.Core.Bool.{Bool, true, true≢false}
 use mathlib.Core.Option.{Option, none, some}
 use mathlib.Core.List.{List, [], _∷_}
-use Prim.Native.Nat.{ℕ, zero, suc, _+_, _*_, _/_, _%_, _^_, _≤_, _<_}
+use Prim.Native.Nat.{ℕ, suc, _^_, _≤_, _<_, _-_}
 use native.Mathlib.Omega.{arith}
-use native.Mathlib.Nat.{pow-suc, zero-div, div-one, div-eq-of-lt-le}
 use native.Mathlib.Decide.{decLt}
-use lib.Pow.{shr-shr}
-use lib.Dec.{eqb, lit<, lit≤}
-use borrow.Author.Tests.{eq-eqb, ne-eqb}
-use Rattle.bits.specs.Bits.{bit}
+use Rattle.bits.specs.Bits.{bit, number}
+use Rattle.bits.proofs.Laws.{bit-high, bit-top, number-lt, number-bit}
 use Rattle.nls.specs.Scan.{Question, bitOf, signOf, inDesc, inGrand, ask, next}
 use Rattle.nls.proofs.Booleans.{not-true-false, same-bool}
 use Rattle.nls.proofs.Arrays.{Arr, Bits, bits-of, ans, inside}
 use Rattle.nls.proofs.Judging.Most.{told, Fits, any-mono}
 use Rattle.nls.proofs.Judging.Clash.{Valid}
 
-pub bit-0 : (x : ℕ) → bit x 0 ≡ eqb (x % 2) 1
-unfolding bit
-bit-0 x = ap (λ (y : ℕ). eqb (y % 2) 1) (div-one x)
-
-pub bit-suc : (x b : ℕ) → bit x (suc b) ≡ bit (x / 2) b
-unfolding bit
-bit-suc x b = ap (λ (y : ℕ). eqb (y % 2) 1) (ap (λ (e : ℕ). x / 2 ^ e) {x = suc b} {y = 1 + b} (omega arith) ∙ sym (shr-shr x 1 b))
-
-abbrev pub b2n : Bool → ℕ
-b2n true = 1
-b2n false = 0
-
 -- the number whose bits below n are f
 abbrev pub num : ℕ → (ℕ → Bool) → ℕ
-num zero f = 0
-num (suc n) f = b2n (f 0) + 2 * num n (λ b. f (suc b))
+num n f = number n (λ k. f (n - 1 - k))
 
-b2n-le : (x : Bool) → b2n x ≤ 1
-b2n-le true = lit≤ tt
-b2n-le false = omega arith
+num-lt : (n : ℕ) (f : ℕ → Bool) → num n f < 2 ^ n
+num-lt n f = number-lt n (λ k. f (n - 1 - k))
 
-b2n-eqb : (x : Bool) (r : ℕ) → eqb ((b2n x + 2 * r) % 2) 1 ≡ x
-b2n-eqb true r = eq-eqb ((1 + 2 * r) % 2) 1 (omega arith)
-b2n-eqb false r = ne-eqb ((0 + 2 * r) % 2) 1 (λ e. omega arith)
-
-pub num-lt : (n : ℕ) (f : ℕ → Bool) → num n f < 2 ^ n
-num-lt zero f = lit< tt
-num-lt (suc n) f = omega (arith, num-lt n (λ b. f (suc b)), b2n-le (f 0), pow-suc 2 n)
-
-pub num-bit : (n : ℕ) (f : ℕ → Bool) (b : ℕ) → b < n → bit (num n f) b ≡ f b
-num-bit zero f b h = absurd (omega arith)
-num-bit (suc n) f zero h = bit-0 (num (suc n) f) ∙ b2n-eqb (f 0) (num n (λ b. f (suc b)))
-num-bit (suc n) f (suc b) h = bit-suc (num (suc n) f) b ∙ ap (λ (x : ℕ). bit x b) {x = num (suc n) f / 2} {y = num n (λ b. f (suc b))} (omega (arith, b2n-le (f 0))) ∙ num-bit n (λ b. f (suc b)) b (omega arith)
-
-zero-bit : (b : ℕ) → bit 0 b ≡ false
-unfolding bit
-zero-bit b = ap (λ (y : ℕ). eqb (y % 2) 1) (zero-div (2 ^ b))
-
-pub bit-hi : (n x b : ℕ) → x < 2 ^ n → n ≤ b → bit x b ≡ false
-bit-hi zero x b h k = ap (λ (y : ℕ). bit y b) {x = x} {y = 0} (omega (arith, h)) ∙ zero-bit b
-bit-hi (suc n) x zero h k = absurd (omega arith)
-bit-hi (suc n) x (suc b) h k = bit-suc x b ∙ bit-hi n (x / 2) b (omega (arith, h, pow-suc 2 n)) (omega arith)
+num-bit : (n : ℕ) (f : ℕ → Bool) (b : ℕ) → b < n → bit (num n f) b ≡ f b
+num-bit n f b h =
+    subst (λ (x : ℕ). bit (num n f) x ≡ f x) {x = n - 1 - (n - 1 - b)} {y = b} (omega arith) (number-bit n (λ k. f (n - 1 - k)) (n - 1 - b) (omega arith))
 
 -- An array of numbers with P planes: P is the least with every magnitude below 2^P
 pub record Planes (I P : ℕ) (A : Arr) : Type 0 where
@@ -66,14 +31,11 @@ pub record Planes (I P : ℕ) (A : Arr) : Type 0 where
   pub least : (j : ℕ) × (b : ℕ) × (j < I) × (suc b ≡ P) × (2 ^ b ≤ A .mag j)
 
 pub valid-of : (I P : ℕ) (A : Arr) → Planes I P A → Valid I P (bits-of A)
-valid-of I P A p = record { cap = λ j e h. cap′ j e h (decLt e P); top = (p .least .0, p .least .1, p .least .2, p .least .3, top′ (p .least .1) (A .mag (p .least .0)) (p .least .4) (subst (λ (x : ℕ). A .mag (p .least .0) < 2 ^ x) (sym (p .least .3)) (p .under (p .least .0)))) }
+valid-of I P A p = record { cap = λ j e h. cap′ j e h (decLt e P); top = (p .least .0, p .least .1, p .least .2, p .least .3, bit-top (A .mag (p .least .0)) (p .least .1) (p .least .4) (subst (λ (x : ℕ). A .mag (p .least .0) < 2 ^ x) (sym (p .least .3)) (p .under (p .least .0)))) }
   where
     cap′ : (j e : ℕ) → bit (A .mag j) e ≡ true → Dec (e < P) → e < P
     cap′ j e h (yes z) = z
-    cap′ j e h (no z) = absurd (true≢false (sym h ∙ bit-hi P (A .mag j) e (p .under j) (omega arith)))
-
-    top′ : (b x : ℕ) → 2 ^ b ≤ x → x < 2 ^ suc b → bit x b ≡ true
-    top′ b x h k = unfold bit in ap (λ (y : ℕ). eqb (y % 2) 1) (div-eq-of-lt-le {k = 1} (2 ^ b) {m = x} (omega (arith, h)) (omega (arith, k, pow-suc 2 b)))
+    cap′ j e h (no z) = absurd (true≢false (sym h ∙ bit-high P (A .mag j) e (p .under j) (omega arith)))
 
 -- the array of numbers with the bits of B
 abbrev pub arr-of : ℕ → Bits → Arr
@@ -84,13 +46,13 @@ arr-has I P B v j e = go (decLt e P)
   where
     go : Dec (e < P) → bit (num P (B .has j)) e ≡ B .has j e
     go (yes z) = num-bit P (B .has j) e z
-    go (no z) = bit-hi P (num P (B .has j)) e (num-lt P (B .has j)) (omega arith) ∙ sym (not-true-false (B .has j e) (λ h. z (v .cap j e h)))
+    go (no z) = bit-high P (num P (B .has j)) e (num-lt P (B .has j)) (omega arith) ∙ sym (not-true-false (B .has j e) (λ h. z (v .cap j e h)))
 
 pub planes-of : (I P : ℕ) (B : Bits) → Valid I P B → Planes I P (arr-of P B)
 planes-of I P B v = record { under = λ j. num-lt P (B .has j); least = (v .top .0, v .top .1, v .top .2, v .top .3, big (decLt (num P (B .has (v .top .0))) (2 ^ (v .top .1)))) }
   where
     big : Dec (num P (B .has (v .top .0)) < 2 ^ (v .top .1)) → 2 ^ (v .top .1) ≤ num P (B .has (v .top .0))
-    big (yes z) = absurd (true≢false (sym (v .top .4) ∙ sym (arr-has I P B v (v .top .0) (v .top .1)) ∙ bit-hi (v .top .1) (num P (B .has (v .top .0))) (v .top .1) z (omega arith)))
+    big (yes z) = absurd (true≢false (sym (v .top .4) ∙ sym (arr-has I P B v (v .top .0) (v .top .1)) ∙ bit-high (v .top .1) (num P (B .has (v .top .0))) (v .top .1) z (omega arith)))
     big (no z) = omega (arith, z)
 
 module _ (N : ℕ) where
@@ -108,7 +70,3 @@ module _ (N : ℕ) where
       go : (o : Option Question) → told N A o a → told N B o a
       go none t = t
       go (some q) t = sym (ans-ext A B f g q) ∙ t
-
-module _ (N D P : ℕ) (D-big : 4 ≤ D) (D-4 : D % 4 ≡ 0) (I-16 : 4 ^ N % 16 ≡ 0) (D-I : 4 * D ≤ 4 ^ N) where
-  abbrev I : ℕ
-  I = 4 ^ N

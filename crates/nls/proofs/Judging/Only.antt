@@ -1,20 +1,21 @@
 -- ONLY PLACES BELOW I ARE ASKED: an array may be taken to be 0 from I on, so it is a list of I numbers.
-use mathlib.Core.Path.{_≡_, refl, sym, _∙_}
+use mathlib.Core.Path.{_≡_, refl, sym, _∙_, ap}
 use mathlib.Core.Bool.{Bool, true, false, _&&_, true≢false, false≢true}
 use mathlib.Core.List.{List, [], _∷_}
-use Prim.Native.Nat.{ℕ, zero, suc, _^_, _≤_, _<_}
+use Prim.Native.Nat.{ℕ, zero, suc, _^_, _≤_, _<_, _-_}
 use native.Mathlib.Omega.{arith}
 use lib.ListN.{getD}
 use lib.Dec.{ltb, eqb}
 use borrow.Author.Tests.{ltb-true, lt-ltb, le-ltb}
 use Rattle.sizes.proofs.Laws.{both-right, both}
+use Rattle.bits.specs.Bits.{digit, number}
 use Rattle.nls.specs.Scan.{State, Look, over, silent, asks, Question, bitOf, signOf, inDesc, inGrand, Pass, pixels, sets, refining, look, lookAt, lookPixels, lookSets, lookRefining, ask, asked, next, start}
 use Rattle.nls.proofs.Booleans.{same-bool}
 use Rattle.nls.proofs.Arrays.{Arr, Bits, bits-of, ans, inside}
 use Rattle.nls.proofs.Judging.Most.{told, Fits}
 use Rattle.nls.proofs.Judging.Clash.{Valid}
 use Rattle.nls.proofs.Judging.Refuse.{find-desc, find-grand, yes-desc, yes-grand}
-use Rattle.nls.proofs.Judging.Numbers.{Planes, num, b2n, arr-of, arr-has, planes-of, fits-ext}
+use Rattle.nls.proofs.Judging.Numbers.{Planes, arr-of, arr-has, planes-of, fits-ext}
 
 -- what is asked about is below I
 abbrev In : ℕ → Look → Type 0
@@ -62,13 +63,10 @@ drop : (x y : Bool) → x ≡ false → (x && y) ≡ false
 drop true y e = absurd (true≢false e)
 drop false y e = refl
 
-num-0 : (n : ℕ) (f : ℕ → Bool) → ((b : ℕ) → f b ≡ false) → num n f ≡ 0
-num-0 zero f h = refl
-num-0 (suc n) f h = omega (arith, b0 (f 0) (h 0), num-0 n (λ b. f (suc b)) (λ b. h (suc b)))
-  where
-    b0 : (x : Bool) → x ≡ false → b2n x ≡ 0
-    b0 true e = absurd (true≢false e)
-    b0 false e = refl
+number-0 : (n : ℕ) (f : ℕ → Bool) → ((k : ℕ) → f k ≡ false) → number n f ≡ 0
+unfolding number
+number-0 zero f h = refl
+number-0 (suc n) f h = let none : digit (f n) ≡ 0 = ap (λ (x : Bool). digit x) (h n) in omega (arith, number-0 n f h)
 
 module _ (N : ℕ) where
   only-ans : (B : Bits) (q : Question) → In (4 ^ N) (asks q) → ans N B q ≡ ans N (only (4 ^ N) B) q
@@ -104,5 +102,5 @@ module _ (N : ℕ) where
     arr-of P (only (4 ^ N) (w .0)),
     planes-of (4 ^ N) P (only (4 ^ N) (w .0)) (only-valid P (w .0) (w .1)),
     fits-ext N State (ask (4 ^ N)) (next (4 ^ N)) (only (4 ^ N) (w .0)) (bits-of (arr-of P (only (4 ^ N) (w .0)))) (λ j e. sym (arr-has (4 ^ N) P (only (4 ^ N) (w .0)) (only-valid P (w .0) (w .1)) j e)) (λ j. refl) (start (4 ^ N) D P) u (only-fits (w .0) (start (4 ^ N) D P) u (w .2)),
-    λ j h. num-0 P (λ e. ltb j (4 ^ N) && (w .0) .has j e) (λ b. drop (ltb j (4 ^ N)) ((w .0) .has j b) (le-ltb j (4 ^ N) h)),
+    λ j h. number-0 P (λ k. ltb j (4 ^ N) && (w .0) .has j (P - 1 - k)) (λ k. drop (ltb j (4 ^ N)) ((w .0) .has j (P - 1 - k)) (le-ltb j (4 ^ N) h)),
   )

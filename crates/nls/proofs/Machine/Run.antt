@@ -14,17 +14,14 @@ use Rattle.nls.specs.Scan.{State, Look, over, silent, asks, Question, Pa
 use Rattle.nls.proofs.Arrays.{answersOf, Bits, ans}
 use Rattle.nls.proofs.Judging.Most.{Fits, told}
 
-pow4 : (k : ℕ) → 1 ≤ 4 ^ k
-pow4 k = one-le-pow k 4 (lit< tt)
-
 pub skip-pos : (m : ℕ) → 1 ≤ skip m
 unfolding skip
 skip-pos m = go (ltb m 5) (ltb m 7)
   where
     go : (x y : Bool) → 1 ≤ (elim x as (λ _. ℕ) [ true ↦ 1 | false ↦ elim y as (λ _. ℕ) [ true ↦ 4 ^ (m - 4) | false ↦ 4 ^ (m - 5) ] ])
     go true y = lit≤ tt
-    go false true = pow4 (m - 4)
-    go false false = pow4 (m - 5)
+    go false true = one-le-pow (m - 4) 4 (lit< tt)
+    go false false = one-le-pow (m - 5) 4 (lit< tt)
 
 pub sskip-pos : (m : ℕ) → 1 ≤ setSkip m
 unfolding setSkip

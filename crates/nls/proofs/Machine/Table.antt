@@ -3,7 +3,7 @@ use mathlib.Core.Path.{_≡_, refl, sym, ap, subst, _∙_}
 use mathlib.Core.Bool.{Bool, true, false, _||_, true≢false, false≢true}
 use Prim.Native.Nat.{ℕ, zero, suc, _+_, _*_, _-_, _/_, _%_, _^_, _≤_, _<_}
 use native.Mathlib.Omega.{arith}
-use native.Mathlib.Nat.{pow-suc}
+use native.Mathlib.Nat.{pow-succ'}
 use native.Mathlib.Decide.{decLt, ℕ-discrete}
 use lib.Dec.{ltb, lit<, lit≤}
 use borrow.Author.Tests.{ltb-false, le-ltb, lt-ltb}
@@ -102,18 +102,15 @@ pub skip-7 : (x : ℕ) → 7 ≤ x → skip x ≡ 4 ^ (x - 5)
 unfolding skip
 skip-7 x h = rw (le-ltb x 5 (omega arith), le-ltb x 7 h, skip)
 
-pow4-suc : (k : ℕ) → 4 ^ suc k ≡ 4 * 4 ^ k
-pow4-suc k = omega (arith, pow-suc 4 k)
-
 pub skip-up : (x : ℕ) → 5 ≤ x → skip (up x) ≡ 4 * skip x
 skip-up x h = go (decLt x 7)
   where
     go : Dec (x < 7) → skip (up x) ≡ 4 * skip x
     go (yes k) =
-        ap skip (up-5 x h k) ∙ skip-7 (x + 2) (omega arith) ∙ ap (λ (e : ℕ). 4 ^ e) {x = x + 2 - 5} {y = suc (x - 4)} (omega arith) ∙ pow4-suc (x - 4) ∙ ap (λ (e : ℕ). 4 * e) (sym (skip-5 x h k))
+        ap skip (up-5 x h k) ∙ skip-7 (x + 2) (omega arith) ∙ ap (λ (e : ℕ). 4 ^ e) {x = x + 2 - 5} {y = suc (x - 4)} (omega arith) ∙ pow-succ' 4 (x - 4) ∙ ap (λ (e : ℕ). 4 * e) (sym (skip-5 x h k))
     go (no k) =
         let k7 : 7 ≤ x = omega arith in
-        ap skip (up-7 x k7) ∙ skip-7 (x + 1) (omega arith) ∙ ap (λ (e : ℕ). 4 ^ e) {x = x + 1 - 5} {y = suc (x - 5)} (omega arith) ∙ pow4-suc (x - 5) ∙ ap (λ (e : ℕ). 4 * e) (sym (skip-7 x k7))
+        ap skip (up-7 x k7) ∙ skip-7 (x + 1) (omega arith) ∙ ap (λ (e : ℕ). 4 ^ e) {x = x + 1 - 5} {y = suc (x - 5)} (omega arith) ∙ pow-succ' 4 (x - 5) ∙ ap (λ (e : ℕ). 4 * e) (sym (skip-7 x k7))
 
 pub up-big : (x : ℕ) → 5 ≤ up x → 5 ≤ x
 up-big x h = go (decLt x 5)
