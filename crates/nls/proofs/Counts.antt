@@ -16,7 +16,6 @@ use Rattle.bits.specs.Bits.{digit}
 use Rattle.coef.specs.Coef.{magAt, IsPlanes}
 use Rattle.tree.specs.Tree.{desc, grand, anyIn}
 use Rattle.tree.proofs.Lists.{either, or-left, or-right}
-use Rattle.nls.specs.Scan.{State, next}
 use Rattle.nls.specs.Stream.{answers, begin, worstBody, stream, during}
 use Rattle.nls.specs.Parts.{sumTo, countTo, found, descSplit, grandSplit, parts, partSizes, splits, founds, nonzeros, splitsIn, foundIn}
 use Rattle.nls.proofs.Arrays.{Arr}
@@ -27,7 +26,6 @@ use Rattle.nls.proofs.Counting.Parts.{plane, body}
 use Rattle.nls.proofs.Counting.Sizes.{sizes-all}
 use Rattle.nls.proofs.Counting.Bound.{all-is}
 use Rattle.nls.proofs.Counting.Tiles.{pow4-pos}
-use Rattle.nls.proofs.Joined.Planes as machine
 use Rattle.nls.proofs.Joined.Whole as joined
 use Rattle.nls.proofs.Joined.Whole.{whole, whole-is-body, plane-bits, plane-by-plane}
 use Rattle.nls.proofs.Lists.{arrOf, stream-same}
@@ -126,11 +124,6 @@ module _ (N L P : ℕ) (A : List ℤ) (planes : IsPlanes A P) where
 pub sizes-add-up : (N L : ℕ) → Sized N L → (A : List ℤ) (b : ℕ) → partSizes N L A b ≡ allOf N
 sizes-add-up N L s A b = sizes-is N L s A b ∙ sizes-all (sizeOf N L s) (mags A) b ∙ all-is N L (s .least) (s .most)
 
-during-same : (N b : ℕ) (s : State) (u : List Bool) → during N b s u ≡ machine.during N b s u
-unfolding during machine.during
-during-same N b s [] = refl
-during-same N b s (a ∷ u) = rw (during-same N b (next (allOf N) s a) u)
-
 -- no planes, no bits
 pub empty : (N L : ℕ) (A : List ℤ) → stream N L 0 A ≡ []
 unfolding stream worstBody answers
@@ -194,9 +187,9 @@ module _ (N L P : ℕ) (s : Sized N L) where
             )
 
     -- what is taken in plane b
-    taken : (b : ℕ) → during N b (begin N L P) (stream N L P A) ≡ machine.during N b (begin N L P) (whole N L P (arrOf A))
+    taken : (b : ℕ) → during N b (begin N L P) (stream N L P A) ≡ during N b (begin N L P) (whole N L P (arrOf A))
     taken b =
-        ap (λ (u : List Bool). during N b (begin N L P) u) (stream-same N L s A P) ∙ during-same N b (begin N L P) (whole N L P (arrOf A))
+        ap (λ (u : List Bool). during N b (begin N L P) u) (stream-same N L s A P)
 
     -- IN PLANE b they number the parts that stand after it, the sets split in it and the coefficients found in it
     pub plane-count : (b : ℕ) → b < P

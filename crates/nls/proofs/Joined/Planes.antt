@@ -7,17 +7,13 @@ use mathlib.Core.List.{List, [], _∷_, _++_, append-nil}
 use native.Mathlib.Omega.{arith}
 use borrow.Author.Tests.{eq-eqb, ne-eqb, eqb-true, eqb-false}
 use lib.Dec.{eqb}
+use Rattle.nls.specs.Stream.{during}
 use Rattle.nls.specs.Scan.{State, pixels, at, settle, next, reach}
 use Rattle.nls.proofs.Arrays.{Arr, bits-of}
 use Rattle.nls.proofs.Counting.Tree.{Size, I}
 use Rattle.nls.proofs.Counting.Parts.{plane, body}
 use Rattle.nls.proofs.Joined.Leads.{In, Leads}
 use Rattle.nls.proofs.Joined.Machine.{Held, machine-plane}
-
--- the bits of u, read from s on, that are taken while plane b is in progress
-unfoldable pub during : ℕ → ℕ → State → List Bool → List Bool
-during N b s [] = []
-during N b s (a ∷ u) = cond (eqb (s .left) (suc b)) (a ∷ during N b (next (4 ^ N) s a) u) (during N b (next (4 ^ N) s a) u)
 
 module _ (N b : ℕ) where
   during-append : (s : State) (u v : List Bool) → during N b s (u ++ v) ≡ during N b s u ++ during N b (reach (4 ^ N) s u) v

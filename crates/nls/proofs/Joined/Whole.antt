@@ -9,10 +9,10 @@ use native.Mathlib.Omega.{arith}
 use lib.Pow.{pow-lt}
 use lib.ListN.{length, take, replicate}
 use lib.Seq.{take-all}
+use Rattle.nls.specs.Stream.{begin, during}
 use Rattle.nls.specs.Marks.{pushRoots, startMarks}
 use Rattle.nls.specs.Scan.{State, pixels, at, settle, reach, start}
 use Rattle.nls.proofs.Arrays.{answersOf, Arr, bits-of}
-use Rattle.nls.proofs.Reading.Know.{least}
 use Rattle.nls.proofs.Counting.Sums.{sum, sum-le}
 use Rattle.nls.proofs.Counting.Tree.{Size, Q, I}
 use Rattle.nls.proofs.Counting.Parts.{ι, big, split-desc, split-grand, plane, body, parts, splits, bigs}
@@ -22,23 +22,15 @@ use Rattle.nls.proofs.Counting.Lists.{start-l}
 use Rattle.nls.proofs.Joined.Leads.{Runs, runs-stream, runs-ends}
 use Rattle.nls.proofs.Joined.Same.{start-same}
 use Rattle.nls.proofs.Joined.Machine.{Held, machine-body, start-held}
-use Rattle.nls.proofs.Joined.Planes.{during, during-plane}
+use Rattle.nls.proofs.Joined.Planes.{during-plane}
 
 -- the bound of document 01 on the bits of a whole body, for P of at least 1
 abbrev pub bound : ℕ → ℕ → ℕ → ℕ
 bound N L P = 4 ^ N * (P + 1) + (4 ^ N - 4 ^ (N - L)) / 4 + (4 ^ N - 4 * 4 ^ (N - L)) / 16
 
--- the machine at the start, and the whole stream of an array: the bound is fuel enough
-abbrev pub begin : ℕ → ℕ → ℕ → State
-begin N L P = start (4 ^ N) (4 ^ (N - L)) P
-
+-- the whole stream of an array: the bound is fuel enough
 unfoldable pub whole : ℕ → ℕ → ℕ → Arr → List Bool
 whole N L P A = answersOf N (bits-of A) (bound N L P) (begin N L P)
-
--- P is the number of planes of the magnitudes: the least with every one below 2 ^ P
-pub record Planes (n : ℕ) (mag : ℕ → ℕ) (P : ℕ) : Type 0 where
-  pub below : (i : ℕ) → i < n → mag i < 2 ^ P
-  pub least : (R : ℕ) → ((i : ℕ) → i < n → mag i < 2 ^ R) → P ≤ R
 
 module _ (N L : ℕ) (b : 1 ≤ L) (c : L < N) where
   abbrev z : Size

@@ -15,7 +15,7 @@ use Rattle.nls.proofs.Arrays.{Bits}
 use Rattle.nls.proofs.Judging.Most.{told, Fits, most, afterO}
 use Rattle.nls.proofs.Reading.Know.{least, know, knowO, know-sgn-has}
 use Rattle.nls.proofs.Judging.Owed.{Owed}
-use Rattle.nls.proofs.Machine.Table.{Cfg, alone, stands, no-alone, no-stands, alone-no}
+use Rattle.nls.proofs.Machine.Table.{alone, stands, no-alone, no-stands, alone-no}
 use Rattle.nls.proofs.Machine.Cover.{Under, Core, is-D, mark-D}
 use Rattle.nls.proofs.Machine.Steps.{Fam, Good, Good-at, Learned, On-ask, good-next, good-mono}
 use Rattle.nls.proofs.Judging.Clash.{root}
@@ -145,9 +145,6 @@ module _ (N D P : ℕ) (D-big : 4 ≤ D) (D-4 : D % 4 ≡ 0) (I-16 : 4 ^ N % 16 
   -- with nothing marked, nothing was answered 1
   module _ (A k w : Bits) (O : Question → Type 0) (b i : ℕ) (m : List ℕ) (hi : i < I) (mk : getD m i 0 ≡ 5) (te : i + 4 ≡ 4 * D)
       (z : All-at N D P D-big D-4 I-16 D-I A false k w O (suc b) sets i false m) where
-    c : Cfg
-    c = z .1 .0
-
     kk : Core D I D-big D-4 I-16 (z .1 .0) m
     kk = z .1 .1 .g .core
 
@@ -204,9 +201,6 @@ module _ (N D P : ℕ) (D-big : 4 ≤ D) (D-4 : D % 4 ≡ 0) (I-16 : 4 ^ N % 16 
 
   -- the flag says so
   module _ (A : Bits) (u : List Bool) (f : Fits N State (ask I) (next I) A (start I D P) u) where
-    abbrev k : Bits
-    k = least N State (ask I) (next I) S u nothing
-
     pub z : All N D P D-big D-4 I-16 D-I A false (least N State (ask I) (next I) S u nothing) (most N State (ask I) (next I) S u (record { has = λ i b. ltb b P; neg = λ i. false })) (Owing N D P D-big D-4 I-16 D-I A false S u (λ p. ⊥)) (reach (4 ^ N) S u)
     z = all-run N D P D-big D-4 I-16 D-I A false nothing (record { has = λ i b. ltb b P; neg = λ i. false }) (λ p. ⊥) S u (all-start N D P D-big D-4 I-16 D-I A false) f
 
