@@ -1,4 +1,5 @@
 pub mod Booleans
+pub mod Tiled
 pub mod Arrays
 pub mod Machine
 pub mod Reading

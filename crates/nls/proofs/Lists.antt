@@ -109,7 +109,7 @@ module _ (N L : ℕ) (z : Sized N L) where
     none-of : (n : ℕ) → answersOf N (bits-of (arrOf A)) n (begin N L 0) ≡ []
     unfolding answersOf
     none-of zero = refl
-    none-of (suc n) = rw (none-asked N L (omega arith) (z .least) (z .most), answersOf)
+    none-of (suc n) = rw (none-asked N L z, answersOf)
 
     pub stream-same : (P : ℕ) → stream N L P A ≡ whole N L P (arrOf A)
     unfolding stream whole worstBody answers

@@ -15,6 +15,7 @@ use Rattle.nls.specs.Marks.{skip, setSkip, pushFrom, pushRoots, startMar
 use Rattle.nls.specs.Scan.{Question, State, silently, settle, ask, next, reach, start}
 use Rattle.nls.specs.Stream.{begin, after, stream}
 use Rattle.nls.specs.Judging.{Fits, Verdict, taken, contradiction, beyond, Contradicts, IsBeyond, Judged}
+use Rattle.nls.proofs.Tiled.{tiled}
 use Rattle.nls.proofs.Arrays.{Bits, bits-of}
 use Rattle.nls.proofs.Counting.Sums.{order}
 use Rattle.nls.proofs.Machine.Run.{Fit}
@@ -22,7 +23,7 @@ use Rattle.nls.proofs.Judging.Most.{told}
 use Rattle.nls.proofs.Judging.Decide.{clash-by, cb-child, cb-grand, cb-desc, cb-root}
 use Rattle.nls.proofs.Judging.Decoder.{Out, here, no12, no13, decode, Means}
 use Rattle.nls.proofs.Judging.ByCount.{clash-count}
-use Rattle.nls.proofs.Judging.Final.{D-big, D-4, I-16, D-I, answer-means, none-asked}
+use Rattle.nls.proofs.Judging.Final.{answer-means, none-asked}
 use Rattle.nls.proofs.Lists.{arrOf}
 use Rattle.nls.proofs.Streams.{Answered, begins-iff}
 use Rattle.nls.proofs.Signs.{lists-fit, bits-fit}
@@ -119,13 +120,8 @@ module _ (N L : ℕ) (z : Sized N L) where
         subst (λ (o : Option Question). told N (bits-of (arrOf (w .0))) o (getD u n false)) e
         (last-told N (bits-of (arrOf (w .0))) (begin N L P) (take n u) (getD u n false) f)
 
-    two : 2 ≤ N
-    two = omega (arith, z .least, z .most)
-
     abbrev Meant : List Bool → Out → Type 0
-    Meant v o =
-        Means N (coarsestOf N L) P (D-big N L two (z .least) (z .most)) (D-4 N L two (z .least) (z .most)) (I-16 N L two (z .least) (z .most))
-        (D-I N L two (z .least) (z .most)) v o
+    Meant v o = Means N (coarsestOf N L) P (tiled N L z) v o
 
     -- what the decoder's answer means, over lists of numbers
     meant-judged : 1 ≤ P → (v : List Bool) (o : Out) → Meant v o → Judged N L P v (shown o)
@@ -152,14 +148,14 @@ module _ (N L : ℕ) (z : Sized N L) where
     judged-some : 1 ≤ P → (u : List Bool) → Judged N L P u (verdict N L P u)
     judged-some h u =
         subst (λ (v : Verdict). Judged N L P u v) (sym (shown-from N L P 0 false (begin N L P) u))
-        (meant-judged h u (decoded N L P 0 false (begin N L P) u) (answer-means N L two (z .least) (z .most) P h u))
+        (meant-judged h u (decoded N L P 0 false (begin N L P) u) (answer-means N L z P h u))
 
   judged-none : (u : List Bool) → Judged N L 0 u (verdict N L 0 u)
   unfolding verdictFrom
   judged-none [] = nothing-fits
   judged-none (a ∷ u) =
-      rw (none-asked N L (omega (arith, z .least, z .most)) (z .least) (z .most), verdictFrom)
-      (record { there = omega arith; before = nothing-fits; ended = (unfold reach in none-asked N L (omega (arith, z .least, z .most)) (z .least) (z .most)) })
+      rw (none-asked N L z, verdictFrom)
+      (record { there = omega arith; before = nothing-fits; ended = (unfold reach in none-asked N L z) })
 
   -- THE VERDICT IS RIGHT, for every number of planes
   pub verdict-judged : (P : ℕ) (u : List Bool) → Judged N L P u (verdict N L P u)

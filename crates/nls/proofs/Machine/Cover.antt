@@ -13,6 +13,7 @@ use lib.Seq.{getD-set-same, getD-set-other}
 use lib.Dec.{ltb, lit<, lit≤}
 use borrow.Author.Tests.{ltb-false, le-ltb, lt-ltb}
 use Rattle.nls.specs.Marks.{skip, setSkip, splitDesc, splitGrand}
+use Rattle.nls.proofs.Tiled.{Tiled}
 use Rattle.nls.proofs.Arrays.{four}
 use Rattle.nls.proofs.Machine.Table.{Cfg, up, alone, stands, Ok, Table, alone-no, no-alone, stands-no, no-stands, no-dg, gap, skip-5, skip-7, up-low, up-5, up-7}
 use Rattle.nls.proofs.Machine.Push.{table-G, ok-G, len-G, sD-G, al-G, alone-G, stands-G-off, sG-off, sG-on}
@@ -120,7 +121,7 @@ up-6-no x (yes a) b e = omega (arith, up-low x a)
 up-6-no x (no a) (yes b) e = omega (arith, up-5 x (omega arith) b)
 up-6-no x (no a) (no b) e = omega (arith, up-7 x (omega arith))
 
-module _ (D I : ℕ) (D-big : 4 ≤ D) (D-4 : D % 4 ≡ 0) (I-16 : I % 16 ≡ 0) where
+module _ (D I : ℕ) (sz : Tiled D I) where
   pub record Core (c : Cfg) (l : List ℕ) : Type 0 where
     pub len : length l ≡ I
     pub ok : Ok D I c
@@ -217,7 +218,7 @@ module _ (D I : ℕ) (D-big : 4 ≤ D) (D-4 : D % 4 ≡ 0) (I-16 : I % 16 ≡ 0)
 
       go : (x : Bool) → alone D I c j ≡ x → (alone D I c j ≡ true) × (c .al j ≡ getD l j 0)
       go true e = (e, sym (k .tab .solo j h e))
-      go false e = absurd (no-way (kind-no D I D-big c (k .ok) (λ i. getD l i 0) (k .tab) j h e))
+      go false e = absurd (no-way (kind-no D I sz c (k .ok) (λ i. getD l i 0) (k .tab) j h e))
 
   -- and one of 5 or more is not
   pub not-alone : (c : Cfg) (l : List ℕ) → Core c l → (j : ℕ) → j < I → 5 ≤ getD l j 0 → alone D I c j ≡ false
@@ -243,15 +244,15 @@ module _ (D I : ℕ) (D-big : 4 ≤ D) (D-4 : D % 4 ≡ 0) (I-16 : I % 16 ≡ 0)
 
           hit : Dec (j ≡ t) → ⊥
           hit (yes q) = true≢false (sym (subst (λ (i : ℕ). alone D I c i ≡ true) q e) ∙ not-alone c l k t h big)
-          hit (no q) = true≢false (sym e ∙ (gap D I D-big c (λ i. getD l i 0) (k .ok) (k .tab) t h (not-alone c l k t h big) big j (omega arith) b ji) .0)
+          hit (no q) = true≢false (sym e ∙ (gap D I sz c (λ i. getD l i 0) (k .ok) (k .tab) t h (not-alone c l k t h big) big j (omega arith) b ji) .0)
 
   -- the mark of one coefficient changes
   pub core-A : (c : Cfg) (l : List ℕ) (i v : ℕ) → Core c l → i < I → alone D I c i ≡ true → 1 ≤ v → v ≤ 4 → Core (withA i v c) (set l i v)
   unfolding withA alone
   core-A c l i v k h a v1 v4 = record {
     len = length-set l i v ∙ k .len;
-    ok = ok-A D I D-big c (k .ok) (λ j. getD l j 0) (k .tab) i v;
-    tab = table-A D I D-big c (k .ok) (λ j. getD l j 0) (k .tab) i v a (λ j. getD (set l i v) j 0)
+    ok = ok-A D I sz c (k .ok) (λ j. getD l j 0) (k .tab) i v;
+    tab = table-A D I sz c (k .ok) (λ j. getD l j 0) (k .tab) i v a (λ j. getD (set l i v) j 0)
         (getD-set-same l i v 0 (omega (arith, k .len))) (λ j hj n. getD-set-other l i j v 0 n);
     rng = λ j hj e. rng′ j hj e (ℕ-discrete j i);
   }
@@ -483,12 +484,12 @@ module _ (D I : ℕ) (D-big : 4 ≤ D) (D-4 : D % 4 ≡ 0) (I-16 : I % 16 ≡ 0)
   -- no standing set begins strictly inside a skip past a mark of 5 or more
   quiet-D : (c : Cfg) (l : List ℕ) → Core c l → (t : ℕ) → t < I → 5 ≤ getD l t 0 → (h : ℕ) → D ≤ 4 * h → 4 * h < I → t < 4 * h → 4 * h < t + skip (getD l t 0) → stands D I c h ≡ true → c .sD h ≡ false → ⊥
   quiet-D c l k t ti big h a b x y s n =
-      let z : (alone D I c (4 * h) ≡ false) × (getD l (4 * h) 0 ≡ 0) = gap D I D-big c (λ i. getD l i 0) (k .ok) (k .tab) t ti (not-alone c l k t ti big) big (4 * h) x y b in
+      let z : (alone D I c (4 * h) ≡ false) × (getD l (4 * h) 0 ≡ 0) = gap D I sz c (λ i. getD l i 0) (k .ok) (k .tab) t ti (not-alone c l k t ti big) big (4 * h) x y b in
       omega (arith, z .1, mark-D c l k h a b s n)
 
   quiet-G : (c : Cfg) (l : List ℕ) → Core c l → (t : ℕ) → t < I → 5 ≤ getD l t 0 → (q : ℕ) → D ≤ 4 * q → 16 * q < I → t < 16 * q → 16 * q < t + skip (getD l t 0) → c .sD q ≡ true → c .sG q ≡ false → ⊥
   quiet-G c l k t ti big q a b x y s n =
-      let z : (alone D I c (16 * q) ≡ false) × (getD l (16 * q) 0 ≡ 0) = gap D I D-big c (λ i. getD l i 0) (k .ok) (k .tab) t ti (not-alone c l k t ti big) big (16 * q) x y b in
+      let z : (alone D I c (16 * q) ≡ false) × (getD l (16 * q) 0 ≡ 0) = gap D I sz c (λ i. getD l i 0) (k .ok) (k .tab) t ti (not-alone c l k t ti big) big (16 * q) x y b in
       omega (arith, z .1, mark-G c l k q a b s n)
 
   -- The set pass goes on past t to t + w, with no MCP at t, if nothing stands between, but perhaps a set at t that is settled
@@ -573,16 +574,16 @@ module _ (D I : ℕ) (D-big : 4 ≤ D) (D-4 : D % 4 ≡ 0) (I-16 : I % 16 ≡ 0)
       (λ h a b u v s d. two-D h a b u v s d (ℕ-discrete (4 * h) t))
       (λ q a b u v s d. absurd (two-G q a b u v s d (ℕ-discrete (16 * q) t)))
     where
-      sz : skip (getD l t 0) ≡ 4
-      sz = ap skip m ∙ skip-5 5 (lit≤ tt) (lit< tt)
+      far-skip : skip (getD l t 0) ≡ 4
+      far-skip = ap skip m ∙ skip-5 5 (lit≤ tt) (lit< tt)
 
       two-D : (h : ℕ) → D ≤ 4 * h → 4 * h < I → t ≤ 4 * h → 4 * h < t + 4 → stands D I c h ≡ true → c .sD h ≡ false → Dec (4 * h ≡ t) → (i : ℕ) → i < I → Under h i → X i
       two-D h a b u v s d (yes e) i hi z = x i hi (subst (λ (k : ℕ). Under k i) {x = h} {y = t / 4} (omega arith) z)
-      two-D h a b u v s d (no e) i hi z = absurd (quiet-D c l (p .core) t ti (omega arith) h a b (omega arith) (omega (arith, sz)) s d)
+      two-D h a b u v s d (no e) i hi z = absurd (quiet-D c l (p .core) t ti (omega arith) h a b (omega arith) (omega (arith, far-skip)) s d)
 
       two-G : (q : ℕ) → D ≤ 4 * q → 16 * q < I → t ≤ 16 * q → 16 * q < t + 4 → c .sD q ≡ true → c .sG q ≡ false → Dec (16 * q ≡ t) → ⊥
       two-G q a b u v s d (yes e) = omega (arith, mark-G c l (p .core) q a b s d, ap (λ (i : ℕ). getD l i 0) e)
-      two-G q a b u v s d (no e) = quiet-G c l (p .core) t ti (omega arith) q a b (omega arith) (omega (arith, sz)) s d
+      two-G q a b u v s d (no e) = quiet-G c l (p .core) t ti (omega arith) q a b (omega arith) (omega (arith, far-skip)) s d
 
   -- MG answered 0: all of GRAND is settled
   pub sets-G0 : (R : Preds) (X : ℕ → Type 0) (t : ℕ) (c : Cfg) (l : List ℕ) → Sets R X t c l → t < I → getD l t 0 ≡ 6 → ((i : ℕ) → i < I → Under (t / 16) (i / 4) → X i) → Sets R X (t + 16) c l
@@ -590,16 +591,16 @@ module _ (D I : ℕ) (D-big : 4 ≤ D) (D-4 : D % 4 ≡ 0) (I-16 : I % 16 ≡ 0)
       (λ h a b u v s d. absurd (two-D h a b u v s d (ℕ-discrete (4 * h) t)))
       (λ q a b u v s d. two-G q a b u v s d (ℕ-discrete (16 * q) t))
     where
-      sz : skip (getD l t 0) ≡ 16
-      sz = ap skip m ∙ skip-5 6 (lit≤ tt) (lit< tt)
+      far-skip : skip (getD l t 0) ≡ 16
+      far-skip = ap skip m ∙ skip-5 6 (lit≤ tt) (lit< tt)
 
       two-D : (h : ℕ) → D ≤ 4 * h → 4 * h < I → t ≤ 4 * h → 4 * h < t + 16 → stands D I c h ≡ true → c .sD h ≡ false → Dec (4 * h ≡ t) → ⊥
       two-D h a b u v s d (yes e) = omega (arith, mark-D c l (p .core) h a b s d, ap (λ (i : ℕ). getD l i 0) e)
-      two-D h a b u v s d (no e) = quiet-D c l (p .core) t ti (omega arith) h a b (omega arith) (omega (arith, sz)) s d
+      two-D h a b u v s d (no e) = quiet-D c l (p .core) t ti (omega arith) h a b (omega arith) (omega (arith, far-skip)) s d
 
       two-G : (q : ℕ) → D ≤ 4 * q → 16 * q < I → t ≤ 16 * q → 16 * q < t + 16 → c .sD q ≡ true → c .sG q ≡ false → Dec (16 * q ≡ t) → (i : ℕ) → i < I → Under q (i / 4) → X i
       two-G q a b u v s d (yes e) i hi z = x i hi (subst (λ (k : ℕ). Under k (i / 4)) {x = q} {y = t / 16} (omega arith) z)
-      two-G q a b u v s d (no e) i hi z = absurd (quiet-G c l (p .core) t ti (omega arith) q a b (omega arith) (omega (arith, sz)) s d)
+      two-G q a b u v s d (no e) i hi z = absurd (quiet-G c l (p .core) t ti (omega arith) q a b (omega arith) (omega (arith, far-skip)) s d)
 
   -- MCP answered: t is settled, and has the mark v, MIP or MNP
   pub sets-C : (R : Preds) (X : ℕ → Type 0) (t v : ℕ) (c : Cfg) (l : List ℕ) → Sets (hide t R) X t c l → t < I → getD l t 0 ≡ 4 → 1 ≤ v → v < 3 → X t → (2 ≤ v → R .Y t) → (R .Z t → 2 ≤ v) → Sets R X (t + 1) (withA t v c) (set l t v)
@@ -683,8 +684,8 @@ module _ (D I : ℕ) (D-big : 4 ≤ D) (D-4 : D % 4 ≡ 0) (I-16 : I % 16 ≡ 0)
   sets-D1 R X t c l p ti m y = record {
     core = record {
       len = length-split I t l (ltb (4 * t) I) ∙ k .len;
-      ok = ok-D D I D-big c (k .ok) (λ j. getD l j 0) (k .tab) g glo ghi (is .1) (is .2) m′ kids low′ rest;
-      tab = table-D D I D-big c (k .ok) (λ j. getD l j 0) (k .tab) g glo ghi (is .1) (is .2) m′ kids low′ rest;
+      ok = ok-D D I sz c (k .ok) (λ j. getD l j 0) (k .tab) g glo ghi (is .1) (is .2) m′ kids low′ rest;
+      tab = table-D D I sz c (k .ok) (λ j. getD l j 0) (k .tab) g glo ghi (is .1) (is .2) m′ kids low′ rest;
       rng = λ j hj a. rng′ j hj a (ℕ-discrete (j / 4) g);
     };
     more = more-D R g c (p .more) glo (is .2) y;
@@ -780,9 +781,9 @@ module _ (D I : ℕ) (D-big : 4 ≤ D) (D-4 : D % 4 ≡ 0) (I-16 : I % 16 ≡ 0)
   pub sets-G1 : (R : Preds) (X : ℕ → Type 0) (t : ℕ) (c : Cfg) (l : List ℕ) → Sets R X t c l → t < I → getD l t 0 ≡ 6 → R .QG (t / 16) → Sets R X t (withG (t / 16) c) (splitGrand I t l)
   sets-G1 R X t c l p ti m y = record {
     core = record {
-      len = subst (λ (x : ℕ). length (splitGrand I x l) ≡ I) (sym (is .0)) (len-G D I D-big I-16 c (k .ok) l (k .len) (k .tab) q (is .3) q-hi (is .1) (is .2));
-      ok = ok-G D I D-big I-16 c (k .ok) l (k .len) (k .tab) q (is .3) q-hi (is .1) (is .2);
-      tab = subst (λ (x : ℕ). Table D I (withG q c) (λ j. getD (splitGrand I x l) j 0)) (sym (is .0)) (table-G D I D-big I-16 c (k .ok) l (k .len) (k .tab) q (is .3) q-hi (is .1) (is .2));
+      len = subst (λ (x : ℕ). length (splitGrand I x l) ≡ I) (sym (is .0)) (len-G D I sz c (k .ok) l (k .len) (k .tab) q (is .3) q-hi (is .1) (is .2));
+      ok = ok-G D I sz c (k .ok) l (k .len) (k .tab) q (is .3) q-hi (is .1) (is .2);
+      tab = subst (λ (x : ℕ). Table D I (withG q c) (λ j. getD (splitGrand I x l) j 0)) (sym (is .0)) (table-G D I sz c (k .ok) l (k .len) (k .tab) q (is .3) q-hi (is .1) (is .2));
       rng = λ j hj a. subst (λ (x : ℕ). (1 ≤ x) × (x ≤ 4)) (sym (al-G q c j)) (k .rng j hj (was j a));
     };
     more = more-G R q c (p .more) y;

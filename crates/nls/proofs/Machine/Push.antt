@@ -12,6 +12,7 @@ use lib.Dec.{ltb, eqb, lit<, lit≤}
 use borrow.Author.Tests.{le-ltb, lt-ltb, eq-eqb, ne-eqb}
 use Rattle.tree.proofs.Lists.{or-left}
 use Rattle.nls.specs.Marks.{pushFrom, push, splitGrand, pushRoots}
+use Rattle.nls.proofs.Tiled.{Tiled}
 use Rattle.nls.proofs.Booleans.{or-off}
 use Rattle.nls.proofs.Machine.Table.{Cfg, up, alone, stands, Ok, Table, alone-no, no-alone, stands-no, no-dg, low, up-5, up-7}
 use Rattle.nls.proofs.Machine.Split.{withG}
@@ -274,7 +275,7 @@ pub stands-G-off : (D I q : ℕ) (c : Cfg) (h : ℕ) → (h / 4 ≡ q → ⊥) �
 unfolding stands
 stands-G-off D I q c h e = ap (λ (x : Bool). ltb h D || x) (sG-off q c (h / 4) e)
 
-module _ (D I : ℕ) (D-big : 4 ≤ D) (I-16 : I % 16 ≡ 0) (c : Cfg) (o : Ok D I c) (l : List ℕ) (len : length l ≡ I) (t : Table D I c (λ j. getD l j 0))
+module _ (D I : ℕ) (sz : Tiled D I) (c : Cfg) (o : Ok D I c) (l : List ℕ) (len : length l ≡ I) (t : Table D I c (λ j. getD l j 0))
     (q : ℕ) (q-lo : D ≤ 4 * q) (q-hi : 16 * q < I) (q-D : c .sD q ≡ true) (q-no : c .sG q ≡ false) where
   abbrev pub r : List ℕ
   r = splitGrand I (16 * q) l

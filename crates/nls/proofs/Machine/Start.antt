@@ -11,6 +11,7 @@ use lib.Dec.{ltb, lit<, lit≤}
 use borrow.Author.Tests.{ltb-true}
 use Rattle.nls.specs.Marks.{pushRoots, startMarks}
 use Rattle.nls.specs.Scan.{at, pixels, start}
+use Rattle.nls.proofs.Tiled.{Tiled}
 use Rattle.nls.proofs.Arrays.{Bits}
 use Rattle.nls.proofs.Machine.Table.{Cfg, up, alone, stands, Table, no-alone, no-stands, up-low}
 use Rattle.nls.proofs.Machine.Push.{Done, done-0, done-roots, Head, Line, down, On, on?, line-mod, kinds, line-ge}
@@ -20,7 +21,7 @@ use Rattle.nls.proofs.Machine.Steps.{Fam, preds, Good, good-settle}
 abbrev pub c0 : Cfg
 c0 = record { sD = λ h. false; sG = λ q. false; al = λ j. 1 }
 
-module _ (D I : ℕ) (D-big : 4 ≤ D) (D-4 : D % 4 ≡ 0) (I-16 : I % 16 ≡ 0) (D-I : 4 * D ≤ I) where
+module _ (D I : ℕ) (sz : Tiled D I) where
   abbrev pub base : List ℕ
   base = replicate D 1 ++ replicate (I - D) 0
 
@@ -37,10 +38,10 @@ module _ (D I : ℕ) (D-big : 4 ≤ D) (D-4 : D % 4 ≡ 0) (I-16 : I % 16 ≡ 0)
   base-0 j h k = ap (λ (x : ℕ). getD base x 0) {x = j} {y = length (replicate D 1) + (j - D)} (omega (arith, length-replicate {A = ℕ} D 1))
       ∙ getD-append-add (replicate D 1) (replicate (I - D) 0) (j - D) 0 ∙ getD-replicate (I - D) (j - D) 0 0 (omega arith)
 
-  dn : Done I D D-4 (omega arith) (3 * D / 4) base first
-  dn = subst (λ (x : ℕ). Done I D D-4 (omega arith) (3 * D / 4) base (pushRoots I (3 * D / 4) x base)) {x = D + 4 * 0} {y = D} (omega arith)
-      (subst (λ (x : ℕ). Done I D D-4 (omega arith) x base (pushRoots I (3 * D / 4) (D + 4 * 0) base)) {x = 0 + 3 * D / 4} {y = 3 * D / 4} (omega arith)
-      (done-roots I D D-4 (omega arith) (3 * D / 4) 0 base base (omega arith) (omega arith) (done-0 I D D-4 (omega arith) base base-len)))
+  dn : Done I D (sz .fours) (omega arith) (3 * D / 4) base first
+  dn = subst (λ (x : ℕ). Done I D (sz .fours) (omega arith) (3 * D / 4) base (pushRoots I (3 * D / 4) x base)) {x = D + 4 * 0} {y = D} (omega arith)
+      (subst (λ (x : ℕ). Done I D (sz .fours) (omega arith) x base (pushRoots I (3 * D / 4) (D + 4 * 0) base)) {x = 0 + 3 * D / 4} {y = 3 * D / 4} (omega arith)
+      (done-roots I D (sz .fours) (omega arith) (3 * D / 4) 0 base base (omega arith) (omega arith) (done-0 I D (sz .fours) (omega arith) base base-len)))
 
   al-0 : (j : ℕ) → alone D I c0 j ≡ true → j < D
   unfolding alone
@@ -59,7 +60,7 @@ module _ (D I : ℕ) (D-big : 4 ≤ D) (D-4 : D % 4 ≡ 0) (I-16 : I % 16 ≡ 0)
       go false e = e
 
   abbrev Is : ℕ → Type 0
-  Is k = On I D D-4 (omega arith) (3 * D / 4) k
+  Is k = On I D (sz .fours) (omega arith) (3 * D / 4) k
 
   same : (j : ℕ) → (Is j → ⊥) → getD first j 0 ≡ getD base j 0
   same j n = dn .off j (λ h a z. n (h, a, z))
@@ -71,7 +72,7 @@ module _ (D I : ℕ) (D-big : 4 ≤ D) (D-4 : D % 4 ≡ 0) (I-16 : I % 16 ≡ 0)
     head = λ j h a e s. dn .top j ((no-alone D I c0 j a) .0, omega (arith, st-0 (j / 4) s), e);
     side = λ j h a s n. same j (λ z. side′ j s n z (kinds D (3 * D / 4) j (z .0) (z .1) (z .2))) ∙ base-0 j ((no-alone D I c0 j a) .0) h;
     mid = λ j h a e s w d. absurd (false≢true d);
-    deep = λ j h a e s w d. deep′ j h a e s (on? I D D-4 (omega arith) (3 * D / 4) j j (omega arith));
+    deep = λ j h a e s w d. deep′ j h a e s (on? I D (sz .fours) (omega arith) (3 * D / 4) j j (omega arith));
   }
     where
       side′ : (j : ℕ) → stands D I c0 (j / 4) ≡ false → (j / 4 % 4 ≡ 0 → ⊥) → (z : Is j) → (Head D (3 * D / 4) j) ⊎ ((j ≡ z .0 → ⊥) × Line (z .0) (j / 4)) → ⊥
@@ -88,7 +89,7 @@ module _ (D I : ℕ) (D-big : 4 ≤ D) (D-4 : D % 4 ≡ 0) (I-16 : I % 16 ≡ 0)
           let lo : D ≤ j / 4 = (no-stands D I c0 (j / 4) s) .0 in
           same j z ∙ base-0 j (omega arith) h ∙ sym (ap up (same (j / 4) (λ y. z (y .0, y .1, down e (y .2))) ∙ base-0 (j / 4) lo (omega arith)) ∙ up-low 0 (lit< tt))
 
-  pub pix-0 : (R : Preds) (X : ℕ → Type 0) → ((j : ℕ) → R .Z j → ⊥) → Pix D I D-big D-4 I-16 R X 0 c0 first
+  pub pix-0 : (R : Preds) (X : ℕ → Type 0) → ((j : ℕ) → R .Z j → ⊥) → Pix D I sz R X 0 c0 first
   pix-0 R X n = record {
     more = record { sg = λ j h a l u. absurd (omega arith); qD = λ h e. absurd (false≢true e); qG = λ h e. absurd (false≢true e); zs = λ j h e. absurd (n j e) };
     core = record {
@@ -102,11 +103,11 @@ module _ (D I : ℕ) (D-big : 4 ≤ D) (D-4 : D % 4 ≡ 0) (I-16 : I % 16 ≡ 0)
     done = λ j h a b e. absurd (omega arith);
   }
 
-  pub good-start : (P : ℕ) (F : Fam) → ((j : ℕ) → F .Z j → ⊥) → Good D I D-big D-4 I-16 P F (start I D P)
+  pub good-start : (P : ℕ) (F : Fam) → ((j : ℕ) → F .Z j → ⊥) → Good D I sz P F (start I D P)
   unfolding start startMarks
-  good-start P F n = good-settle D I D-big D-4 I-16 P F (at P pixels 0 first) (go P)
+  good-start P F n = good-settle D I sz P F (at P pixels 0 first) (go P)
     where
-      go : (l : ℕ) → Good D I D-big D-4 I-16 l F (at l pixels 0 first)
+      go : (l : ℕ) → Good D I sz l F (at l pixels 0 first)
       go zero = ((λ e h1 h2. absurd (omega arith)), λ j hj z. absurd (n j z))
       go (suc b) = ((λ e h1 h2. absurd (omega arith)), (c0, pix-0 (preds F b) (F .X b) n))
 

@@ -8,6 +8,7 @@ use native.Mathlib.Decide.{decLt, ℕ-discrete}
 use lib.Dec.{ltb, lit<, lit≤}
 use borrow.Author.Tests.{ltb-false, le-ltb, lt-ltb}
 use Rattle.nls.specs.Marks.{skip}
+use Rattle.nls.proofs.Tiled.{Tiled}
 use Rattle.nls.proofs.Booleans.{neither}
 
 -- which sets are split, and the marks of the coefficients that stand alone
@@ -119,7 +120,7 @@ up-big x h = go (decLt x 5)
     go (yes k) = absurd (omega (arith, h, up-low x k))
     go (no k) = omega arith
 
-module _ (D I : ℕ) (D-big : 4 ≤ D) where
+module _ (D I : ℕ) (sz : Tiled D I) where
   abbrev pub Gap : Cfg → (ℕ → ℕ) → ℕ → Type 0
   Gap c m j = (k : ℕ) → j < k → k < j + skip (m j) → k < I → (alone D I c k ≡ false) × (m k ≡ 0)
 

@@ -1,16 +1,16 @@
 -- READING A CUT STREAM: what is known after u is so of every array whose stream begins with u.
-use mathlib.Core.Path.{_≡_}
 use mathlib.Core.Bool.{Bool, true, false}
 use mathlib.Core.List.{List}
-use Prim.Native.Nat.{ℕ, zero, suc, _*_, _%_, _^_, _≤_}
+use Prim.Native.Nat.{ℕ, zero, suc, _^_}
 use Rattle.nls.specs.Scan.{Pass, pixels, sets, refining}
+use Rattle.nls.proofs.Tiled.{Tiled}
 use Rattle.nls.proofs.Machine.Steps.{Fam, From, Good-at}
 
-module _ (N D P : ℕ) (D-big : 4 ≤ D) (D-4 : D % 4 ≡ 0) (I-16 : 4 ^ N % 16 ≡ 0) (D-I : 4 * D ≤ 4 ^ N) where
+module _ (N D P : ℕ) (sz : Tiled D (4 ^ N)) where
   abbrev I : ℕ
   I = 4 ^ N
 
-  pub from-good : (F : Fam) (l : ℕ) (p : Pass) (i : ℕ) (s : Bool) (m : List ℕ) → Good-at D I D-big D-4 I-16 P F l p i s m → From D I D-big D-4 I-16 P F l
+  pub from-good : (F : Fam) (l : ℕ) (p : Pass) (i : ℕ) (s : Bool) (m : List ℕ) → Good-at D I sz P F l p i s m → From D I sz P F l
   from-good F zero p i s m g = g .0
   from-good F (suc b) pixels i false m g = g .0
   from-good F (suc b) pixels i true m g = g .0

@@ -4,7 +4,7 @@ use mathlib.Core.Bool.{Bool, true, false, _&&_, true≢false, false≢true}
 use mathlib.Core.Logic.{_⊎_, inl, inr}
 use mathlib.Core.Option.{Option, none, some}
 use mathlib.Core.List.{List, [], _∷_}
-use Prim.Native.Nat.{ℕ, zero, suc, _*_, _/_, _%_, _^_, _≤_, _<_}
+use Prim.Native.Nat.{ℕ, zero, suc, _*_, _/_, _^_, _≤_, _<_}
 use native.Mathlib.Omega.{arith}
 use native.Mathlib.Nat.{pow-suc}
 use lib.Dec.{ltb, eqb}
@@ -12,6 +12,7 @@ use borrow.Author.Tests.{eqb-true, eq-eqb, lt-ltb}
 use Rattle.sizes.proofs.Laws.{both-left, both-right, both}
 use Rattle.tree.proofs.Lists.{or-left, or-right}
 use Rattle.nls.specs.Scan.{State, Look, over, silent, asks, Question, bitOf, signOf, inDesc, inGrand, look, ask, asked, next, reach}
+use Rattle.nls.proofs.Tiled.{Tiled}
 use Rattle.nls.proofs.Booleans.{or-cases}
 use Rattle.nls.proofs.Arrays.{Bits, inside, ans, below}
 use Rattle.nls.proofs.Judging.Most.{_⊑_, told, Fits, any-find, member}
@@ -43,7 +44,7 @@ below-under (suc n) g i h = go (or-cases (eqb (i / 4) g) (below n g (i / 4)) h) 
     go (inl e) ih = kid (eqb-true (i / 4) g e)
     go (inr e) ih = far (ih e)
 
-module _ (N D P : ℕ) (D-big : 4 ≤ D) (D-4 : D % 4 ≡ 0) (I-16 : 4 ^ N % 16 ≡ 0) where
+module _ (N D P : ℕ) (sz : Tiled D (4 ^ N)) where
   abbrev I : ℕ
   I = 4 ^ N
 
@@ -60,9 +61,9 @@ module _ (N D P : ℕ) (D-big : 4 ≤ D) (D-4 : D % 4 ≡ 0) (I-16 : 4 ^ N % 16 
   }
 
   abbrev pub Ok-at : Fam → State → Type 0
-  Ok-at F s = Good D I D-big D-4 I-16 P F s
+  Ok-at F s = Good D I sz P F s
 
-  pub learned : (A k : Bits) (q : Question) (a : Bool) → ans N A q ≡ a → Learned D I D-big D-4 I-16 P (withZ (fam A (know q a k)) (λ j. (e : ℕ) × (k .has j e ≡ true))) (λ j. (e : ℕ) × ((know q a k) .has j e ≡ true)) q a
+  pub learned : (A k : Bits) (q : Question) (a : Bool) → ans N A q ≡ a → Learned D I sz P (withZ (fam A (know q a k)) (λ j. (e : ℕ) × (k .has j e ≡ true))) (λ j. (e : ℕ) × ((know q a k) .has j e ≡ true)) q a
   unfolding ans inside
   learned A k (bitOf i b) true e = ((λ h. know-one i b k), λ j z n. (z .0, know-other i b k j (z .0) (z .1) n))
   learned A k (bitOf i b) false e = ((λ h. absurd (true≢false (sym h ∙ e))), λ j z. (z .0, unfold know in z .1))
@@ -85,7 +86,7 @@ module _ (N D P : ℕ) (D-big : 4 ≤ D) (D-4 : D % 4 ≡ 0) (I-16 : 4 ^ N % 16 
   abbrev pub Zof : Bits → ℕ → Type 0
   Zof k j = (e : ℕ) × (k .has j e ≡ true)
 
-  on-ask : (A k : Bits) (a : Bool) (L : Look) → told N A (asked I L) a → On-ask D I D-big D-4 I-16 P (withZ (fam A (knowO (asked I L) a k)) (Zof k)) (Zof (knowO (asked I L) a k)) a L
+  on-ask : (A k : Bits) (a : Bool) (L : Look) → told N A (asked I L) a → On-ask D I sz P (withZ (fam A (knowO (asked I L) a k)) (Zof k)) (Zof (knowO (asked I L) a k)) a L
   on-ask A k a over t = t
   on-ask A k a (silent s) t = t
   on-ask A k a (asks q) t = learned A k q a t
@@ -101,8 +102,8 @@ module _ (N D P : ℕ) (D-big : 4 ≤ D) (D-4 : D % 4 ≡ 0) (I-16 : 4 ^ N % 16 
 
   pub one-bit : (A k : Bits) (s : State) (a : Bool) → Ok-at (fam A k) s → told N A (ask I s) a → Ok-at (fam A (knowO (ask I s) a k)) (next I s a)
   unfolding ask _⊑_
-  one-bit A k s a g t = good-next D I D-big D-4 I-16 P (withZ (fam A (knowO (ask I s) a k)) (Zof k)) (Zof (knowO (ask I s) a k)) s a
-      (good-mono D I D-big D-4 I-16 P (fam A k) (withZ (fam A (knowO (ask I s) a k)) (Zof k))
+  one-bit A k s a g t = good-next D I sz P (withZ (fam A (knowO (ask I s) a k)) (Zof k)) (Zof (knowO (ask I s) a k)) s a
+      (good-mono D I sz P (fam A k) (withZ (fam A (knowO (ask I s) a k)) (Zof k))
       (λ b j z h. growsO (ask I s) a k j b (z h)) (negO A k (ask I s) a t) (λ b j z. z) (λ b j z. z) (λ j z. z) s g) (on-ask A k a (look I s) t)
 
   -- along a run
