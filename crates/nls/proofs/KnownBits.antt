@@ -62,7 +62,7 @@ module _ (N L : ℕ) (size : Sized N L) (P : ℕ) (A : List ℤ) (under : (i : �
   B = bits-of (arrOf A)
 
   abbrev Good : Bits → ℕ → Pass → ℕ → Bool → List ℕ → Type 0
-  Good k l p i w m = Good-at D I sz P (fam N D P sz B k) l p i w m
+  Good k l p i w m = Good-at sz P (fam N P sz B k) l p i w m
 
   -- Of a scan at s: what is noted of a coefficient are A's bits, down to its plane; a bit that was read lies at its plane or above,
   -- but the one whose sign is still to come; and that is A's highest.
@@ -81,12 +81,12 @@ module _ (N L : ℕ) (size : Sized N L) (P : ℕ) (A : List ℤ) (under : (i : �
       on false q = refl
       on true q =
           absurd
-          (let seen : k .has j e ≡ true = from-good N D P sz (fam N D P sz B k) l p i w m g e a (omega (arith, h .most j hj)) j hj q in
+          (let seen : k .has j e ≡ true = from-good N P sz (fam N P sz B k) l p i w m g e a (omega (arith, h .most j hj)) j hj q in
           omega (arith, r .own j e hj seen (λ x y z. omega arith)))
 
   -- a coefficient whose mark is MIP or MCP has no bit in a finished plane
-  unfound : (k : Bits) (b i : ℕ) (m : List ℕ) (c : Cfg) → From D I sz P (fam N D P sz B k) (suc b)
-      → Core D I sz c m → More D I sz (preds (fam N D P sz B k) b) c → i < I → (getD m i 0 ≡ 1) ⊎ (getD m i 0 ≡ 4)
+  unfound : (k : Bits) (b i : ℕ) (m : List ℕ) (c : Cfg) → From sz P (fam N P sz B k) (suc b)
+      → Core sz c m → More sz (preds (fam N P sz B k) b) c → i < I → (getD m i 0 ≡ 1) ⊎ (getD m i 0 ≡ 4)
       → (e : ℕ) → suc b ≤ e → e < P → bit (magAt A i) e ≡ false
   unfound k b i m c f core more hi v e a u = on (bit (magAt A i) e) refl
     where
@@ -97,7 +97,7 @@ module _ (N L : ℕ) (size : Sized N L) (P : ℕ) (A : List ℤ) (under : (i : �
       on false q = refl
       on true q =
           let held : (alone D I c i ≡ true) × (2 ≤ c .al i) × (c .al i ≤ 3) = more .zs i hi (e, f e a u i hi q) in
-          let same : (alone D I c i ≡ true) × (c .al i ≡ getD m i 0) = is-alone D I sz c m core i hi (mark .0) (mark .1) in
+          let same : (alone D I c i ≡ true) × (c .al i ≡ getD m i 0) = is-alone sz c m core i hi (mark .0) (mark .1) in
           absurd (mark .2 (omega arith, omega arith))
 
   -- nothing is noted
@@ -288,11 +288,11 @@ module _ (N L : ℕ) (size : Sized N L) (P : ℕ) (A : List ℤ) (under : (i : �
   unfolding reach learned
   right-run o k s [] n g h r f = r
   right-run o k s (a ∷ u) n g h r f =
-      right-run (learnAt (ask I s) s a o) (knowO (ask I s) a k) (next I s a) u (next-settled I P s a) (one-bit N D P sz B k s a g (f .0)) (sound-next I P s o a n h) (right-next o k s a g h r (f .0)) (f .1)
+      right-run (learnAt (ask I s) s a o) (knowO (ask I s) a k) (next I s a) u (next-settled I P s a) (one-bit N P sz B k s a g (f .0)) (sound-next I P s o a n h) (right-next o k s a g h r (f .0)) (f .1)
 
   -- before the first bit
   good-begin : Good-of first.nothing (begin N L P)
-  good-begin = good-start D I sz P (fam N D P sz B first.nothing) (λ j z. false≢true (z .1))
+  good-begin = good-start sz P (fam N P sz B first.nothing) (λ j z. false≢true (z .1))
 
   right-begin : Right (begin N L P) (nothing N P) first.nothing
   unfolding scan.start
@@ -307,7 +307,7 @@ module _ (N L : ℕ) (size : Sized N L) (P : ℕ) (A : List ℤ) (under : (i : �
   answered-bits u f i hi =
       r .high i hi
       ∙ high-same (precisionAt N L P u i) (getD (known N L P u .planes) i 0) (at A i) (min-le-left (getD (known N L P u .planes) i 0) (t .left))
-      (λ e l h. gap k (t .left) (t .pass) (t .place) (t .pending) (t .marks) (known N L P u) (run N D P sz B first.nothing (begin N L P) u good-begin f) (known-sound N L P u) r i hi e (omega arith) h)
+      (λ e l h. gap k (t .left) (t .pass) (t .place) (t .pending) (t .marks) (known N L P u) (run N P sz B first.nothing (begin N L P) u good-begin f) (known-sound N L P u) r i hi e (omega arith) h)
     where
       k : Bits
       k = least N State (ask I) (next I) (begin N L P) u first.nothing

@@ -121,7 +121,7 @@ module _ (N L : ℕ) (z : Sized N L) where
         (last-told N (bits-of (arrOf (w .0))) (begin N L P) (take n u) (getD u n false) f)
 
     abbrev Meant : List Bool → Out → Type 0
-    Meant v o = Means N (coarsestOf N L) P (tiled N L z) v o
+    Meant v o = Means N P (tiled N L z) v o
 
     -- what the decoder's answer means, over lists of numbers
     meant-judged : 1 ≤ P → (v : List Bool) (o : Out) → Meant v o → Judged N L P v (shown o)

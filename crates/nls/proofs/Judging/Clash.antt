@@ -34,7 +34,7 @@ pub via : (q j : ℕ) → Under q (j / 4) → (h : ℕ) × (h / 4 ≡ q) × Unde
 via q j (kid e) = (j / 4, e, kid refl)
 via q j (far u) = let r : (h : ℕ) × (h / 4 ≡ q) × Under h (j / 4) = via q (j / 4) u in (r .0, r .1, far (r .2))
 
-module _ (N D P : ℕ) (sz : Tiled D (4 ^ N)) where
+module _ (N : ℕ) {D : ℕ} (P : ℕ) (sz : Tiled D (4 ^ N)) where
   abbrev I : ℕ
   I = 4 ^ N
 
@@ -61,9 +61,9 @@ module _ (N D P : ℕ) (sz : Tiled D (4 ^ N)) where
       go (no z) ih = let r : (h : ℕ) × (D ≤ 4 * h) × (h < D) × Under h (j / 4) = ih (omega arith) (omega arith) in (r .0, r .1, r .2, far (r .3))
 
   module _ (A k : Bits) (va : Valid I P A) (b t : ℕ) (m : List ℕ) (c : Cfg) (ti : t < I)
-      (above : From D I sz P (fam N D P sz A k) (suc b))
-      (p : Sets D I sz (preds (fam N D P sz A k) b) (Known A k b) t c m) where
-    kk : Core D I sz c m
+      (above : From sz P (fam N P sz A k) (suc b))
+      (p : Sets sz (preds (fam N P sz A k) b) (Known A k b) t c m) where
+    kk : Core sz c m
     kk = p .core
 
     -- a bit above plane b is known, so its place stands alone, with MNP or MSP
@@ -78,7 +78,7 @@ module _ (N D P : ℕ) (sz : Tiled D (4 ^ N)) where
     mip j e hj mk h a = go (ℕ-discrete e b)
       where
         it : (alone D I c j ≡ true) × (c .al j ≡ getD m j 0)
-        it = is-alone D I sz c m kk j hj (omega arith) (omega arith)
+        it = is-alone sz c m kk j hj (omega arith) (omega arith)
 
         go : Dec (e ≡ b) → ⊥
         go (yes z) = omega (arith, it .1, known j hj (subst (λ (x : ℕ). A .has j x ≡ true) z a) (p .done j hj (it .0) (λ y. omega (arith, it .1)) (λ y. omega (arith, it .1))))
@@ -95,13 +95,13 @@ module _ (N D P : ℕ) (sz : Tiled D (4 ^ N)) where
     -- a set that was answered 0 in this plane has no bit b
     past-D : (h j : ℕ) → D ≤ 4 * h → 4 * h < t → getD m (4 * h) 0 ≡ 5 → j < I → Under h j → A .has j b ≡ true → ⊥
     past-D h j lo ht mk hj u a =
-        let is : (4 * h % 4 ≡ 0) × (stands D I c (4 * h / 4) ≡ true) × (c .sD (4 * h / 4) ≡ false) × (D ≤ 4 * h) = is-D D I sz c m kk (4 * h) (omega arith) mk in
+        let is : (4 * h % 4 ≡ 0) × (stands D I c (4 * h / 4) ≡ true) × (c .sD (4 * h / 4) ≡ false) × (D ≤ 4 * h) = is-D sz c m kk (4 * h) (omega arith) mk in
         let st : stands D I c h ≡ true = subst (λ (x : ℕ). stands D I c x ≡ true) {x = 4 * h / 4} {y = h} (omega arith) (is .1) in
         let no : c .sD h ≡ false = subst (λ (x : ℕ). c .sD x ≡ false) {x = 4 * h / 4} {y = h} (omega arith) (is .2) in
         true≢false (sym ((known j hj a (p .dD h lo (omega arith) ht st no j hj u)) .0) ∙ dead-D c (kk .ok) h j lo no u)
 
     unsplit : (h : ℕ) → 4 * h < I → getD m (4 * h) 0 ≡ 5 → c .sD h ≡ false
-    unsplit h hi mk = subst (λ (x : ℕ). c .sD x ≡ false) {x = 4 * h / 4} {y = h} (omega arith) ((is-D D I sz c m kk (4 * h) hi mk) .2)
+    unsplit h hi mk = subst (λ (x : ℕ). c .sD x ≡ false) {x = 4 * h / 4} {y = h} (omega arith) ((is-D sz c m kk (4 * h) hi mk) .2)
 
     yes-D : (g j : ℕ) → 1 ≤ g → j < I → Under g j → A .has j b ≡ true → ans N A (inDesc g b) ≡ true
     unfolding ans inside
@@ -113,7 +113,7 @@ module _ (N D P : ℕ) (sz : Tiled D (4 ^ N)) where
 
     pub clash-grand : getD m t 0 ≡ 6 → ((j : ℕ) → j / 4 ≡ t / 16 → getD m j 0 ≡ 1) → ans N A (inGrand (t / 16) b) ≡ true
     clash-grand mk f =
-        let is : (t ≡ 16 * (t / 16)) × (c .sD (t / 16) ≡ true) × (c .sG (t / 16) ≡ false) × (D ≤ 4 * (t / 16)) × (alone D I c t ≡ false) = is-G D I sz c m kk t ti mk in
+        let is : (t ≡ 16 * (t / 16)) × (c .sD (t / 16) ≡ true) × (c .sG (t / 16) ≡ false) × (D ≤ 4 * (t / 16)) × (alone D I c t ≡ false) = is-G sz c m kk t ti mk in
         let r : (j : ℕ) × (e : ℕ) × (j < I) × Under (t / 16) j × (b ≤ e) × (A .has j e ≡ true) = p .more .qD (t / 16) (is .1) in
         go is (r .0) (r .1) (r .2) (r .3) (r .4) (r .5)
       where
@@ -129,7 +129,7 @@ module _ (N D P : ℕ) (sz : Tiled D (4 ^ N)) where
         go (r .0) (r .1) (r .2) (r .3) (r .4) (r .5)
       where
         it : (alone D I c t ≡ true) × (c .al t ≡ getD m t 0)
-        it = is-alone D I sz c m kk t ti (omega arith) (omega arith)
+        it = is-alone sz c m kk t ti (omega arith) (omega arith)
 
         sd : c .sD (t / 4) ≡ true
         sd = pick (c .sD (t / 4)) refl
@@ -157,7 +157,7 @@ module _ (N D P : ℕ) (sz : Tiled D (4 ^ N)) where
         go (r .0) (r .1) (v .0) (r .2) (v .1) (v .2) (r .4) (r .5) (ℕ-discrete (v .0) (t / 4))
       where
         is : (t % 4 ≡ 0) × (stands D I c (t / 4) ≡ true) × (c .sD (t / 4) ≡ false) × (D ≤ t)
-        is = is-D D I sz c m kk t ti mk
+        is = is-D sz c m kk t ti mk
 
         sg : c .sG (t / 4 / 4) ≡ true
         sg = pick (c .sG (t / 4 / 4)) refl

@@ -45,7 +45,7 @@ lit-snoc [] false = refl
 lit-snoc (true ∷ u) a = refl
 lit-snoc (false ∷ u) a = lit-snoc u a
 
-module _ (N D P : ℕ) (sz : Tiled D (4 ^ N)) where
+module _ (N : ℕ) {D : ℕ} (P : ℕ) (sz : Tiled D (4 ^ N)) where
   abbrev I : ℕ
   I = 4 ^ N
 
@@ -60,7 +60,7 @@ module _ (N D P : ℕ) (sz : Tiled D (4 ^ N)) where
   Some u = (A : Bits) × Valid I P A × Starts A u
 
   abbrev Bad : State → Type 0
-  Bad s = Clashes N D P sz s
+  Bad s = Clashes N P sz s
 
   fit-split : (A : Bits) (s : State) (u v : List Bool) → Fits N State (ask I) (next I) A s (u ++ v) → Fits N State (ask I) (next I) A (reach (4 ^ N) s u) v
   unfolding reach
@@ -70,23 +70,23 @@ module _ (N D P : ℕ) (sz : Tiled D (4 ^ N)) where
   -- SOUND: at a clash every array that fits answers 1
   module _ (A k : Bits) (va : Valid I P A) where
     sound-sets : (b i : ℕ) (m : List ℕ) (x d g c : Bool) → ltb i I ≡ x → eqb (getD m i 0) 5 ≡ d → eqb (getD m i 0) 6 ≡ g → eqb (getD m i 0) 4 ≡ c
-        → Good-at D I sz P (fam N D P sz A k) (suc b) sets i false m → Clash D I P b i m → told N A (asked I (lookSets b i m x d g c)) false → ⊥
+        → Good-at sz P (fam N P sz A k) (suc b) sets i false m → Clash D I P b i m → told N A (asked I (lookSets b i m x d g c)) false → ⊥
     sound-sets b i m false d g c ex ed eg ec z n t = t
     sound-sets b i m true false false false ex ed eg ec z n t = t
     sound-sets b i m true true g c ex ed eg ec z (last-child a n1 n2 n3) t = omega (arith, eqb-true (getD m i 0) 5 ed)
     sound-sets b i m true true g c ex ed eg ec z (last-grand a n1) t = omega (arith, eqb-true (getD m i 0) 5 ed)
-    sound-sets b i m true true g c ex ed eg ec z (last-desc a n1 n2 n3) t = true≢false (sym (clash-desc N D P sz A k va b i m (z .1 .0) (ltb-true i I ex) (z .0) (z .1 .1) a n1 n2 n3) ∙ t)
-    sound-sets b i m true true g c ex ed eg ec z (last-root a n1 n2 n3 n4) t = true≢false (sym (clash-root N D P sz A k va b i m (z .1 .0) (ltb-true i I ex) (z .0) (z .1 .1) a n1 n2 n3 n4) ∙ t)
+    sound-sets b i m true true g c ex ed eg ec z (last-desc a n1 n2 n3) t = true≢false (sym (clash-desc N P sz A k va b i m (z .1 .0) (ltb-true i I ex) (z .0) (z .1 .1) a n1 n2 n3) ∙ t)
+    sound-sets b i m true true g c ex ed eg ec z (last-root a n1 n2 n3 n4) t = true≢false (sym (clash-root N P sz A k va b i m (z .1 .0) (ltb-true i I ex) (z .0) (z .1 .1) a n1 n2 n3 n4) ∙ t)
     sound-sets b i m true false true c ex ed eg ec z (last-child a n1 n2 n3) t = omega (arith, eqb-true (getD m i 0) 6 eg)
-    sound-sets b i m true false true c ex ed eg ec z (last-grand a n1) t = true≢false (sym (clash-grand N D P sz A k va b i m (z .1 .0) (ltb-true i I ex) (z .0) (z .1 .1) a n1) ∙ t)
+    sound-sets b i m true false true c ex ed eg ec z (last-grand a n1) t = true≢false (sym (clash-grand N P sz A k va b i m (z .1 .0) (ltb-true i I ex) (z .0) (z .1 .1) a n1) ∙ t)
     sound-sets b i m true false true c ex ed eg ec z (last-desc a n1 n2 n3) t = omega (arith, eqb-true (getD m i 0) 6 eg)
     sound-sets b i m true false true c ex ed eg ec z (last-root a n1 n2 n3 n4) t = omega (arith, eqb-true (getD m i 0) 6 eg)
-    sound-sets b i m true false false true ex ed eg ec z (last-child a n1 n2 n3) t = true≢false (sym (clash-child N D P sz A k va b i m (z .1 .0) (ltb-true i I ex) (z .0) (z .1 .1) a n1 n2 n3) ∙ t)
+    sound-sets b i m true false false true ex ed eg ec z (last-child a n1 n2 n3) t = true≢false (sym (clash-child N P sz A k va b i m (z .1 .0) (ltb-true i I ex) (z .0) (z .1 .1) a n1 n2 n3) ∙ t)
     sound-sets b i m true false false true ex ed eg ec z (last-grand a n1) t = omega (arith, eqb-true (getD m i 0) 4 ec)
     sound-sets b i m true false false true ex ed eg ec z (last-desc a n1 n2 n3) t = omega (arith, eqb-true (getD m i 0) 4 ec)
     sound-sets b i m true false false true ex ed eg ec z (last-root a n1 n2 n3 n4) t = omega (arith, eqb-true (getD m i 0) 4 ec)
 
-    sound-at : (l : ℕ) (p : Pass) (i : ℕ) (s : Bool) (m : List ℕ) → Good-at D I sz P (fam N D P sz A k) l p i s m → Clash-at N D P sz l p i s m → told N A (asked I (lookAt I l p i s m)) false → ⊥
+    sound-at : (l : ℕ) (p : Pass) (i : ℕ) (s : Bool) (m : List ℕ) → Good-at sz P (fam N P sz A k) l p i s m → Clash-at N P sz l p i s m → told N A (asked I (lookAt I l p i s m)) false → ⊥
     sound-at zero p i s m z n t = n
     sound-at (suc b) pixels i s m z n t = n
     sound-at (suc b) refining i s m z n t = n
@@ -99,7 +99,7 @@ module _ (N D P : ℕ) (sz : Tiled D (4 ^ N)) where
       let f : Starts (w .0) u = fit-prefix N (w .0) S u (false ∷ []) (w .2) in
       let r : State = reach (4 ^ N) S u in
       sound-at (w .0) (least N State (ask I) (next I) S u nothing) (w .1) (r .left) (r .pass) (r .place) (r .pending) (r .marks)
-      (run N D P sz (w .0) nothing S u (good-start D I sz P (fam N D P sz (w .0) nothing) (λ j z. false≢true (z .1))) f) n
+      (run N P sz (w .0) nothing S u (good-start sz P (fam N P sz (w .0) nothing) (λ j z. false≢true (z .1))) f) n
       ((fit-split (w .0) S u (false ∷ []) (w .2)) .0)
 
   -- THE TEST IS THE CLASH, after any bits that some array fits
@@ -114,8 +114,8 @@ module _ (N D P : ℕ) (sz : Tiled D (4 ^ N)) where
     where
       fwd : (a c : Bool) → cl (length u) (lit u) (reach (4 ^ N) S u) ≡ c → (Some (u ++ (a ∷ [])) → ⊥) → (a ≡ false) × (cl (length u) (lit u) (reach (4 ^ N) S u) ≡ true)
       fwd false true ec n = (refl, ec)
-      fwd false false ec n = absurd (n (accepts N D P sz (w .0) (w .1) u (w .2) q e false (λ z b. true≢false (sym (r .of u w b) ∙ ec))))
-      fwd true c ec n = absurd (n (accepts N D P sz (w .0) (w .1) u (w .2) q e true (λ z b. true≢false z)))
+      fwd false false ec n = absurd (n (accepts N P sz (w .0) (w .1) u (w .2) q e false (λ z b. true≢false (sym (r .of u w b) ∙ ec))))
+      fwd true c ec n = absurd (n (accepts N P sz (w .0) (w .1) u (w .2) q e true (λ z b. true≢false z)))
 
       back : a ≡ false → cl (length u) (lit u) (reach (4 ^ N) S u) ≡ true → Some (u ++ (a ∷ [])) → ⊥
       back z h s = refuses u (r .to u w h) (subst (λ (x : Bool). Some (u ++ (x ∷ []))) z s)
@@ -146,9 +146,9 @@ module _ (N D P : ℕ) (sz : Tiled D (4 ^ N)) where
           more x = subst (λ (n : ℕ). Means v (decode I cl n (lit u || a) (next I (reach (4 ^ N) S u) a) r)) len (subst (λ (h : Bool). Means v (decode I cl (length (u ++ (a ∷ []))) h (next I (reach (4 ^ N) S u) a) r)) (lit-snoc u a) (subst (λ (s : State). Means v (decode I cl (length (u ++ (a ∷ []))) (lit (u ++ (a ∷ []))) s r)) step (ih x)))
 
           pick : (x y : Bool) → a ≡ x → cl (length u) (lit u) (reach (4 ^ N) S u) ≡ y → Means v (elim (not x && y) as (λ _. Out) [ true ↦ no12 (length u) | false ↦ decode I cl (length u + 1) (lit u || a) (next I (reach (4 ^ N) S u) a) r ])
-          pick true y ea ey = more (accepts N D P sz (w .0) (w .1) u (w .2) q eo a (λ z b. true≢false (sym ea ∙ z)))
+          pick true y ea ey = more (accepts N P sz (w .0) (w .1) u (w .2) q eo a (λ z b. true≢false (sym ea ∙ z)))
           pick false true ea ey = (u, a, r, e, refl, w, (refused12 cl rt u w q eo a) .1 (ea, ey), (q, eo))
-          pick false false ea ey = more (accepts N D P sz (w .0) (w .1) u (w .2) q eo a (λ z b. true≢false (sym (rt .of u w b) ∙ ey)))
+          pick false false ea ey = more (accepts N P sz (w .0) (w .1) u (w .2) q eo a (λ z b. true≢false (sym (rt .of u w b) ∙ ey)))
 
   -- an array of P planes
   first-one : 1 ≤ P → Some []

@@ -31,7 +31,7 @@ sibling : (h g g′ : ℕ) → g′ / 4 ≡ g / 4 → Under h g → Under h g′
 sibling h g g′ e (kid z) = kid (e ∙ z)
 sibling h g g′ e (far u) = far (subst (λ (x : ℕ). Under h x) (sym e) u)
 
-module _ (N D P : ℕ) (sz : Tiled D (4 ^ N)) where
+module _ (N : ℕ) {D : ℕ} (P : ℕ) (sz : Tiled D (4 ^ N)) where
   abbrev I : ℕ
   I = 4 ^ N
 
@@ -50,25 +50,25 @@ module _ (N D P : ℕ) (sz : Tiled D (4 ^ N)) where
   module _ (c : Cfg) (o : Ok D I c) where
     pub whole-D : (g x : ℕ) → D ≤ 4 * g → c .sD g ≡ false → Under g x → c .sD x ≡ true → ⊥
     whole-D g x lo n w d = true≢false (sym d ∙ subst (λ (y : ℕ). c .sD y ≡ false) {x = 4 * x / 4} {y = x} (omega arith)
-        ((no-alone D I c (4 * x) (dead-D N D P sz c o g (4 * x) lo n (far {i = 4 * x} (subst (λ (y : ℕ). Under g y) {x = x} {y = 4 * x / 4} (omega arith) w)))) .1))
+        ((no-alone D I c (4 * x) (dead-D N P sz c o g (4 * x) lo n (far {i = 4 * x} (subst (λ (y : ℕ). Under g y) {x = x} {y = 4 * x / 4} (omega arith) w)))) .1))
 
     whole-G : (q x : ℕ) → D ≤ 4 * q → c .sG q ≡ false → Under q x → c .sD x ≡ true → ⊥
     whole-G q x lo n w d = true≢false (sym d ∙ subst (λ (y : ℕ). c .sD y ≡ false) {x = 4 * x / 4} {y = x} (omega arith)
-        ((no-alone D I c (4 * x) (dead-G N D P sz c o q (4 * x) lo n (subst (λ (y : ℕ). Under q y) {x = x} {y = 4 * x / 4} (omega arith) w))) .1))
+        ((no-alone D I c (4 * x) (dead-G N P sz c o q (4 * x) lo n (subst (λ (y : ℕ). Under q y) {x = x} {y = 4 * x / 4} (omega arith) w))) .1))
 
   module _ (W k : Bits) (vv : Bool) (O : Question → Type 0) (k⊑W : (j e : ℕ) → k .has j e ≡ true → W .has j e ≡ true) (cap : (j e : ℕ) → W .has j e ≡ true → e < P)
       (b t : ℕ) (m : List ℕ) (c : Cfg) (ti : t < I) where
     -- the pixel pass
-    module _ (p : InPix N D P sz W vv (preds (fam N D P sz W k) b) k W O b t c m) (mk : getD m t 0 ≡ 1) where
+    module _ (p : InPix N P sz W vv (preds (fam N P sz W k) b) k W O b t c m) (mk : getD m t 0 ≡ 1) where
       it-p : (alone D I c t ≡ true) × (c .al t ≡ getD m t 0)
-      it-p = is-alone D I sz c m (p .g .core) t ti (omega (arith, mk)) (omega (arith, mk))
+      it-p = is-alone sz c m (p .g .core) t ti (omega (arith, mk)) (omega (arith, mk))
 
       pub enough-pix : Enough W O b (λ j. j ≡ t)
       enough-pix = record {
         eO = λ j hj o e. omega (arith, it-p .1, mk, p .g .more .zs t ti (b, subst (λ (x : ℕ). k .has x b ≡ true) e ((p .de .oO j b o) .0)));
         eD = λ h x o u e. absurd (omega (arith, (p .de .oD h b o) .1));
         eG = λ h x o u e. absurd (omega (arith, (p .de .oG h b o) .1));
-        eT = λ e. (D, omega arith, p .fr .todo D (omega arith) (λ l u z. true≢false (sym ((is-alone D I sz c m (p .g .core) D (omega arith) l (omega (arith, u))) .0) ∙ alone-no D I c D (omega arith) (p .np e (D / 4)))), λ q. low e q (alone D I c t) refl);
+        eT = λ e. (D, omega arith, p .fr .todo D (omega arith) (λ l u z. true≢false (sym ((is-alone sz c m (p .g .core) D (omega arith) l (omega (arith, u))) .0) ∙ alone-no D I c D (omega arith) (p .np e (D / 4)))), λ q. low e q (alone D I c t) refl);
       }
         where
           low : suc b ≡ P → D ≡ t → (x : Bool) → alone D I c t ≡ x → ⊥
@@ -78,9 +78,9 @@ module _ (N D P : ℕ) (sz : Tiled D (4 ^ N)) where
       open-pix = (t, ti, refl, p .fr .todo t ti (λ l u z. omega arith))
 
     -- the refinement pass
-    module _ (p : InFine N D P sz W vv (preds (fam N D P sz W k) b) k W O b t c m) (mk : getD m t 0 ≡ 3) where
+    module _ (p : InFine N P sz W vv (preds (fam N P sz W k) b) k W O b t c m) (mk : getD m t 0 ≡ 3) where
       it-f : (alone D I c t ≡ true) × (c .al t ≡ getD m t 0)
-      it-f = is-alone D I sz c m (p .g .core) t ti (omega (arith, mk)) (omega (arith, mk))
+      it-f = is-alone sz c m (p .g .core) t ti (omega (arith, mk)) (omega (arith, mk))
 
       was : (e : ℕ) × (b < e) × (k .has t e ≡ true)
       was = p .fr .m3u t ti (omega arith) mk
@@ -97,27 +97,27 @@ module _ (N D P : ℕ) (sz : Tiled D (4 ^ N)) where
       open-fine = (t, ti, refl, p .ho .op t (it-f .0) (it-f .1 ∙ mk) (omega arith))
 
     -- the set pass
-    module _ (above : From D I sz P (fam N D P sz W k) (suc b)) (p : InSets N D P sz W vv (preds (fam N D P sz W k) b) k W O b t c m) where
-      fs : Fresh N D P sz W k b t c
-      fs = fresh-of N D P sz W k b t c m ti (p .g .core) (p .fr)
+    module _ (above : From sz P (fam N P sz W k) (suc b)) (p : InSets N P sz W vv (preds (fam N P sz W k) b) k W O b t c m) where
+      fs : Fresh N P sz W k b t c
+      fs = fresh-of N P sz W k b t c m ti (p .g .core) (p .fr)
 
       -- a spare place that lies in every set round the question
-      useD : (Sp In : ℕ → Type 0) → Spare N D P sz W k b Sp → ((j : ℕ) → Sp j → In j → ⊥) → (h : ℕ) → O (inDesc h b) → ((j : ℕ) → Sp j → Under h j) → (j : ℕ) × (j < I) × Under h j × (W .has j b ≡ true) × (In j → ⊥) × (1 ≤ h)
+      useD : (Sp In : ℕ → Type 0) → Spare N P sz W k b Sp → ((j : ℕ) → Sp j → In j → ⊥) → (h : ℕ) → O (inDesc h b) → ((j : ℕ) → Sp j → Under h j) → (j : ℕ) × (j < I) × Under h j × (W .has j b ≡ true) × (In j → ⊥) × (1 ≤ h)
       useD Sp In (now j hj s w) n h o f = (j, hj, f j s, w, n j s, omega (arith, p .g .core .ok .lo h ((p .de .oD h b o) .0)))
       useD Sp In (past j e hj s l w) n h o f = absurd (omega (arith, l, (p .de .oD h b o) .2 j e hj (f j s) w))
 
-      useG : (Sp In : ℕ → Type 0) → Spare N D P sz W k b Sp → ((j : ℕ) → Sp j → In j → ⊥) → (h : ℕ) → O (inGrand h b) → ((j : ℕ) → Sp j → Under h (j / 4)) → (j : ℕ) × (j < I) × Under h (j / 4) × (W .has j b ≡ true) × (In j → ⊥) × (1 ≤ h)
+      useG : (Sp In : ℕ → Type 0) → Spare N P sz W k b Sp → ((j : ℕ) → Sp j → In j → ⊥) → (h : ℕ) → O (inGrand h b) → ((j : ℕ) → Sp j → Under h (j / 4)) → (j : ℕ) × (j < I) × Under h (j / 4) × (W .has j b ≡ true) × (In j → ⊥) × (1 ≤ h)
       useG Sp In (now j hj s w) n h o f = (j, hj, f j s, w, n j s, omega (arith, p .g .core .ok .lo h (p .g .core .ok .gd h ((p .de .oG h b o) .0))))
       useG Sp In (past j e hj s l w) n h o f = absurd (omega (arith, l, (p .de .oG h b o) .2 j e hj (f j s) w))
 
-      useT : (Sp In : ℕ → Type 0) → Spare N D P sz W k b Sp → ((j : ℕ) → Sp j → In j → ⊥) → suc b ≡ P → (j : ℕ) × (j < I) × (W .has j b ≡ true) × (In j → ⊥)
+      useT : (Sp In : ℕ → Type 0) → Spare N P sz W k b Sp → ((j : ℕ) → Sp j → In j → ⊥) → suc b ≡ P → (j : ℕ) × (j < I) × (W .has j b ≡ true) × (In j → ⊥)
       useT Sp In (now j hj s w) n e = (j, hj, w, n j s)
       useT Sp In (past j x hj s l w) n e = absurd (omega (arith, l, cap j x (k⊑W j x w)))
 
       -- MCP
       module _ (mk : getD m t 0 ≡ 4) where
         it-c : (alone D I c t ≡ true) × (c .al t ≡ getD m t 0)
-        it-c = is-alone D I sz c m (p .g .core) t ti (omega (arith, mk)) (omega (arith, mk))
+        it-c = is-alone sz c m (p .g .core) t ti (omega (arith, mk)) (omega (arith, mk))
 
         abbrev SpC : ℕ → Type 0
         SpC j = Under (t / 4) j × (j ≡ t → ⊥)
@@ -130,8 +130,8 @@ module _ (N D P : ℕ) (sz : Tiled D (4 ^ N)) where
           eT = useT SpC (λ j. j ≡ t) sp (λ j s q. s .1 q);
         }
           where
-            sp : Spare N D P sz W k b SpC
-            sp = room-child N D P sz W k k⊑W cap b t m c ti above (p .g) fs mk n
+            sp : Spare N P sz W k b SpC
+            sp = room-child N P sz W k k⊑W cap b t m c ti above (p .g) fs mk n
 
             inD : (h j : ℕ) → Under h t → Under (t / 4) j → Under h j
             inD h j (kid z) v = subst (λ (y : ℕ). Under y j) z v
@@ -143,7 +143,7 @@ module _ (N D P : ℕ) (sz : Tiled D (4 ^ N)) where
       -- MD
       module _ (mk : getD m t 0 ≡ 5) where
         is-d : (t % 4 ≡ 0) × (stands D I c (t / 4) ≡ true) × (c .sD (t / 4) ≡ false) × (D ≤ t)
-        is-d = is-D D I sz c m (p .g .core) t ti mk
+        is-d = is-D sz c m (p .g .core) t ti mk
 
         lo-d : D ≤ 4 * (t / 4)
         lo-d = omega (arith, is-d .0, is-d .3)
@@ -168,10 +168,10 @@ module _ (N D P : ℕ) (sz : Tiled D (4 ^ N)) where
         }
           where
             known : (j : ℕ) → O (bitOf j b) → Under (t / 4) j → j < I → ⊥
-            known j o u hj = true≢false (sym ((p .g .more .zs j hj (b, (p .de .oO j b o) .0)) .0) ∙ dead-D N D P sz c (p .g .core .ok) (t / 4) j lo-d (is-d .2) u)
+            known j o u hj = true≢false (sym ((p .g .more .zs j hj (b, (p .de .oO j b o) .0)) .0) ∙ dead-D N P sz c (p .g .core .ok) (t / 4) j lo-d (is-d .2) u)
 
-            sp : 4 * D ≤ t → Spare N D P sz W k b SpD
-            sp h = room-desc N D P sz W k k⊑W cap b t m c ti above (p .g) fs mk h n
+            sp : 4 * D ≤ t → Spare N P sz W k b SpD
+            sp h = room-desc N P sz W k k⊑W cap b t m c ti above (p .g) fs mk h n
 
             doD : (h x : ℕ) → O (inDesc h b) → Under h x → Under (t / 4) x → Cmp h (t / 4) → (j : ℕ) × (j < I) × Under h j × (W .has j b ≡ true) × (Under (t / 4) j → ⊥) × (1 ≤ h)
             doD h x o u v (same e) = absurd (true≢false (sym ((p .de .oD h b o) .0) ∙ subst (λ (y : ℕ). c .sD y ≡ false) (sym e) (is-d .2)))
@@ -199,7 +199,7 @@ module _ (N D P : ℕ) (sz : Tiled D (4 ^ N)) where
                 at (below (far w)) = absurd (whole-D c (p .g .core .ok) (t / 4) h lo-d (is-d .2) (subst (λ (y : ℕ). Under (t / 4) y) e w) sd)
 
             doT : suc b ≡ P → Dec (t < 4 * D) → (j : ℕ) × (j < I) × (W .has j b ≡ true) × (Under (t / 4) j → ⊥)
-            doT e (yes z) = room-root N D P sz W k k⊑W cap b t m c ti above (p .g) fs mk z e n
+            doT e (yes z) = room-root N P sz W k k⊑W cap b t m c ti above (p .g) fs mk z e n
             doT e (no z) = useT SpD (λ j. Under (t / 4) j) (sp (omega arith)) (out-d (omega arith)) e
 
         pub open-D : Open1 W b (λ j. Under (t / 4) j)
@@ -208,7 +208,7 @@ module _ (N D P : ℕ) (sz : Tiled D (4 ^ N)) where
       -- MG
       module _ (mk : getD m t 0 ≡ 6) where
         is-g : (t ≡ 16 * (t / 16)) × (c .sD (t / 16) ≡ true) × (c .sG (t / 16) ≡ false) × (D ≤ 4 * (t / 16)) × (alone D I c t ≡ false)
-        is-g = is-G D I sz c m (p .g .core) t ti mk
+        is-g = is-G sz c m (p .g .core) t ti mk
 
         abbrev SpG : ℕ → Type 0
         SpG j = j / 4 ≡ t / 16
@@ -225,10 +225,10 @@ module _ (N D P : ℕ) (sz : Tiled D (4 ^ N)) where
         }
           where
             known : (j : ℕ) → O (bitOf j b) → Under (t / 16) (j / 4) → j < I → ⊥
-            known j o u hj = true≢false (sym ((p .g .more .zs j hj (b, (p .de .oO j b o) .0)) .0) ∙ dead-G N D P sz c (p .g .core .ok) (t / 16) j (is-g .3) (is-g .2) u)
+            known j o u hj = true≢false (sym ((p .g .more .zs j hj (b, (p .de .oO j b o) .0)) .0) ∙ dead-G N P sz c (p .g .core .ok) (t / 16) j (is-g .3) (is-g .2) u)
 
-            sp : Spare N D P sz W k b SpG
-            sp = room-grand N D P sz W k k⊑W cap b t m c ti above (p .g) fs mk n
+            sp : Spare N P sz W k b SpG
+            sp = room-grand N P sz W k k⊑W cap b t m c ti above (p .g) fs mk n
 
             doD : (h x : ℕ) → O (inDesc h b) → Under h x → Under (t / 16) (x / 4) → (j : ℕ) × (j < I) × Under h j × (W .has j b ≡ true) × (Under (t / 16) (j / 4) → ⊥) × (1 ≤ h)
             doD h x o (kid z) v = absurd (whole-G c (p .g .core .ok) (t / 16) h (is-g .3) (is-g .2) (subst (λ (y : ℕ). Under (t / 16) y) z v) ((p .de .oD h b o) .0))

@@ -14,8 +14,8 @@ use Rattle.nls.proofs.Judging.ByCount.{clash-count, right-count}
 
 module _ (N L : ℕ) (z : Sized N L) where
   -- what the decoder answers, and which bit it refuses with which number
-  pub answer-means : (P : ℕ) → 1 ≤ P → (v : List Bool) → Means N (coarsestOf N L) P (tiled N L z) v (decode (allOf N) (λ used hit s. clash-count (allOf N) (coarsestOf N L) P used s) 0 false (start (allOf N) (coarsestOf N L) P) v)
-  answer-means P h v = decode-means N (coarsestOf N L) P (tiled N L z) (λ used hit s. clash-count (allOf N) (coarsestOf N L) P used s) (right-count N (coarsestOf N L) P (tiled N L z)) h v
+  pub answer-means : (P : ℕ) → 1 ≤ P → (v : List Bool) → Means N P (tiled N L z) v (decode (allOf N) (λ used hit s. clash-count (allOf N) (coarsestOf N L) P used s) 0 false (start (allOf N) (coarsestOf N L) P) v)
+  answer-means P h v = decode-means N P (tiled N L z) (λ used hit s. clash-count (allOf N) (coarsestOf N L) P used s) (right-count N P (tiled N L z)) h v
 
   -- P = 0: no bit is asked for
   pub none-asked : ask (allOf N) (start (allOf N) (coarsestOf N L) 0) ≡ none

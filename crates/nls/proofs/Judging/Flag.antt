@@ -49,14 +49,14 @@ unfl (a ∷ u) fl n e x = unfl u (fl ⊎ (a ≡ true)) go ((neither a (lit u) e)
     go (inl y) = n y
     go (inr y) = true≢false (sym y ∙ (neither a (lit u) e) .0)
 
-module _ (N D P : ℕ) (sz : Tiled D (4 ^ N)) where
+module _ (N : ℕ) {D : ℕ} (P : ℕ) (sz : Tiled D (4 ^ N)) where
   abbrev I : ℕ
   I = 4 ^ N
 
   abbrev S : State
   S = start I D P
 
-  learned1 : (fl : Type 0) (q : Question) (a : Bool) → Learned D I sz P (F1 (fl ⊎ (a ≡ true))) (λ j. ⊥) q a
+  learned1 : (fl : Type 0) (q : Question) (a : Bool) → Learned sz P (F1 (fl ⊎ (a ≡ true))) (λ j. ⊥) q a
   learned1 fl (bitOf i b) true = (tt, λ j z n. z)
   learned1 fl (bitOf i b) false = (tt, λ j z. z)
   learned1 fl (signOf i) a = (tt, λ j z. z)
@@ -65,17 +65,17 @@ module _ (N D P : ℕ) (sz : Tiled D (4 ^ N)) where
   learned1 fl (inGrand g b) true = (inr refl, λ j z. z)
   learned1 fl (inGrand g b) false = ((λ g1 i hi u. tt), λ j z. z)
 
-  pub on-ask1 : (A : Bits) (fl : Type 0) (a : Bool) (L : Look) → told N A (asked I L) a → On-ask D I sz P (F1 (fl ⊎ (a ≡ true))) (λ j. ⊥) a L
+  pub on-ask1 : (A : Bits) (fl : Type 0) (a : Bool) (L : Look) → told N A (asked I L) a → On-ask sz P (F1 (fl ⊎ (a ≡ true))) (λ j. ⊥) a L
   on-ask1 A fl a over t = t
   on-ask1 A fl a (silent s) t = t
   on-ask1 A fl a (asks q) t = learned1 fl q a
 
-  run1 : (A : Bits) (fl : Type 0) (s : State) (u : List Bool) → Good D I sz P (F1 fl) s → Fits N State (ask I) (next I) A s u → Good D I sz P (F1 (Fl u fl)) (reach (4 ^ N) s u)
+  run1 : (A : Bits) (fl : Type 0) (s : State) (u : List Bool) → Good sz P (F1 fl) s → Fits N State (ask I) (next I) A s u → Good sz P (F1 (Fl u fl)) (reach (4 ^ N) s u)
   unfolding reach ask
   run1 A fl s [] g f = g
   run1 A fl s (a ∷ u) g f = run1 A (fl ⊎ (a ≡ true)) (next I s a) u
-      (good-next D I sz P (F1 (fl ⊎ (a ≡ true))) (λ j. ⊥) s a
-      (good-mono D I sz P (F1 fl) (F1 (fl ⊎ (a ≡ true))) (λ b j x. x) (λ j x. x) (λ b j x. inl x) (λ b j x. inl x) (λ j z. z) s g) (on-ask1 A fl a (look I s) (f .0))) (f .1)
+      (good-next sz P (F1 (fl ⊎ (a ≡ true))) (λ j. ⊥) s a
+      (good-mono sz P (F1 fl) (F1 (fl ⊎ (a ≡ true))) (λ b j x. x) (λ j x. x) (λ b j x. inl x) (λ b j x. inl x) (λ j z. z) s g) (on-ask1 A fl a (look I s) (f .0))) (f .1)
 
   -- nothing is known without a 1
   abbrev pub Blank : Bits → Type 0
@@ -120,7 +120,7 @@ module _ (N D P : ℕ) (sz : Tiled D (4 ^ N)) where
     plain-fine b i m true false true = tt
     plain-fine b i m true false false = tt
 
-    plain-at : (l : ℕ) (p : Pass) (i : ℕ) (s : Bool) (m : List ℕ) → All-at N D P sz A false k w O l p i s m → Not-sgn (lookAt I l p i s m)
+    plain-at : (l : ℕ) (p : Pass) (i : ℕ) (s : Bool) (m : List ℕ) → All-at N P sz A false k w O l p i s m → Not-sgn (lookAt I l p i s m)
     plain-at zero p i s m z = tt
     plain-at (suc b) pixels i true m z = absurd (n i b (z .5))
     plain-at (suc b) sets i true m z = absurd (n i b (z .5))
@@ -130,11 +130,11 @@ module _ (N D P : ℕ) (sz : Tiled D (4 ^ N)) where
     plain-at (suc b) refining i false m z = plain-fine b i m (ltb i I) (eqb (getD m i 0) 3) (eqb (getD m i 0) 2)
 
   -- the first 1 answers no sign
-  first-1 : (A k w : Bits) (O : Question → Type 0) (s : State) (u : List Bool) → All N D P sz A false k w O s → Blank k → Fits N State (ask I) (next I) A s u → lit u ≡ true → (p : Question) × Plain p × Owed N State (ask I) (next I) s u p
+  first-1 : (A k w : Bits) (O : Question → Type 0) (s : State) (u : List Bool) → All N P sz A false k w O s → Blank k → Fits N State (ask I) (next I) A s u → lit u ≡ true → (p : Question) × Plain p × Owed N State (ask I) (next I) s u p
   unfolding lit
   first-1 A k w O s [] z n f e = absurd (false≢true e)
   first-1 A k w O s (false ∷ u) z n f e =
-      let r : (p : Question) × Plain p × Owed N State (ask I) (next I) (next I s false) u p = first-1 A (knowO (ask I s) false k) (afterO N (ask I s) false w) (λ p. O p ⊎ ((false ≡ true) × (ask I s ≡ some p))) (next I s false) u (all-next N D P sz A false k w O s false z (f .0)) (blank-O (ask I s) k n) (f .1) e in
+      let r : (p : Question) × Plain p × Owed N State (ask I) (next I) (next I s false) u p = first-1 A (knowO (ask I s) false k) (afterO N (ask I s) false w) (λ p. O p ⊎ ((false ≡ true) × (ask I s ≡ some p))) (next I s false) u (all-next N P sz A false k w O s false z (f .0)) (blank-O (ask I s) k n) (f .1) e in
       (r .0, r .1, inr (r .2))
   first-1 A k w O s (true ∷ u) z n f e = go (look I s) refl (plain-at A k w O n (s .left) (s .pass) (s .place) (s .pending) (s .marks) z) (unfold ask in f .0)
     where
@@ -145,12 +145,12 @@ module _ (N D P : ℕ) (sz : Tiled D (4 ^ N)) where
 
   -- with nothing marked, nothing was answered 1
   module _ (A k w : Bits) (O : Question → Type 0) (b i : ℕ) (m : List ℕ) (hi : i < I) (mk : getD m i 0 ≡ 5) (te : i + 4 ≡ 4 * D)
-      (z : All-at N D P sz A false k w O (suc b) sets i false m) where
-    kk : Core D I sz (z .1 .0) m
+      (z : All-at N P sz A false k w O (suc b) sets i false m) where
+    kk : Core sz (z .1 .0) m
     kk = z .1 .1 .g .core
 
     isd : (i % 4 ≡ 0) × (stands D I (z .1 .0) (i / 4) ≡ true) × ((z .1 .0) .sD (i / 4) ≡ false) × (D ≤ i)
-    isd = is-D D I sz (z .1 .0) m kk i hi mk
+    isd = is-D sz (z .1 .0) m kk i hi mk
 
     low-alone : (j : ℕ) → j < D → alone D I (z .1 .0) j ≡ true
     low-alone j h = pick (alone D I (z .1 .0) j) refl
@@ -171,7 +171,7 @@ module _ (N D P : ℕ) (sz : Tiled D (4 ^ N)) where
 
     -- the roots are unsplit
     unsplit : None D i m → (h : ℕ) → D ≤ 4 * h → h < D → (z .1 .0) .sD h ≡ false
-    unsplit n h lo hd = subst (λ (x : ℕ). (z .1 .0) .sD x ≡ false) {x = 4 * h / 4} {y = h} (omega arith) ((is-D D I sz (z .1 .0) m kk (4 * h) (omega arith) (at (ℕ-discrete (4 * h) i))) .2)
+    unsplit n h lo hd = subst (λ (x : ℕ). (z .1 .0) .sD x ≡ false) {x = 4 * h / 4} {y = h} (omega arith) ((is-D sz (z .1 .0) m kk (4 * h) (omega arith) (at (ℕ-discrete (4 * h) i))) .2)
       where
         at : Dec (4 * h ≡ i) → getD m (4 * h) 0 ≡ 5
         at (yes e) = ap (λ (x : ℕ). getD m x 0) e ∙ mk
@@ -183,8 +183,8 @@ module _ (N D P : ℕ) (sz : Tiled D (4 ^ N)) where
         go : Dec (h < D) → ⊥
         go (yes y) = true≢false (sym s ∙ unsplit n h (kk .ok .lo h s) y)
         go (no y) =
-            let r : (g : ℕ) × (D ≤ 4 * g) × (g < D) × Under g h = root N D P sz h h (omega arith) (omega arith) in
-            whole-D N D P sz (z .1 .0) (kk .ok) (r .0) h (r .1) (unsplit n (r .0) (r .1) (r .2)) (r .3) s
+            let r : (g : ℕ) × (D ≤ 4 * g) × (g < D) × Under g h = root N P sz h h (omega arith) (omega arith) in
+            whole-D N P sz (z .1 .0) (kk .ok) (r .0) h (r .1) (unsplit n (r .0) (r .1) (r .2)) (r .3) s
 
     none-owed : None D i m → (p : Question) → Plain p → O p → ⊥
     none-owed n (signOf j) y o = y
@@ -202,27 +202,27 @@ module _ (N D P : ℕ) (sz : Tiled D (4 ^ N)) where
 
   -- the flag says so
   module _ (A : Bits) (u : List Bool) (f : Fits N State (ask I) (next I) A (start I D P) u) where
-    pub z : All N D P sz A false (least N State (ask I) (next I) S u nothing) (most N State (ask I) (next I) S u (record { has = λ i b. ltb b P; neg = λ i. false })) (Owing N D P sz A false S u (λ p. ⊥)) (reach (4 ^ N) S u)
-    z = all-run N D P sz A false nothing (record { has = λ i b. ltb b P; neg = λ i. false }) (λ p. ⊥) S u (all-start N D P sz A false) f
+    pub z : All N P sz A false (least N State (ask I) (next I) S u nothing) (most N State (ask I) (next I) S u (record { has = λ i b. ltb b P; neg = λ i. false })) (Owing N P sz A false S u (λ p. ⊥)) (reach (4 ^ N) S u)
+    z = all-run N P sz A false nothing (record { has = λ i b. ltb b P; neg = λ i. false }) (λ p. ⊥) S u (all-start N P sz A false) f
 
-    pub g1 : Good D I sz P (F1 (Fl u ⊥)) (reach (4 ^ N) S u)
-    g1 = run1 A ⊥ S u (good-start D I sz P (F1 ⊥) (λ j y. y)) f
+    pub g1 : Good sz P (F1 (Fl u ⊥)) (reach (4 ^ N) S u)
+    g1 = run1 A ⊥ S u (good-start sz P (F1 ⊥) (λ j y. y)) f
 
-    pub flag-to : (k w : Bits) (O : Question → Type 0) (b i : ℕ) (m : List ℕ) → i < I → getD m i 0 ≡ 5 → i + 4 ≡ 4 * D → All-at N D P sz A false k w O (suc b) sets i false m
-        → Good-at D I sz P (F1 (Fl u ⊥)) (suc b) sets i false m → Blank k → lit u ≡ false → None D i m
+    pub flag-to : (k w : Bits) (O : Question → Type 0) (b i : ℕ) (m : List ℕ) → i < I → getD m i 0 ≡ 5 → i + 4 ≡ 4 * D → All-at N P sz A false k w O (suc b) sets i false m
+        → Good-at sz P (F1 (Fl u ⊥)) (suc b) sets i false m → Blank k → lit u ≡ false → None D i m
     flag-to k w O b i m hi mk te z g n e = (ones A k w O b i m hi mk te z n, λ h lo l. pick h lo l (g .1 .0 .sD h) refl)
       where
         pick : (h : ℕ) → D ≤ 4 * h → 4 * h < i → (x : Bool) → g .1 .0 .sD h ≡ x → getD m (4 * h) 0 ≡ 5
         pick h lo l true s = absurd (unfl u ⊥ (λ y. y) e (g .1 .1 .more .qD h s))
-        pick h lo l false s = mark-D D I sz (g .1 .0) m (g .1 .1 .core) h lo (omega arith) (st (stands D I (g .1 .0) h) refl) s
+        pick h lo l false s = mark-D sz (g .1 .0) m (g .1 .1 .core) h lo (omega arith) (st (stands D I (g .1 .0) h) refl) s
           where
             st : (x : Bool) → stands D I (g .1 .0) h ≡ x → stands D I (g .1 .0) h ≡ true
             st true y = y
             st false y = absurd (omega (arith, (no-stands D I (g .1 .0) h y) .0))
 
-    pub flag-of : (k w : Bits) (O : Question → Type 0) (b i : ℕ) (m : List ℕ) → i < I → getD m i 0 ≡ 5 → i + 4 ≡ 4 * D → All-at N D P sz A false k w O (suc b) sets i false m
+    pub flag-of : (k w : Bits) (O : Question → Type 0) (b i : ℕ) (m : List ℕ) → i < I → getD m i 0 ≡ 5 → i + 4 ≡ 4 * D → All-at N P sz A false k w O (suc b) sets i false m
         → ((p : Question) → Owed N State (ask I) (next I) (start I D P) u p → O p) → None D i m → (x : Bool) → lit u ≡ x → not (lit u) ≡ true
     flag-of k w O b i m hi mk te z ow n false e = ap not e
     flag-of k w O b i m hi mk te z ow n true e =
-        let r : (p : Question) × Plain p × Owed N State (ask I) (next I) S u p = first-1 A nothing (record { has = λ i b. ltb b P; neg = λ i. false }) (λ p. ⊥) S u (all-start N D P sz A false) (λ j e h. false≢true h) f e in
+        let r : (p : Question) × Plain p × Owed N State (ask I) (next I) S u p = first-1 A nothing (record { has = λ i b. ltb b P; neg = λ i. false }) (λ p. ⊥) S u (all-start N P sz A false) (λ j e h. false≢true h) f e in
         absurd (none-owed A k w O b i m hi mk te z n (r .0) (r .1) (ow (r .0) (r .2)))

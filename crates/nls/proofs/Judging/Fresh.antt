@@ -17,7 +17,7 @@ use Rattle.nls.proofs.Machine.Cover.{Under, kid, far, Core, Preds, Pix,
 use Rattle.nls.proofs.Judging.Clash.{dead-D, dead-G}
 use Rattle.nls.proofs.Judging.Apart.{apart-DD, apart-GD, apart-GG, grand-of}
 
-module _ (N D P : ℕ) (sz : Tiled D (4 ^ N)) where
+module _ (N : ℕ) {D : ℕ} (P : ℕ) (sz : Tiled D (4 ^ N)) where
   abbrev I : ℕ
   I = 4 ^ N
 
@@ -41,13 +41,13 @@ module _ (N D P : ℕ) (sz : Tiled D (4 ^ N)) where
 
   module _ (R : Preds) (X : ℕ → Type 0) where
     abbrev PixR : ℕ → Cfg → List ℕ → Type 0
-    PixR t c m = Pix D I sz R X t c m
+    PixR t c m = Pix sz R X t c m
 
     abbrev SetsR : ℕ → Cfg → List ℕ → Type 0
-    SetsR t c m = Sets D I sz R X t c m
+    SetsR t c m = Sets sz R X t c m
 
     abbrev FineR : ℕ → Cfg → List ℕ → Type 0
-    FineR t c m = Fine D I sz R X t c m
+    FineR t c m = Fine sz R X t c m
 
     module _ (T M : ℕ → ℕ → Type 0) (b : ℕ) where
       pub frp-hush : (t w : ℕ) (m : List ℕ) → PixFr T M b t m → PixFr T M b (t + w) m
@@ -82,24 +82,24 @@ module _ (N D P : ℕ) (sz : Tiled D (4 ^ N)) where
       pub frp-end : (t : ℕ) (c : Cfg) (m : List ℕ) → PixR t c m → PixFr T M b t m → SetFr T M b 0 m
       frp-end t c m g p = record {
         f4 = λ j hj e. absurd (no4 j hj e);
-        fD = λ x hx z e j hj u. p .todo j hj (λ a1 a2 a3. clash j hj a1 a2 (dead-D N D P sz c (g .core .ok) (x / 4) j (omega (arith, isD x hx e)) ((isD x hx e) .2) u));
-        fG = λ x hx z e j hj u. p .todo j hj (λ a1 a2 a3. clash j hj a1 a2 (dead-G N D P sz c (g .core .ok) (x / 16) j ((isG x hx e) .3) ((isG x hx e) .2) u));
+        fD = λ x hx z e j hj u. p .todo j hj (λ a1 a2 a3. clash j hj a1 a2 (dead-D N P sz c (g .core .ok) (x / 4) j (omega (arith, isD x hx e)) ((isD x hx e) .2) u));
+        fG = λ x hx z e j hj u. p .todo j hj (λ a1 a2 a3. clash j hj a1 a2 (dead-G N P sz c (g .core .ok) (x / 16) j ((isG x hx e) .3) ((isG x hx e) .2) u));
         m2 = p .m2;
         m3 = p .m3;
         c4 = λ hx e. absurd (no4 0 hx e);
       }
         where
           isD : (x : ℕ) → x < I → getD m x 0 ≡ 5 → (x % 4 ≡ 0) × (stands D I c (x / 4) ≡ true) × (c .sD (x / 4) ≡ false) × (D ≤ x)
-          isD x hx e = is-D D I sz c m (g .core) x hx e
+          isD x hx e = is-D sz c m (g .core) x hx e
 
           isG : (x : ℕ) → x < I → getD m x 0 ≡ 6 → (x ≡ 16 * (x / 16)) × (c .sD (x / 16) ≡ true) × (c .sG (x / 16) ≡ false) × (D ≤ 4 * (x / 16)) × (alone D I c x ≡ false)
-          isG x hx e = is-G D I sz c m (g .core) x hx e
+          isG x hx e = is-G sz c m (g .core) x hx e
 
           no4 : (j : ℕ) → j < I → getD m j 0 ≡ 4 → ⊥
-          no4 j hj e = let it : (alone D I c j ≡ true) × (c .al j ≡ getD m j 0) = is-alone D I sz c m (g .core) j hj (omega arith) (omega arith) in g .no4 j hj (it .0) (it .1 ∙ e)
+          no4 j hj e = let it : (alone D I c j ≡ true) × (c .al j ≡ getD m j 0) = is-alone sz c m (g .core) j hj (omega arith) (omega arith) in g .no4 j hj (it .0) (it .1 ∙ e)
 
           clash : (j : ℕ) → j < I → 1 ≤ getD m j 0 → getD m j 0 ≤ 2 → alone D I c j ≡ false → ⊥
-          clash j hj a1 a2 n = true≢false (sym ((is-alone D I sz c m (g .core) j hj a1 (omega arith)) .0) ∙ n)
+          clash j hj a1 a2 n = true≢false (sym ((is-alone sz c m (g .core) j hj a1 (omega arith)) .0) ∙ n)
 
       pub frs-end : (t : ℕ) (m : List ℕ) → SetFr T M b t m → FineFr T M b 0 m
       frs-end t m p = record {
@@ -138,7 +138,7 @@ module _ (N D P : ℕ) (sz : Tiled D (4 ^ N)) where
       }
         where
           it : (alone D I c t ≡ true) × (c .al t ≡ getD m t 0)
-          it = is-alone D I sz c m (g .core) t ti (omega arith) (omega arith)
+          it = is-alone sz c m (g .core) t ti (omega arith) (omega arith)
 
           at : getD (set m t v) t 0 ≡ v
           at = getD-set-same m t v 0 (omega (arith, g .core .len))
@@ -147,12 +147,12 @@ module _ (N D P : ℕ) (sz : Tiled D (4 ^ N)) where
           off j n = getD-set-other m t j v 0 n
 
           inD : (x : ℕ) → x < I → getD m x 0 ≡ 5 → (j : ℕ) → Under (x / 4) j → alone D I c j ≡ false
-          inD x hx e j u = let i : (x % 4 ≡ 0) × (stands D I c (x / 4) ≡ true) × (c .sD (x / 4) ≡ false) × (D ≤ x) = is-D D I sz c m (g .core) x hx e in
-              dead-D N D P sz c (g .core .ok) (x / 4) j (omega arith) (i .2) u
+          inD x hx e j u = let i : (x % 4 ≡ 0) × (stands D I c (x / 4) ≡ true) × (c .sD (x / 4) ≡ false) × (D ≤ x) = is-D sz c m (g .core) x hx e in
+              dead-D N P sz c (g .core .ok) (x / 4) j (omega arith) (i .2) u
 
           inG : (x : ℕ) → x < I → getD m x 0 ≡ 6 → (j : ℕ) → Under (x / 16) (j / 4) → alone D I c j ≡ false
-          inG x hx e j u = let i : (x ≡ 16 * (x / 16)) × (c .sD (x / 16) ≡ true) × (c .sG (x / 16) ≡ false) × (D ≤ 4 * (x / 16)) × (alone D I c x ≡ false) = is-G D I sz c m (g .core) x hx e in
-              dead-G N D P sz c (g .core .ok) (x / 16) j (i .3) (i .2) u
+          inG x hx e j u = let i : (x ≡ 16 * (x / 16)) × (c .sD (x / 16) ≡ true) × (c .sG (x / 16) ≡ false) × (D ≤ 4 * (x / 16)) × (alone D I c x ≡ false) = is-G sz c m (g .core) x hx e in
+              dead-G N P sz c (g .core .ok) (x / 16) j (i .3) (i .2) u
 
           f4′ : (j : ℕ) → j < I → getD (set m t v) j 0 ≡ 4 → Dec (j ≡ t) → T′ b j
           f4′ j hj e (yes q) = absurd (omega (arith, at, ap (λ (x : ℕ). getD (set m t v) x 0) q))
@@ -168,7 +168,7 @@ module _ (N D P : ℕ) (sz : Tiled D (4 ^ N)) where
 
           c4′ : t + 1 < I → getD m (t + 1) 0 ≡ 4 → (D ≤ t + 1) × (16 * ((t + 1) / 4) < I → getD (set m t v) (16 * ((t + 1) / 4)) 0 ≡ 6) × ((j : ℕ) → j / 4 ≡ (t + 1) / 4 → j < t + 1 → (1 ≤ getD (set m t v) j 0) × (getD (set m t v) j 0 ≤ 2))
           c4′ hx e =
-              let i1 : (alone D I c (t + 1) ≡ true) × (c .al (t + 1) ≡ getD m (t + 1) 0) = is-alone D I sz c m (g .core) (t + 1) hx (omega arith) (omega arith) in
+              let i1 : (alone D I c (t + 1) ≡ true) × (c .al (t + 1) ≡ getD m (t + 1) 0) = is-alone sz c m (g .core) (t + 1) hx (omega arith) (omega arith) in
               let fr : (t ≤ t + 1) × ((t + 1) / 4 ≡ t / 4) × (alone D I c t ≡ true) × (c .al t ≡ 4) = g .four (t + 1) hx (i1 .0) (i1 .1 ∙ e) in
               let old : (D ≤ t) × (16 * (t / 4) < I → getD m (16 * (t / 4)) 0 ≡ 6) × ((j : ℕ) → j / 4 ≡ t / 4 → j < t → (1 ≤ getD m j 0) × (getD m j 0 ≤ 2)) = p .c4 ti mk in
               (omega arith, (λ h. off (16 * ((t + 1) / 4)) (λ q. omega (arith, old .0)) ∙ ap (λ (x : ℕ). getD m (16 * x) 0) (fr .1) ∙ old .1 (omega arith)), λ j ej lj. sib (fr .1) (old .2) j ej lj (ℕ-discrete j t))
@@ -200,39 +200,39 @@ module _ (N D P : ℕ) (sz : Tiled D (4 ^ N)) where
         where
           no4 : (j : ℕ) → j < I → getD m j 0 ≡ 4 → ⊥
           no4 j hj e =
-              let i : (alone D I c j ≡ true) × (c .al j ≡ getD m j 0) = is-alone D I sz c m (g .core) j hj (omega arith) (omega arith) in
+              let i : (alone D I c j ≡ true) × (c .al j ≡ getD m j 0) = is-alone sz c m (g .core) j hj (omega arith) (omega arith) in
               let f : (t ≤ j) × (j / 4 ≡ t / 4) × (alone D I c t ≡ true) × (c .al t ≡ 4) = g .four j hj (i .0) (i .1 ∙ e) in
               n (g .core .tab .solo t ti (f .2) ∙ f .3)
 
       pub frs-hush : (t w : ℕ) (c : Cfg) (m : List ℕ) → SetsR t c m → t < I → SetFr T M b t m → (getD m t 0 ≡ 4 → ⊥) → SetFr T M b (t + w) m
       frs-hush t w c m g ti p n = frs-on T t w c m g ti p n (λ x hx z e j u y. y) (λ x hx z e j u y. y)
 
-      module _ (c : Cfg) (m : List ℕ) (k : Core D I sz c m) where
+      module _ (c : Cfg) (m : List ℕ) (k : Core sz c m) where
         isD : (x : ℕ) → x < I → getD m x 0 ≡ 5 → (x % 4 ≡ 0) × (stands D I c (x / 4) ≡ true) × (c .sD (x / 4) ≡ false) × (D ≤ x)
-        isD x hx e = is-D D I sz c m k x hx e
+        isD x hx e = is-D sz c m k x hx e
 
         isG : (x : ℕ) → x < I → getD m x 0 ≡ 6 → (x ≡ 16 * (x / 16)) × (c .sD (x / 16) ≡ true) × (c .sG (x / 16) ≡ false) × (D ≤ 4 * (x / 16)) × (alone D I c x ≡ false)
-        isG x hx e = is-G D I sz c m k x hx e
+        isG x hx e = is-G sz c m k x hx e
 
         -- marks of two standing sets
         marks-DD : (x y j : ℕ) → x < I → y < I → getD m x 0 ≡ 5 → getD m y 0 ≡ 5 → Under (x / 4) j → Under (y / 4) j → x ≡ y
         marks-DD x y j hx hy ex ey u v =
-            let e : x / 4 ≡ y / 4 = apart-DD N D P sz c (k .ok) (x / 4) (y / 4) j (omega (arith, isD x hx ex)) ((isD x hx ex) .1) ((isD x hx ex) .2) (omega (arith, isD y hy ey)) ((isD y hy ey) .1) ((isD y hy ey) .2) u v in
+            let e : x / 4 ≡ y / 4 = apart-DD N P sz c (k .ok) (x / 4) (y / 4) j (omega (arith, isD x hx ex)) ((isD x hx ex) .1) ((isD x hx ex) .2) (omega (arith, isD y hy ey)) ((isD y hy ey) .1) ((isD y hy ey) .2) u v in
             omega (arith, isD x hx ex, isD y hy ey)
 
         marks-GD : (x y j : ℕ) → x < I → y < I → getD m x 0 ≡ 6 → getD m y 0 ≡ 5 → Under (x / 16) (j / 4) → Under (y / 4) j → ⊥
-        marks-GD x y j hx hy ex ey u v = apart-GD N D P sz c (k .ok) (x / 16) (y / 4) j ((isG x hx ex) .3) ((isG x hx ex) .1) ((isG x hx ex) .2) (omega (arith, isD y hy ey)) ((isD y hy ey) .1) ((isD y hy ey) .2) u v
+        marks-GD x y j hx hy ex ey u v = apart-GD N P sz c (k .ok) (x / 16) (y / 4) j ((isG x hx ex) .3) ((isG x hx ex) .1) ((isG x hx ex) .2) (omega (arith, isD y hy ey)) ((isD y hy ey) .1) ((isD y hy ey) .2) u v
 
         marks-GG : (x y j : ℕ) → x < I → y < I → getD m x 0 ≡ 6 → getD m y 0 ≡ 6 → Under (x / 16) (j / 4) → Under (y / 16) (j / 4) → x ≡ y
         marks-GG x y j hx hy ex ey u v =
-            let e : x / 16 ≡ y / 16 = apart-GG N D P sz c (k .ok) (x / 16) (y / 16) j ((isG x hx ex) .3) ((isG x hx ex) .1) ((isG x hx ex) .2) ((isG y hy ey) .3) ((isG y hy ey) .1) ((isG y hy ey) .2) u v in
+            let e : x / 16 ≡ y / 16 = apart-GG N P sz c (k .ok) (x / 16) (y / 16) j ((isG x hx ex) .3) ((isG x hx ex) .1) ((isG x hx ex) .2) ((isG y hy ey) .3) ((isG y hy ey) .1) ((isG y hy ey) .2) u v in
             omega (arith, (isG x hx ex) .0, (isG y hy ey) .0)
 
         mark-D′ : (x : ℕ) → x < I → x % 4 ≡ 0 → D ≤ x → stands D I c (x / 4) ≡ true → c .sD (x / 4) ≡ false → getD m x 0 ≡ 5
-        mark-D′ x hx z lo s n = ap (λ (y : ℕ). getD m y 0) {x = x} {y = 4 * (x / 4)} (omega arith) ∙ mark-D D I sz c m k (x / 4) (omega arith) (omega arith) s n
+        mark-D′ x hx z lo s n = ap (λ (y : ℕ). getD m y 0) {x = x} {y = 4 * (x / 4)} (omega arith) ∙ mark-D sz c m k (x / 4) (omega arith) (omega arith) s n
 
         mark-G′ : (x : ℕ) → x < I → x ≡ 16 * (x / 16) → D ≤ 4 * (x / 16) → c .sD (x / 16) ≡ true → c .sG (x / 16) ≡ false → getD m x 0 ≡ 6
-        mark-G′ x hx z lo s n = ap (λ (y : ℕ). getD m y 0) z ∙ mark-G D I sz c m k (x / 16) lo (omega arith) s n
+        mark-G′ x hx z lo s n = ap (λ (y : ℕ). getD m y 0) z ∙ mark-G sz c m k (x / 16) lo (omega arith) s n
 
       pub frs-D0 : (T′ : ℕ → ℕ → Type 0) (t : ℕ) (c : Cfg) (m : List ℕ) → SetsR t c m → t < I → SetFr T M b t m → getD m t 0 ≡ 5
           → ((j : ℕ) → T b j → (Under (t / 4) j → ⊥) → T′ b j) → SetFr T′ M b (t + 4) m
@@ -254,7 +254,7 @@ module _ (N D P : ℕ) (sz : Tiled D (4 ^ N)) where
         fG = λ x hx z e j hj u. fG′ x hx z e j hj u (ℕ-discrete (x / 16) (t / 4));
         m2 = λ j hj e. p .m2 j hj (old j hj 2 e (lit≤ tt) (lit< tt) (λ q. omega arith) (ℕ-discrete (j / 4) (t / 4)));
         m3 = λ j hj e. p .m3 j hj (old j hj 3 e (lit≤ tt) (lit< tt) (λ q. omega arith) (ℕ-discrete (j / 4) (t / 4)));
-        c4 = λ hx e. (is .3, (λ h. mark-G D I sz c′ m′ (g′ .core) (t / 4) (omega (arith, is)) h (sD-on (t / 4) c (t / 4) refl) (sG-D (t / 4) c (t / 4) ∙ Table.no-gd D I c (g .core .ok) (t / 4) (is .2))), λ j ej lj. absurd (omega (arith, is)));
+        c4 = λ hx e. (is .3, (λ h. mark-G sz c′ m′ (g′ .core) (t / 4) (omega (arith, is)) h (sD-on (t / 4) c (t / 4) refl) (sG-D (t / 4) c (t / 4) ∙ Table.no-gd D I c (g .core .ok) (t / 4) (is .2))), λ j ej lj. absurd (omega (arith, is)));
       }
         where
           c′ : Cfg
@@ -264,7 +264,7 @@ module _ (N D P : ℕ) (sz : Tiled D (4 ^ N)) where
           is = isD c m (g .core) t ti mk
 
           ia : (j : ℕ) → j < I → 1 ≤ getD m′ j 0 → getD m′ j 0 < 5 → (alone D I c′ j ≡ true) × (c′ .al j ≡ getD m′ j 0)
-          ia j hj a1 a2 = is-alone D I sz c′ m′ (g′ .core) j hj a1 a2
+          ia j hj a1 a2 = is-alone sz c′ m′ (g′ .core) j hj a1 a2
 
           old : (j : ℕ) → j < I → (v : ℕ) → getD m′ j 0 ≡ v → 1 ≤ v → v < 5 → (v ≡ 4 → ⊥) → Dec (j / 4 ≡ t / 4) → getD m j 0 ≡ v
           old j hj v e v1 v5 n (yes q) = absurd (n (sym e ∙ sym ((ia j hj (omega arith) (omega arith)) .1) ∙ al-D-on (t / 4) c j q))
@@ -308,7 +308,7 @@ module _ (N D P : ℕ) (sz : Tiled D (4 ^ N)) where
           is = isG c m (g .core) t ti mk
 
           ia : (j : ℕ) → j < I → 1 ≤ getD m′ j 0 → getD m′ j 0 < 5 → (alone D I c′ j ≡ true) × (c′ .al j ≡ getD m′ j 0)
-          ia j hj a1 a2 = is-alone D I sz c′ m′ (g′ .core) j hj a1 a2
+          ia j hj a1 a2 = is-alone sz c′ m′ (g′ .core) j hj a1 a2
 
           old : (j : ℕ) → j < I → (v : ℕ) → getD m′ j 0 ≡ v → 1 ≤ v → v < 5 → getD m j 0 ≡ v
           old j hj v e v1 v5 =
@@ -337,5 +337,5 @@ module _ (N D P : ℕ) (sz : Tiled D (4 ^ N)) where
         where
           none : (j : ℕ) → j < I → getD m j 0 ≡ 2 → ⊥
           none j hj e =
-              let i : (alone D I c j ≡ true) × (c .al j ≡ getD m j 0) = is-alone D I sz c m (g .core) j hj (omega arith) (omega arith) in
+              let i : (alone D I c j ≡ true) × (c .al j ≡ getD m j 0) = is-alone sz c m (g .core) j hj (omega arith) (omega arith) in
               omega (arith, g .two j hj (i .0) (i .1 ∙ e))

@@ -70,35 +70,35 @@ module _ (N : ℕ) where
       go false true q = absurd (n (eqb-true j i q))
       go false false q = rw (q, after, sign)
 
-module _ (N D P : ℕ) (sz : Tiled D (4 ^ N)) (W : Bits) (vv : Bool) where
+module _ (N : ℕ) {D : ℕ} (P : ℕ) (sz : Tiled D (4 ^ N)) (W : Bits) (vv : Bool) where
   abbrev I : ℕ
   I = 4 ^ N
 
   abbrev pub G : Bits → Fam
-  G k = fam N D P sz W k
+  G k = fam N P sz W k
 
   pub record InPix (R : Preds) (k w : Bits) (O : Question → Type 0) (b t : ℕ) (c : Cfg) (m : List ℕ) : Type 0 where
-    pub g : Pix D I sz R (Known W k b) t c m
-    pub fr : PixFr N D P sz (T w) (M k) b t m
+    pub g : Pix sz R (Known W k b) t c m
+    pub fr : PixFr N P sz (T w) (M k) b t m
     pub ho : Hold D I P w vv b 0 c
     pub de : Debt D I P O k b (suc b) 0 c
     pub np : suc b ≡ P → (h : ℕ) → c .sD h ≡ false
 
   pub record InSets (R : Preds) (k w : Bits) (O : Question → Type 0) (b t : ℕ) (c : Cfg) (m : List ℕ) : Type 0 where
-    pub g : Sets D I sz R (Known W k b) t c m
-    pub fr : SetFr N D P sz (T w) (M k) b t m
+    pub g : Sets sz R (Known W k b) t c m
+    pub fr : SetFr N P sz (T w) (M k) b t m
     pub ho : Hold D I P w vv b 0 c
     pub de : Debt D I P O k b b 0 c
     pub rs : suc b ≡ P → (h : ℕ) → D ≤ 4 * h → h < D → t ≤ 4 * h → c .sD h ≡ true → c .al (4 * h) ≡ 4
 
   pub record InFine (R : Preds) (k w : Bits) (O : Question → Type 0) (b t : ℕ) (c : Cfg) (m : List ℕ) : Type 0 where
-    pub g : Fine D I sz R (Known W k b) t c m
-    pub fr : FineFr N D P sz (T w) (M k) b t m
+    pub g : Fine sz R (Known W k b) t c m
+    pub fr : FineFr N P sz (T w) (M k) b t m
     pub ho : Hold D I P w vv b t c
     pub de : Debt D I P O k b b t c
 
   abbrev pub FromK : Bits → ℕ → Type 0
-  FromK k b = From D I sz P (G k) b
+  FromK k b = From sz P (G k) b
 
   abbrev pub All-at : Bits → Bits → (Question → Type 0) → ℕ → Pass → ℕ → Bool → List ℕ → Type 0
   All-at k w O zero p i s m = Unit {0}
@@ -128,8 +128,8 @@ module _ (N D P : ℕ) (sz : Tiled D (4 ^ N)) (W : Bits) (vv : Bool) where
           (
             c,
             record {
-              g = pix-end D I sz (preds (G k) b) (Known W k b) i c m (p .g) (ltb-false i I ex);
-              fr = frp-end N D P sz (preds (G k) b) (Known W k b) (T w) (M k) b i c m (p .g) (p .fr);
+              g = pix-end sz (preds (G k) b) (Known W k b) i c m (p .g) (ltb-false i I ex);
+              fr = frp-end N P sz (preds (G k) b) (Known W k b) (T w) (M k) b i c m (p .g) (p .fr);
               ho = p .ho;
               de = debt-c D I P O k b (suc b) b 0 0 c c (p .de) (omega arith) (λ h e. e) (λ h e. e) (λ j e f. f e);
               rs = λ e h lo hd l y. absurd (true≢false (sym y ∙ p .np e h));
@@ -143,8 +143,8 @@ module _ (N D P : ℕ) (sz : Tiled D (4 ^ N)) (W : Bits) (vv : Bool) where
           (
             c,
             record {
-              g = pix-hush D I sz (preds (G k) b) (Known W k b) i c m (p .g) (ltb-true i I ex) (eqb-false _ _ ey);
-              fr = frp-hush N D P sz (preds (G k) b) (Known W k b) (T w) (M k) b i (skip (getD m i 0)) m (p .fr);
+              g = pix-hush sz (preds (G k) b) (Known W k b) i c m (p .g) (ltb-true i I ex) (eqb-false _ _ ey);
+              fr = frp-hush N P sz (preds (G k) b) (Known W k b) (T w) (M k) b i (skip (getD m i 0)) m (p .fr);
               ho = p .ho;
               de = p .de;
               np = p .np;
@@ -164,8 +164,8 @@ module _ (N D P : ℕ) (sz : Tiled D (4 ^ N)) (W : Bits) (vv : Bool) where
           (
             c,
             record {
-              g = sets-end D I sz (preds (G k) b) (Known W k b) i c m (p .g) (ltb-false i I ex);
-              fr = frs-end N D P sz (preds (G k) b) (Known W k b) (T w) (M k) b i m (p .fr);
+              g = sets-end sz (preds (G k) b) (Known W k b) i c m (p .g) (ltb-false i I ex);
+              fr = frs-end N P sz (preds (G k) b) (Known W k b) (T w) (M k) b i m (p .fr);
               ho = p .ho;
               de = p .de;
             },
@@ -178,8 +178,8 @@ module _ (N D P : ℕ) (sz : Tiled D (4 ^ N)) (W : Bits) (vv : Bool) where
           (
             c,
             record {
-              g = sets-hush D I sz (preds (G k) b) (Known W k b) i c m (p .g) (ltb-true i I ex) (eqb-false _ _ ed) (eqb-false _ _ eg) (eqb-false _ _ ec);
-              fr = frs-hush N D P sz (preds (G k) b) (Known W k b) (T w) (M k) b i (setSkip (getD m i 0)) c m (p .g) (ltb-true i I ex) (p .fr) (eqb-false _ _ ec);
+              g = sets-hush sz (preds (G k) b) (Known W k b) i c m (p .g) (ltb-true i I ex) (eqb-false _ _ ed) (eqb-false _ _ eg) (eqb-false _ _ ec);
+              fr = frs-hush N P sz (preds (G k) b) (Known W k b) (T w) (M k) b i (setSkip (getD m i 0)) c m (p .g) (ltb-true i I ex) (p .fr) (eqb-false _ _ ec);
               ho = p .ho;
               de = p .de;
               rs = λ e h lo hd l y. p .rs e h lo hd (omega arith) y;
@@ -190,7 +190,7 @@ module _ (N D P : ℕ) (sz : Tiled D (4 ^ N)) (W : Bits) (vv : Bool) where
     all-down : (b i : ℕ) (m : List ℕ) (c : Cfg) → I ≤ i → FromK k (suc b) → InFine (preds (G k) b) k w O b i c m → All k w O (at b pixels 0 m)
     all-down zero i m c ex f p = tt
     all-down (suc b) i m c ex f p =
-        let r : ((j : ℕ) → j < I → Known W k (suc b) j) × Pix D I sz (preds (G k) (suc b)) (Known W k b) 0 c m = fine-end D I sz (preds (G k) (suc b)) (Known W k (suc b)) (Known W k b) i c m (p .g) ex in (
+        let r : ((j : ℕ) → j < I → Known W k (suc b) j) × Pix sz (preds (G k) (suc b)) (Known W k b) 0 c m = fine-end sz (preds (G k) (suc b)) (Known W k (suc b)) (Known W k b) i c m (p .g) ex in (
           (λ e h1 h2 j hj. down (r .0) e h1 h2 j hj (ℕ-discrete e (suc b))),
           (
             c,
@@ -202,7 +202,7 @@ module _ (N D P : ℕ) (sz : Tiled D (4 ^ N)) (W : Bits) (vv : Bool) where
                 done = r .1 .done;
                 more = record { sg = r .1 .more .sg; qD = λ h e. (G k) .dnD b h (r .1 .more .qD h e); qG = λ h e. (G k) .dnG b h (r .1 .more .qG h e); zs = r .1 .more .zs };
               };
-              fr = frf-end N D P sz (preds (G k) (suc b)) (Known W k (suc b)) (T w) (M k) (suc b) i c m b refl (p .g) ex (p .fr) (λ j hj. p .ho .low j b (omega arith));
+              fr = frf-end N P sz (preds (G k) (suc b)) (Known W k (suc b)) (T w) (M k) (suc b) i c m b refl (p .g) ex (p .fr) (λ j hj. p .ho .low j b (omega arith));
               ho = hold-down D I P w vv (suc b) b i c refl (p .ho);
               de = debt-down D I P O k (suc b) b i c refl (p .de);
               np = λ e. absurd (omega (arith, p .ho .hi));
@@ -224,8 +224,8 @@ module _ (N D P : ℕ) (sz : Tiled D (4 ^ N)) (W : Bits) (vv : Bool) where
           (
             c,
             record {
-              g = fine-hush D I sz (preds (G k) b) (Known W k b) i c m (p .g) (ltb-true i I ex) (eqb-false _ _ es) (eqb-false _ _ en);
-              fr = frf-hush N D P sz (preds (G k) b) (Known W k b) (T w) (M k) b i (skip (getD m i 0)) m (p .fr);
+              g = fine-hush sz (preds (G k) b) (Known W k b) i c m (p .g) (ltb-true i I ex) (eqb-false _ _ es) (eqb-false _ _ en);
+              fr = frf-hush N P sz (preds (G k) b) (Known W k b) (T w) (M k) b i (skip (getD m i 0)) m (p .fr);
               ho = hold-z D I P w vv b i (i + skip (getD m i 0)) c (p .ho) (omega arith);
               de = debt-c D I P O k b b b i (i + skip (getD m i 0)) c c (p .de) (omega arith) (λ h e. e) (λ h e. e) (λ j e f. omega (arith, f e));
             },
@@ -236,8 +236,8 @@ module _ (N D P : ℕ) (sz : Tiled D (4 ^ N)) (W : Bits) (vv : Bool) where
       (
         withA i 3 c,
         record {
-          g = fine-np D I sz (preds (G k) b) (Known W k b) i c m (p .g) hi mk;
-          fr = frf-np N D P sz (preds (G k) b) (Known W k b) (T w) (M k) b i m (p .g .core .len) hi (p .fr) mk;
+          g = fine-np sz (preds (G k) b) (Known W k b) i c m (p .g) hi mk;
+          fr = frf-np N P sz (preds (G k) b) (Known W k b) (T w) (M k) b i m (p .g .core .len) hi (p .fr) mk;
           ho = hold-A D I P w w vv b i (i + 1) i 3 c (p .ho) (it .0) (omega arith) (λ e. omega arith) (λ h. absurd (h (lit≤ tt) (lit≤ tt))) (λ j e h x. x) (λ j h x. x) (λ j h. refl);
           de = debt-c D I P O k b b b i (i + 1) c (withA i 3 c) (p .de) (omega arith) (λ h e. same-D i 3 c h ∙ e) (λ h e. same-G i 3 c h ∙ e) (λ j e f. al′ j e f (ℕ-discrete j i));
         },
@@ -257,7 +257,7 @@ module _ (N D P : ℕ) (sz : Tiled D (4 ^ N)) (W : Bits) (vv : Bool) where
         mk = eqb-true _ _ en
 
         it : (alone D I c i ≡ true) × (c .al i ≡ getD m i 0)
-        it = is-alone D I sz c m (p .g .core) i hi (omega (arith, mk)) (omega (arith, mk))
+        it = is-alone sz c m (p .g .core) i hi (omega (arith, mk)) (omega (arith, mk))
 
         al′ : (j : ℕ) → (withA i 3 c) .al j ≡ 3 → (c .al j ≡ 3 → j < i) → Dec (j ≡ i) → j < i + 1
         al′ j e f (yes q) = omega arith
@@ -285,10 +285,10 @@ module _ (N D P : ℕ) (sz : Tiled D (4 ^ N)) (W : Bits) (vv : Bool) where
     all-settle s z = all-quiet (movesLeft I s) s z
 
   -- ANSWERS
-  pixfr : (S S′ R R′ : ℕ → ℕ → Type 0) (b t : ℕ) (m : List ℕ) → ((j : ℕ) → S b j → S′ b j) → ((e j : ℕ) → R e j → R′ e j) → PixFr N D P sz S R b t m → PixFr N D P sz S′ R′ b t m
+  pixfr : (S S′ R R′ : ℕ → ℕ → Type 0) (b t : ℕ) (m : List ℕ) → ((j : ℕ) → S b j → S′ b j) → ((e j : ℕ) → R e j → R′ e j) → PixFr N P sz S R b t m → PixFr N P sz S′ R′ b t m
   pixfr S S′ R R′ b t m f g p = record { todo = λ j h n. f j (p .todo j h n); m2 = λ j h e. g b j (p .m2 j h e); m3 = λ j h e. (let r : (x : ℕ) × (b < x) × R x j = p .m3 j h e in (r .0, r .1, g (r .0) j (r .2))) }
 
-  setfr : (S S′ R R′ : ℕ → ℕ → Type 0) (b t : ℕ) (m : List ℕ) → ((j : ℕ) → S b j → S′ b j) → ((e j : ℕ) → R e j → R′ e j) → SetFr N D P sz S R b t m → SetFr N D P sz S′ R′ b t m
+  setfr : (S S′ R R′ : ℕ → ℕ → Type 0) (b t : ℕ) (m : List ℕ) → ((j : ℕ) → S b j → S′ b j) → ((e j : ℕ) → R e j → R′ e j) → SetFr N P sz S R b t m → SetFr N P sz S′ R′ b t m
   setfr S S′ R R′ b t m f g p = record {
     f4 = λ j h e. f j (p .f4 j h e);
     fD = λ x hx z e j hj u. f j (p .fD x hx z e j hj u);
@@ -298,7 +298,7 @@ module _ (N D P : ℕ) (sz : Tiled D (4 ^ N)) (W : Bits) (vv : Bool) where
     c4 = p .c4;
   }
 
-  finefr : (S S′ R R′ : ℕ → ℕ → Type 0) (b t : ℕ) (m : List ℕ) → ((e j : ℕ) → R e j → R′ e j) → FineFr N D P sz S R b t m → FineFr N D P sz S′ R′ b t m
+  finefr : (S S′ R R′ : ℕ → ℕ → Type 0) (b t : ℕ) (m : List ℕ) → ((e j : ℕ) → R e j → R′ e j) → FineFr N P sz S R b t m → FineFr N P sz S′ R′ b t m
   finefr S S′ R R′ b t m g p = record {
     m2 = λ j h z e. g b j (p .m2 j h z e);
     m3 = λ j h e. (let r : (x : ℕ) × (b ≤ x) × R x j = p .m3 j h e in (r .0, r .1, g (r .0) j (r .2)));
@@ -323,14 +323,14 @@ module _ (N D P : ℕ) (sz : Tiled D (4 ^ N)) (W : Bits) (vv : Bool) where
     unfolding _⊑_
     up j x y = know-grows q a k j b (x y)
 
-    mo : (c : Cfg) → ((j : ℕ) → Zof N D P sz (know q a k) j → Zof N D P sz k j) → MoreI D I sz P (preds (G k) b) c → MoreI D I sz P (preds (G (know q a k)) b) c
-    mo c z x = more-Z D I sz P (preds (G k) b) (preds (G (know q a k)) b) c (know-neg N W k q a eq) (λ j y. y) (λ j y. y) z x
+    mo : (c : Cfg) → ((j : ℕ) → Zof N P sz (know q a k) j → Zof N P sz k j) → MoreI sz P (preds (G k) b) c → MoreI sz P (preds (G (know q a k)) b) c
+    mo c z x = more-Z sz P (preds (G k) b) (preds (G (know q a k)) b) c (know-neg N W k q a eq) (λ j y. y) (λ j y. y) z x
 
-    mh : (i : ℕ) (c : Cfg) → ((j : ℕ) → Zof N D P sz (know q a k) j → (j ≡ i → ⊥) → Zof N D P sz k j) → MoreI D I sz P (preds (G k) b) c → MoreI D I sz P (hide i (preds (G (know q a k)) b)) c
-    mh i c z x = more-Z D I sz P (preds (G k) b) (hide i (preds (G (know q a k)) b)) c (know-neg N W k q a eq) (λ j y. y) (λ j y. y) (λ j e. z j (e .0) (e .1)) x
+    mh : (i : ℕ) (c : Cfg) → ((j : ℕ) → Zof N P sz (know q a k) j → (j ≡ i → ⊥) → Zof N P sz k j) → MoreI sz P (preds (G k) b) c → MoreI sz P (hide i (preds (G (know q a k)) b)) c
+    mh i c z x = more-Z sz P (preds (G k) b) (hide i (preds (G (know q a k)) b)) c (know-neg N W k q a eq) (λ j y. y) (λ j y. y) (λ j e. z j (e .0) (e .1)) x
 
-    hh : (i : ℕ) (c : Cfg) → ((j : ℕ) → Zof N D P sz (know q a k) j → Zof N D P sz k j) → MoreI D I sz P (hide i (preds (G k) b)) c → MoreI D I sz P (hide i (preds (G (know q a k)) b)) c
-    hh i c z x = more-Z D I sz P (hide i (preds (G k) b)) (hide i (preds (G (know q a k)) b)) c (know-neg N W k q a eq) (λ j y. y) (λ j y. y) (λ j e. (z j (e .0), e .1)) x
+    hh : (i : ℕ) (c : Cfg) → ((j : ℕ) → Zof N P sz (know q a k) j → Zof N P sz k j) → MoreI sz P (hide i (preds (G k) b)) c → MoreI sz P (hide i (preds (G (know q a k)) b)) c
+    hh i c z x = more-Z sz P (hide i (preds (G k) b)) (hide i (preds (G (know q a k)) b)) c (know-neg N W k q a eq) (λ j y. y) (λ j y. y) (λ j e. (z j (e .0), e .1)) x
 
   module _ (k w : Bits) (O O′ : Question → Type 0) where
     abbrev pub Out : Bool → Look → Type 0
@@ -375,7 +375,7 @@ module _ (N D P : ℕ) (sz : Tiled D (4 ^ N)) (W : Bits) (vv : Bool) where
       (
         c,
         record {
-          g = pix-Z D I sz P (preds (G k) b) (hide i (preds (G (know (bitOf i b) true k)) b)) (Known W k b) (Known W (know (bitOf i b) true k) b) i c m (mh k (bitOf i b) true t b i c (l .1)) (up k (bitOf i b) true t b) (p .g);
+          g = pix-Z sz P (preds (G k) b) (hide i (preds (G (know (bitOf i b) true k)) b)) (Known W k b) (Known W (know (bitOf i b) true k) b) i c m (mh k (bitOf i b) true t b i c (l .1)) (up k (bitOf i b) true t b) (p .g);
           fr = pixfr (T w) (T w) (M k) (M (know (bitOf i b) true k)) b i m (λ j x. x) (λ e j x. know-grows (bitOf i b) true k j e x) (p .fr);
           ho = p .ho;
           de = debt-one D I P O O′ k (know (bitOf i b) true k) b (suc b) 0 0 i c (p .de) (omega arith) (omega arith) hi (λ e. absurd (omega (arith, it .1, mk))) (out1 true (bitOf i b) o) (know-grows (bitOf i b) true k) (know-one i b k) (know-back i b k);
@@ -401,18 +401,18 @@ module _ (N D P : ℕ) (sz : Tiled D (4 ^ N)) (W : Bits) (vv : Bool) where
         mk = eqb-true _ _ ey
 
         it : (alone D I c i ≡ true) × (c .al i ≡ getD m i 0)
-        it = is-alone D I sz c m (p .g .core) i hi (omega (arith, mk)) (omega (arith, mk))
+        it = is-alone sz c m (p .g .core) i hi (omega (arith, mk)) (omega (arith, mk))
 
-        l : Known W (know (bitOf i b) true k) b i × ((j : ℕ) → Zof N D P sz (know (bitOf i b) true k) j → (j ≡ i → ⊥) → Zof N D P sz k j)
-        l = learned N D P sz W k (bitOf i b) true t
+        l : Known W (know (bitOf i b) true k) b i × ((j : ℕ) → Zof N P sz (know (bitOf i b) true k) j → (j ≡ i → ⊥) → Zof N P sz k j)
+        l = learned N P sz W k (bitOf i b) true t
     tellp b i m true true false ex ey z t o = (
       from k (bitOf i b) false t b (z .0),
       (
         c,
         record {
-          g = pix-zero D I sz (preds (G (know (bitOf i b) false k)) b) (Known W (know (bitOf i b) false k) b) i c m
-              (pix-Z D I sz P (preds (G k) b) (preds (G (know (bitOf i b) false k)) b) (Known W k b) (Known W (know (bitOf i b) false k) b) i c m (mo k (bitOf i b) false t b c (l .1)) (up k (bitOf i b) false t b) (p .g)) (l .0);
-          fr = frp-zero N D P sz (preds (G k) b) (Known W k b) (T w) (M (know (bitOf i b) false k)) b (T (after N (bitOf i b) false w)) i m
+          g = pix-zero sz (preds (G (know (bitOf i b) false k)) b) (Known W (know (bitOf i b) false k) b) i c m
+              (pix-Z sz P (preds (G k) b) (preds (G (know (bitOf i b) false k)) b) (Known W k b) (Known W (know (bitOf i b) false k) b) i c m (mo k (bitOf i b) false t b c (l .1)) (up k (bitOf i b) false t b) (p .g)) (l .0);
+          fr = frp-zero N P sz (preds (G k) b) (Known W k b) (T w) (M (know (bitOf i b) false k)) b (T (after N (bitOf i b) false w)) i m
               (pixfr (T w) (T w) (M k) (M (know (bitOf i b) false k)) b i m (λ j x. x) (λ e j x. know-grows (bitOf i b) false k j e x) (p .fr)) mk (λ j x n. one0 N i b w j b (λ e f. n e) x);
           ho = hold-w D I P w (after N (bitOf i b) false w) vv b 0 0 c (p .ho) (omega arith) (λ j e h x. one0 N i b w j e (λ y f. omega arith) x) (λ j aj e h x. one0 N i b w j b (λ y f. omega (arith, it .1, mk, e, ap (c .al) y)) x) (λ j. unfold clear in refl);
           de = debt-O D I P O O′ k (know (bitOf i b) false k) b (suc b) 0 c (p .de) (out0 (bitOf i b) o) (λ j x. unfold know in refl);
@@ -434,10 +434,10 @@ module _ (N D P : ℕ) (sz : Tiled D (4 ^ N)) (W : Bits) (vv : Bool) where
         mk = eqb-true _ _ ey
 
         it : (alone D I c i ≡ true) × (c .al i ≡ getD m i 0)
-        it = is-alone D I sz c m (p .g .core) i hi (omega (arith, mk)) (omega (arith, mk))
+        it = is-alone sz c m (p .g .core) i hi (omega (arith, mk)) (omega (arith, mk))
 
-        l : Known W (know (bitOf i b) false k) b i × ((j : ℕ) → Zof N D P sz (know (bitOf i b) false k) j → Zof N D P sz k j)
-        l = learned N D P sz W k (bitOf i b) false t
+        l : Known W (know (bitOf i b) false k) b i × ((j : ℕ) → Zof N P sz (know (bitOf i b) false k) j → Zof N P sz k j)
+        l = learned N P sz W k (bitOf i b) false t
 
     -- a sign, in the pixel pass
     tellps : (b i : ℕ) (m : List ℕ) (a : Bool) → All-at k w O (suc b) pixels i true m → ans N W (signOf i) ≡ a → Out a (asks (signOf i)) → All (know (signOf i) a k) (after N (signOf i) a w) O′ (at (suc b) pixels (i + 1) (set m i 2))
@@ -447,9 +447,9 @@ module _ (N D P : ℕ) (sz : Tiled D (4 ^ N)) (W : Bits) (vv : Bool) where
       (
         withA i 2 c,
         record {
-          g = pix-one D I sz (preds (G (know (signOf i) a k)) b) (Known W (know (signOf i) a k) b) i c m
-              (pix-Z D I sz P (hide i (preds (G k) b)) (hide i (preds (G (know (signOf i) a k)) b)) (Known W k b) (Known W (know (signOf i) a k) b) i c m (hh k (signOf i) a t b i c (l .1)) (up k (signOf i) a t b) (p .g)) (z .2) (z .3) (up k (signOf i) a t b i (z .4)) (l .0);
-          fr = frp-one N D P sz (preds (G k) b) (Known W k b) (T (after N (signOf i) a w)) (M (know (signOf i) a k)) b i m (p .g .core .len) (z .2)
+          g = pix-one sz (preds (G (know (signOf i) a k)) b) (Known W (know (signOf i) a k) b) i c m
+              (pix-Z sz P (hide i (preds (G k) b)) (hide i (preds (G (know (signOf i) a k)) b)) (Known W k b) (Known W (know (signOf i) a k) b) i c m (hh k (signOf i) a t b i c (l .1)) (up k (signOf i) a t b) (p .g)) (z .2) (z .3) (up k (signOf i) a t b i (z .4)) (l .0);
+          fr = frp-one N P sz (preds (G k) b) (Known W k b) (T (after N (signOf i) a w)) (M (know (signOf i) a k)) b i m (p .g .core .len) (z .2)
               (pixfr (T w) (T (after N (signOf i) a w)) (M k) (M (know (signOf i) a k)) b i m (λ j x. sgn-has N i a w j b ∙ x) (λ e j x. know-grows (signOf i) a k j e x) (p .fr)) (z .3) (know-grows (signOf i) a k i b (z .5));
           ho = hold-A D I P w (after N (signOf i) a w) vv b 0 0 i 2 c (p .ho) (it .0) (omega arith) (λ e. absurd (omega arith)) (λ h. absurd (h (lit≤ tt) (lit≤ tt))) (λ j e h x. sgn-has N i a w j e ∙ x) (λ j n x. sgn-has N i a w j b ∙ x) (λ j n. sgn-neg N i a w j n);
           de = debt-c D I P O′ (know (signOf i) a k) b (suc b) (suc b) 0 0 c (withA i 2 c) (outs a i b (suc b) 0 c o (p .de)) (omega arith) (λ h e. same-D i 2 c h ∙ e) (λ h e. same-G i 2 c h ∙ e) (λ j e f. al′ j e f (ℕ-discrete j i));
@@ -465,10 +465,10 @@ module _ (N D P : ℕ) (sz : Tiled D (4 ^ N)) (W : Bits) (vv : Bool) where
         p = z .1 .1
 
         it : (alone D I c i ≡ true) × (c .al i ≡ getD m i 0)
-        it = is-alone D I sz c m (p .g .core) i (z .2) (omega (arith, z .3)) (omega (arith, z .3))
+        it = is-alone sz c m (p .g .core) i (z .2) (omega (arith, z .3)) (omega (arith, z .3))
 
-        l : ((know (signOf i) a k) .neg i ≡ W .neg i) × ((j : ℕ) → Zof N D P sz (know (signOf i) a k) j → Zof N D P sz k j)
-        l = learned N D P sz W k (signOf i) a t
+        l : ((know (signOf i) a k) .neg i ≡ W .neg i) × ((j : ℕ) → Zof N P sz (know (signOf i) a k) j → Zof N P sz k j)
+        l = learned N P sz W k (signOf i) a t
 
         al′ : (j : ℕ) → (withA i 2 c) .al j ≡ 3 → (c .al j ≡ 3 → j < 0) → Dec (j ≡ i) → j < 0
         al′ j e f (yes q) = absurd (omega (arith, al-at i 2 c j q))
@@ -477,16 +477,16 @@ module _ (N D P : ℕ) (sz : Tiled D (4 ^ N)) (W : Bits) (vv : Bool) where
     -- nothing inside a set that stands is known, in the set pass
     module _ (b i : ℕ) (m : List ℕ) (c : Cfg) (p : InSets (preds (G k) b) k w O b i c m) (hi : i < I) where
       atD : getD m i 0 ≡ 5 → (i % 4 ≡ 0) × (stands D I c (i / 4) ≡ true) × (c .sD (i / 4) ≡ false) × (D ≤ i)
-      atD mk = is-D D I sz c m (p .g .core) i hi mk
+      atD mk = is-D sz c m (p .g .core) i hi mk
 
       atG : getD m i 0 ≡ 6 → (i ≡ 16 * (i / 16)) × (c .sD (i / 16) ≡ true) × (c .sG (i / 16) ≡ false) × (D ≤ 4 * (i / 16)) × (alone D I c i ≡ false)
-      atG mk = is-G D I sz c m (p .g .core) i hi mk
+      atG mk = is-G sz c m (p .g .core) i hi mk
 
       inD : getD m i 0 ≡ 5 → (j : ℕ) → Under (i / 4) j → alone D I c j ≡ false
-      inD mk j u = dead-D N D P sz c (p .g .core .ok) (i / 4) j (omega (arith, atD mk)) ((atD mk) .2) u
+      inD mk j u = dead-D N P sz c (p .g .core .ok) (i / 4) j (omega (arith, atD mk)) ((atD mk) .2) u
 
       inG : getD m i 0 ≡ 6 → (j : ℕ) → Under (i / 16) (j / 4) → alone D I c j ≡ false
-      inG mk j u = dead-G N D P sz c (p .g .core .ok) (i / 16) j ((atG mk) .3) ((atG mk) .2) u
+      inG mk j u = dead-G N P sz c (p .g .core .ok) (i / 16) j ((atG mk) .3) ((atG mk) .2) u
 
       newD : getD m i 0 ≡ 5 → (j x : ℕ) → j < I → Under (i / 4) j → k .has j x ≡ true → ⊥
       newD mk j x hj u y = true≢false (sym ((p .g .more .zs j hj (x, y)) .0) ∙ inD mk j u)
@@ -506,7 +506,7 @@ module _ (N D P : ℕ) (sz : Tiled D (4 ^ N)) (W : Bits) (vv : Bool) where
         withD (i / 4) c,
         record {
           g = g1;
-          fr = frs-D1 N D P sz (preds (G k) b) (Known W k b) (T w) (M k) b i c m (splitDesc I i m (ltb (4 * i) I)) (p .g) hi (p .fr) mk g1;
+          fr = frs-D1 N P sz (preds (G k) b) (Known W k b) (T w) (M k) b i c m (splitDesc I i m (ltb (4 * i) I)) (p .g) hi (p .fr) mk g1;
           ho = hold-D D I P w vv b 0 (i / 4) c (p .ho) (kidsD b i m c p hi mk);
           de = debt-D D I P O O′ k b 0 (i / 4) c (p .de) (out1 true (inDesc (i / 4) b) o) (newD b i m c p hi mk);
           rs = λ e h lo hd l y. rs′ e h lo hd l y (ℕ-discrete h (i / 4));
@@ -524,8 +524,8 @@ module _ (N D P : ℕ) (sz : Tiled D (4 ^ N)) (W : Bits) (vv : Bool) where
         rs′ e h lo hd l y (yes q) = al-D-on (i / 4) c (4 * h) (omega arith)
         rs′ e h lo hd l y (no q) = al-D-off (i / 4) c (4 * h) (λ z. q (omega arith)) ∙ p .rs e h lo hd l (sym (sD-off (i / 4) c h q) ∙ y)
 
-        g1 : Sets D I sz (preds (G k) b) (Known W k b) i (withD (i / 4) c) (splitDesc I i m (ltb (4 * i) I))
-        g1 = sets-D1 D I sz (preds (G k) b) (Known W k b) i c m (p .g) hi mk ((learned N D P sz W k (inDesc (i / 4) b) true t) .0)
+        g1 : Sets sz (preds (G k) b) (Known W k b) i (withD (i / 4) c) (splitDesc I i m (ltb (4 * i) I))
+        g1 = sets-D1 sz (preds (G k) b) (Known W k b) i c m (p .g) hi mk ((learned N P sz W k (inDesc (i / 4) b) true t) .0)
 
     tells-D0 : (b i : ℕ) (m : List ℕ) → i < I → getD m i 0 ≡ 5 → All-at k w O (suc b) sets i false m → ans N W (inDesc (i / 4) b) ≡ false → Out false (asks (inDesc (i / 4) b))
         → All (know (inDesc (i / 4) b) false k) (after N (inDesc (i / 4) b) false w) O′ (at (suc b) sets (i + 4) m)
@@ -535,8 +535,8 @@ module _ (N D P : ℕ) (sz : Tiled D (4 ^ N)) (W : Bits) (vv : Bool) where
       (
         c,
         record {
-          g = sets-D0 D I sz (preds (G k) b) (Known W k b) i c m (p .g) hi mk ((learned N D P sz W k (inDesc (i / 4) b) false t) .0 (omega (arith, atD b i m c p hi mk)));
-          fr = frs-D0 N D P sz (preds (G k) b) (Known W k b) (T w) (M k) b (T (after N (inDesc (i / 4) b) false w)) i c m (p .g) hi (p .fr) mk (λ j x n. desc0 N (i / 4) b w j b (λ u e. n u) x);
+          g = sets-D0 sz (preds (G k) b) (Known W k b) i c m (p .g) hi mk ((learned N P sz W k (inDesc (i / 4) b) false t) .0 (omega (arith, atD b i m c p hi mk)));
+          fr = frs-D0 N P sz (preds (G k) b) (Known W k b) (T w) (M k) b (T (after N (inDesc (i / 4) b) false w)) i c m (p .g) hi (p .fr) mk (λ j x n. desc0 N (i / 4) b w j b (λ u e. n u) x);
           ho = hold-w D I P w (after N (inDesc (i / 4) b) false w) vv b 0 0 c (p .ho) (omega arith) (λ j e h x. desc0 N (i / 4) b w j e (λ y f. omega arith) x) (λ j aj e h x. desc0 N (i / 4) b w j b (λ u f. true≢false (sym aj ∙ inD b i m c p hi mk j u)) x) (λ j. unfold after clear in refl);
           de = debt-O D I P O O′ k k b b 0 c (p .de) (out0 (inDesc (i / 4) b) o) (λ j x. refl);
           rs = λ e h lo hd l y. p .rs e h lo hd (omega arith) y;
@@ -559,7 +559,7 @@ module _ (N D P : ℕ) (sz : Tiled D (4 ^ N)) (W : Bits) (vv : Bool) where
         withG (i / 16) c,
         record {
           g = g1;
-          fr = frs-G1 N D P sz (preds (G k) b) (Known W k b) (T w) (M k) b i c m (splitGrand I i m) (p .g) hi (p .fr) mk g1;
+          fr = frs-G1 N P sz (preds (G k) b) (Known W k b) (T w) (M k) b i c m (splitGrand I i m) (p .g) hi (p .fr) mk g1;
           ho = hold-G D I P w vv b 0 (i / 16) c (p .ho);
           de = debt-G D I P O O′ k b 0 (i / 16) c (p .de) (out1 true (inGrand (i / 16) b) o) (newG b i m c p hi mk);
           rs = λ e h lo hd l y. al-G (i / 16) c (4 * h) ∙ p .rs e h lo hd l (sym (sD-G (i / 16) c h) ∙ y);
@@ -573,8 +573,8 @@ module _ (N D P : ℕ) (sz : Tiled D (4 ^ N)) (W : Bits) (vv : Bool) where
         p : InSets (preds (G k) b) k w O b i c m
         p = z .1 .1
 
-        g1 : Sets D I sz (preds (G k) b) (Known W k b) i (withG (i / 16) c) (splitGrand I i m)
-        g1 = sets-G1 D I sz (preds (G k) b) (Known W k b) i c m (p .g) hi mk ((learned N D P sz W k (inGrand (i / 16) b) true t) .0)
+        g1 : Sets sz (preds (G k) b) (Known W k b) i (withG (i / 16) c) (splitGrand I i m)
+        g1 = sets-G1 sz (preds (G k) b) (Known W k b) i c m (p .g) hi mk ((learned N P sz W k (inGrand (i / 16) b) true t) .0)
 
     tells-G0 : (b i : ℕ) (m : List ℕ) → i < I → getD m i 0 ≡ 6 → All-at k w O (suc b) sets i false m → ans N W (inGrand (i / 16) b) ≡ false → Out false (asks (inGrand (i / 16) b))
         → All (know (inGrand (i / 16) b) false k) (after N (inGrand (i / 16) b) false w) O′ (at (suc b) sets (i + 16) m)
@@ -584,8 +584,8 @@ module _ (N D P : ℕ) (sz : Tiled D (4 ^ N)) (W : Bits) (vv : Bool) where
       (
         c,
         record {
-          g = sets-G0 D I sz (preds (G k) b) (Known W k b) i c m (p .g) hi mk ((learned N D P sz W k (inGrand (i / 16) b) false t) .0 (omega (arith, atG b i m c p hi mk)));
-          fr = frs-G0 N D P sz (preds (G k) b) (Known W k b) (T w) (M k) b (T (after N (inGrand (i / 16) b) false w)) i c m (p .g) hi (p .fr) mk (λ j x n. grand0 N (i / 16) b w j b (λ u e. n u) x);
+          g = sets-G0 sz (preds (G k) b) (Known W k b) i c m (p .g) hi mk ((learned N P sz W k (inGrand (i / 16) b) false t) .0 (omega (arith, atG b i m c p hi mk)));
+          fr = frs-G0 N P sz (preds (G k) b) (Known W k b) (T w) (M k) b (T (after N (inGrand (i / 16) b) false w)) i c m (p .g) hi (p .fr) mk (λ j x n. grand0 N (i / 16) b w j b (λ u e. n u) x);
           ho = hold-w D I P w (after N (inGrand (i / 16) b) false w) vv b 0 0 c (p .ho) (omega arith) (λ j e h x. grand0 N (i / 16) b w j e (λ y f. omega arith) x) (λ j aj e h x. grand0 N (i / 16) b w j b (λ u f. true≢false (sym aj ∙ inG b i m c p hi mk j u)) x) (λ j. unfold after clear in refl);
           de = debt-O D I P O O′ k k b b 0 c (p .de) (out0 (inGrand (i / 16) b) o) (λ j x. refl);
           rs = λ e h lo hd l y. p .rs e h lo hd (omega arith) y;
@@ -607,7 +607,7 @@ module _ (N D P : ℕ) (sz : Tiled D (4 ^ N)) (W : Bits) (vv : Bool) where
       (
         c,
         record {
-          g = sets-Z D I sz P (preds (G k) b) (hide i (preds (G (know (bitOf i b) true k)) b)) (Known W k b) (Known W (know (bitOf i b) true k) b) i c m (mh k (bitOf i b) true t b i c (l .1)) (up k (bitOf i b) true t b) (p .g);
+          g = sets-Z sz P (preds (G k) b) (hide i (preds (G (know (bitOf i b) true k)) b)) (Known W k b) (Known W (know (bitOf i b) true k) b) i c m (mh k (bitOf i b) true t b i c (l .1)) (up k (bitOf i b) true t b) (p .g);
           fr = setfr (T w) (T w) (M k) (M (know (bitOf i b) true k)) b i m (λ j x. x) (λ e j x. know-grows (bitOf i b) true k j e x) (p .fr);
           ho = p .ho;
           de = debt-one D I P O O′ k (know (bitOf i b) true k) b b 0 0 i c (p .de) (omega arith) (omega arith) hi (λ e. absurd (omega (arith, it .1, mk))) (out1 true (bitOf i b) o) (know-grows (bitOf i b) true k) (know-one i b k) (know-back i b k);
@@ -627,10 +627,10 @@ module _ (N D P : ℕ) (sz : Tiled D (4 ^ N)) (W : Bits) (vv : Bool) where
         p = z .1 .1
 
         it : (alone D I c i ≡ true) × (c .al i ≡ getD m i 0)
-        it = is-alone D I sz c m (p .g .core) i hi (omega (arith, mk)) (omega (arith, mk))
+        it = is-alone sz c m (p .g .core) i hi (omega (arith, mk)) (omega (arith, mk))
 
-        l : Known W (know (bitOf i b) true k) b i × ((j : ℕ) → Zof N D P sz (know (bitOf i b) true k) j → (j ≡ i → ⊥) → Zof N D P sz k j)
-        l = learned N D P sz W k (bitOf i b) true t
+        l : Known W (know (bitOf i b) true k) b i × ((j : ℕ) → Zof N P sz (know (bitOf i b) true k) j → (j ≡ i → ⊥) → Zof N P sz k j)
+        l = learned N P sz W k (bitOf i b) true t
 
     tells-C0 : (b i : ℕ) (m : List ℕ) → i < I → getD m i 0 ≡ 4 → All-at k w O (suc b) sets i false m → ans N W (bitOf i b) ≡ false → Out false (asks (bitOf i b))
         → All (know (bitOf i b) false k) (after N (bitOf i b) false w) O′ (at (suc b) sets (i + 1) (set m i 1))
@@ -640,10 +640,10 @@ module _ (N D P : ℕ) (sz : Tiled D (4 ^ N)) (W : Bits) (vv : Bool) where
       (
         withA i 1 c,
         record {
-          g = sets-C D I sz (preds (G k) b) (Known W k b) i 1 c m
-              (sets-Z D I sz P (preds (G k) b) (hide i (preds (G k) b)) (Known W k b) (Known W k b) i c m (mh k (bitOf i b) false t b i c (λ j y n. y)) (λ j y. y) (p .g))
-              hi mk (lit≤ tt) (lit< tt) ((learned N D P sz W k (bitOf i b) false t) .0) (λ y. absurd (omega arith)) (λ y. absurd (omega (arith, it .1, mk, p .g .more .zs i hi y)));
-          fr = frs-C N D P sz (preds (G k) b) (Known W k b) (T w) (M k) b (T (after N (bitOf i b) false w)) i 1 c m (p .g) hi (p .fr) mk (lit≤ tt) (lit≤ tt) (λ e. absurd (omega arith)) (λ j x n. one0 N i b w j b (λ e f. n e) x);
+          g = sets-C sz (preds (G k) b) (Known W k b) i 1 c m
+              (sets-Z sz P (preds (G k) b) (hide i (preds (G k) b)) (Known W k b) (Known W k b) i c m (mh k (bitOf i b) false t b i c (λ j y n. y)) (λ j y. y) (p .g))
+              hi mk (lit≤ tt) (lit< tt) ((learned N P sz W k (bitOf i b) false t) .0) (λ y. absurd (omega arith)) (λ y. absurd (omega (arith, it .1, mk, p .g .more .zs i hi y)));
+          fr = frs-C N P sz (preds (G k) b) (Known W k b) (T w) (M k) b (T (after N (bitOf i b) false w)) i 1 c m (p .g) hi (p .fr) mk (lit≤ tt) (lit≤ tt) (λ e. absurd (omega arith)) (λ j x n. one0 N i b w j b (λ e f. n e) x);
           ho = hold-A D I P w (after N (bitOf i b) false w) vv b 0 0 i 1 c (p .ho) (it .0) (omega arith) (λ e. absurd (omega arith)) (λ h. (unfold after clear in p .ho .ng i (λ y l u. omega (arith, it .1, mk))))
               (λ j e h x. one0 N i b w j e (λ y f. omega arith) x) (λ j n x. one0 N i b w j b (λ y f. n y) x) (λ j n. unfold after clear in refl);
           de = debt-c D I P O′ k b b b 0 0 c (withA i 1 c) (debt-O D I P O O′ k k b b 0 c (p .de) (out0 (bitOf i b) o) (λ j x. refl)) (omega arith) (λ h e. same-D i 1 c h ∙ e) (λ h e. same-G i 1 c h ∙ e) (λ j e f. al′ j e f (ℕ-discrete j i));
@@ -659,7 +659,7 @@ module _ (N D P : ℕ) (sz : Tiled D (4 ^ N)) (W : Bits) (vv : Bool) where
         p = z .1 .1
 
         it : (alone D I c i ≡ true) × (c .al i ≡ getD m i 0)
-        it = is-alone D I sz c m (p .g .core) i hi (omega (arith, mk)) (omega (arith, mk))
+        it = is-alone sz c m (p .g .core) i hi (omega (arith, mk)) (omega (arith, mk))
 
         al′ : (j : ℕ) → (withA i 1 c) .al j ≡ 3 → (c .al j ≡ 3 → j < 0) → Dec (j ≡ i) → j < 0
         al′ j e f (yes q) = absurd (omega (arith, al-at i 1 c j q))
@@ -672,8 +672,8 @@ module _ (N D P : ℕ) (sz : Tiled D (4 ^ N)) (W : Bits) (vv : Bool) where
       (
         withA i 2 c,
         record {
-          g = sets-C D I sz (preds (G (know (signOf i) a k)) b) (Known W (know (signOf i) a k) b) i 2 c m g1 (z .2) (z .3) (lit≤ tt) (lit< tt) (up k (signOf i) a t b i (z .4)) (λ y. l .0) (λ y. lit≤ tt);
-          fr = frs-C N D P sz (hide i (preds (G (know (signOf i) a k)) b)) (Known W (know (signOf i) a k) b) (T (after N (signOf i) a w)) (M (know (signOf i) a k)) b (T (after N (signOf i) a w)) i 2 c m g1 (z .2)
+          g = sets-C sz (preds (G (know (signOf i) a k)) b) (Known W (know (signOf i) a k) b) i 2 c m g1 (z .2) (z .3) (lit≤ tt) (lit< tt) (up k (signOf i) a t b i (z .4)) (λ y. l .0) (λ y. lit≤ tt);
+          fr = frs-C N P sz (hide i (preds (G (know (signOf i) a k)) b)) (Known W (know (signOf i) a k) b) (T (after N (signOf i) a w)) (M (know (signOf i) a k)) b (T (after N (signOf i) a w)) i 2 c m g1 (z .2)
               (setfr (T w) (T (after N (signOf i) a w)) (M k) (M (know (signOf i) a k)) b i m (λ j x. sgn-has N i a w j b ∙ x) (λ e j x. know-grows (signOf i) a k j e x) (p .fr)) (z .3) (lit≤ tt) (lit≤ tt) (λ e. know-grows (signOf i) a k i b (z .5)) (λ j x n. x);
           ho = hold-A D I P w (after N (signOf i) a w) vv b 0 0 i 2 c (p .ho) (it .0) (omega arith) (λ e. absurd (omega arith)) (λ h. absurd (h (lit≤ tt) (lit≤ tt))) (λ j e h x. sgn-has N i a w j e ∙ x) (λ j n x. sgn-has N i a w j b ∙ x) (λ j n. sgn-neg N i a w j n);
           de = debt-c D I P O′ (know (signOf i) a k) b b b 0 0 c (withA i 2 c) (outs a i b b 0 c o (p .de)) (omega arith) (λ h e. same-D i 2 c h ∙ e) (λ h e. same-G i 2 c h ∙ e) (λ j e f. al′ j e f (ℕ-discrete j i));
@@ -689,24 +689,24 @@ module _ (N D P : ℕ) (sz : Tiled D (4 ^ N)) (W : Bits) (vv : Bool) where
         p = z .1 .1
 
         it : (alone D I c i ≡ true) × (c .al i ≡ getD m i 0)
-        it = is-alone D I sz c m (p .g .core) i (z .2) (omega (arith, z .3)) (omega (arith, z .3))
+        it = is-alone sz c m (p .g .core) i (z .2) (omega (arith, z .3)) (omega (arith, z .3))
 
-        l : ((know (signOf i) a k) .neg i ≡ W .neg i) × ((j : ℕ) → Zof N D P sz (know (signOf i) a k) j → Zof N D P sz k j)
-        l = learned N D P sz W k (signOf i) a t
+        l : ((know (signOf i) a k) .neg i ≡ W .neg i) × ((j : ℕ) → Zof N P sz (know (signOf i) a k) j → Zof N P sz k j)
+        l = learned N P sz W k (signOf i) a t
 
-        g1 : Sets D I sz (hide i (preds (G (know (signOf i) a k)) b)) (Known W (know (signOf i) a k) b) i c m
-        g1 = sets-Z D I sz P (hide i (preds (G k) b)) (hide i (preds (G (know (signOf i) a k)) b)) (Known W k b) (Known W (know (signOf i) a k) b) i c m (hh k (signOf i) a t b i c (l .1)) (up k (signOf i) a t b) (p .g)
+        g1 : Sets sz (hide i (preds (G (know (signOf i) a k)) b)) (Known W (know (signOf i) a k) b) i c m
+        g1 = sets-Z sz P (hide i (preds (G k) b)) (hide i (preds (G (know (signOf i) a k)) b)) (Known W k b) (Known W (know (signOf i) a k) b) i c m (hh k (signOf i) a t b i c (l .1)) (up k (signOf i) a t b) (p .g)
 
         al′ : (j : ℕ) → (withA i 2 c) .al j ≡ 3 → (c .al j ≡ 3 → j < 0) → Dec (j ≡ i) → j < 0
         al′ j e f (yes q) = absurd (omega (arith, al-at i 2 c j q))
         al′ j e f (no q) = f (sym (al-else i 2 c j q) ∙ e)
 
     -- a refinement
-    more-1 : (b i : ℕ) (c : Cfg) → (alone D I c i ≡ true) × (2 ≤ c .al i) × (c .al i ≤ 3) → ans N W (bitOf i b) ≡ true → ((j : ℕ) → Zof N D P sz (know (bitOf i b) true k) j → (j ≡ i → ⊥) → Zof N D P sz k j)
-        → MoreI D I sz P (preds (G k) b) c → MoreI D I sz P (preds (G (know (bitOf i b) true k)) b) c
+    more-1 : (b i : ℕ) (c : Cfg) → (alone D I c i ≡ true) × (2 ≤ c .al i) × (c .al i ≤ 3) → ans N W (bitOf i b) ≡ true → ((j : ℕ) → Zof N P sz (know (bitOf i b) true k) j → (j ≡ i → ⊥) → Zof N P sz k j)
+        → MoreI sz P (preds (G k) b) c → MoreI sz P (preds (G (know (bitOf i b) true k)) b) c
     more-1 b i c it t zz x = record { sg = λ j hj aj lo hi. know-neg N W k (bitOf i b) true t j (x .sg j hj aj lo hi); qD = x .qD; qG = x .qG; zs = λ j hj e. pick j hj e (ℕ-discrete j i) }
       where
-        pick : (j : ℕ) → j < I → Zof N D P sz (know (bitOf i b) true k) j → Dec (j ≡ i) → (alone D I c j ≡ true) × (2 ≤ c .al j) × (c .al j ≤ 3)
+        pick : (j : ℕ) → j < I → Zof N P sz (know (bitOf i b) true k) j → Dec (j ≡ i) → (alone D I c j ≡ true) × (2 ≤ c .al j) × (c .al j ≤ 3)
         pick j hj e (yes q) = subst (λ (y : ℕ). (alone D I c y ≡ true) × (2 ≤ c .al y) × (c .al y ≤ 3)) (sym q) it
         pick j hj e (no q) = x .zs j hj (zz j e q)
 
@@ -718,9 +718,9 @@ module _ (N D P : ℕ) (sz : Tiled D (4 ^ N)) (W : Bits) (vv : Bool) where
       (
         c,
         record {
-          g = fine-ask D I sz (preds (G (know (bitOf i b) true k)) b) (Known W (know (bitOf i b) true k) b) i c m
-              (fine-Z D I sz P (preds (G k) b) (preds (G (know (bitOf i b) true k)) b) (Known W k b) (Known W (know (bitOf i b) true k) b) i c m (more-1 b i c (it .0, omega (arith, it .1, mk), omega (arith, it .1, mk)) t (l .1)) (up k (bitOf i b) true t b) (p .g)) hi mk (l .0);
-          fr = frf-hush N D P sz (preds (G k) b) (Known W k b) (T w) (M (know (bitOf i b) true k)) b i 1 m (finefr (T w) (T w) (M k) (M (know (bitOf i b) true k)) b i m (λ e j x. know-grows (bitOf i b) true k j e x) (p .fr));
+          g = fine-ask sz (preds (G (know (bitOf i b) true k)) b) (Known W (know (bitOf i b) true k) b) i c m
+              (fine-Z sz P (preds (G k) b) (preds (G (know (bitOf i b) true k)) b) (Known W k b) (Known W (know (bitOf i b) true k) b) i c m (more-1 b i c (it .0, omega (arith, it .1, mk), omega (arith, it .1, mk)) t (l .1)) (up k (bitOf i b) true t b) (p .g)) hi mk (l .0);
+          fr = frf-hush N P sz (preds (G k) b) (Known W k b) (T w) (M (know (bitOf i b) true k)) b i 1 m (finefr (T w) (T w) (M k) (M (know (bitOf i b) true k)) b i m (λ e j x. know-grows (bitOf i b) true k j e x) (p .fr));
           ho = hold-z D I P w vv b i (i + 1) c (p .ho) (omega arith);
           de = debt-one D I P O O′ k (know (bitOf i b) true k) b b i (i + 1) i c (p .de) (omega arith) (omega arith) hi (λ e. omega arith) (out1 true (bitOf i b) o) (know-grows (bitOf i b) true k) (know-one i b k) (know-back i b k);
         },
@@ -734,18 +734,18 @@ module _ (N D P : ℕ) (sz : Tiled D (4 ^ N)) (W : Bits) (vv : Bool) where
         p = z .1 .1
 
         it : (alone D I c i ≡ true) × (c .al i ≡ getD m i 0)
-        it = is-alone D I sz c m (p .g .core) i hi (omega (arith, mk)) (omega (arith, mk))
+        it = is-alone sz c m (p .g .core) i hi (omega (arith, mk)) (omega (arith, mk))
 
-        l : Known W (know (bitOf i b) true k) b i × ((j : ℕ) → Zof N D P sz (know (bitOf i b) true k) j → (j ≡ i → ⊥) → Zof N D P sz k j)
-        l = learned N D P sz W k (bitOf i b) true t
+        l : Known W (know (bitOf i b) true k) b i × ((j : ℕ) → Zof N P sz (know (bitOf i b) true k) j → (j ≡ i → ⊥) → Zof N P sz k j)
+        l = learned N P sz W k (bitOf i b) true t
     tellf b i m false hi mk z t o = (
       from k (bitOf i b) false t b (z .0),
       (
         c,
         record {
-          g = fine-ask D I sz (preds (G (know (bitOf i b) false k)) b) (Known W (know (bitOf i b) false k) b) i c m
-              (fine-Z D I sz P (preds (G k) b) (preds (G (know (bitOf i b) false k)) b) (Known W k b) (Known W (know (bitOf i b) false k) b) i c m (mo k (bitOf i b) false t b c (l .1)) (up k (bitOf i b) false t b) (p .g)) hi mk (l .0);
-          fr = frf-hush N D P sz (preds (G k) b) (Known W k b) (T (after N (bitOf i b) false w)) (M (know (bitOf i b) false k)) b i 1 m (finefr (T w) (T (after N (bitOf i b) false w)) (M k) (M (know (bitOf i b) false k)) b i m (λ e j x. know-grows (bitOf i b) false k j e x) (p .fr));
+          g = fine-ask sz (preds (G (know (bitOf i b) false k)) b) (Known W (know (bitOf i b) false k) b) i c m
+              (fine-Z sz P (preds (G k) b) (preds (G (know (bitOf i b) false k)) b) (Known W k b) (Known W (know (bitOf i b) false k) b) i c m (mo k (bitOf i b) false t b c (l .1)) (up k (bitOf i b) false t b) (p .g)) hi mk (l .0);
+          fr = frf-hush N P sz (preds (G k) b) (Known W k b) (T (after N (bitOf i b) false w)) (M (know (bitOf i b) false k)) b i 1 m (finefr (T w) (T (after N (bitOf i b) false w)) (M k) (M (know (bitOf i b) false k)) b i m (λ e j x. know-grows (bitOf i b) false k j e x) (p .fr));
           ho = hold-w D I P w (after N (bitOf i b) false w) vv b i (i + 1) c (p .ho) (omega arith) (λ j e h x. one0 N i b w j e (λ y f. omega arith) x) (λ j aj e h x. one0 N i b w j b (λ y f. omega arith) x) (λ j. unfold clear in refl);
           de = debt-c D I P O′ (know (bitOf i b) false k) b b b i (i + 1) c c (debt-O D I P O O′ k (know (bitOf i b) false k) b b i c (p .de) (out0 (bitOf i b) o) (λ j x. unfold know in refl)) (omega arith) (λ h e. e) (λ h e. e) (λ j e f. omega (arith, f e));
         },
@@ -758,8 +758,8 @@ module _ (N D P : ℕ) (sz : Tiled D (4 ^ N)) (W : Bits) (vv : Bool) where
         p : InFine (preds (G k) b) k w O b i c m
         p = z .1 .1
 
-        l : Known W (know (bitOf i b) false k) b i × ((j : ℕ) → Zof N D P sz (know (bitOf i b) false k) j → Zof N D P sz k j)
-        l = learned N D P sz W k (bitOf i b) false t
+        l : Known W (know (bitOf i b) false k) b i × ((j : ℕ) → Zof N P sz (know (bitOf i b) false k) j → Zof N P sz k j)
+        l = learned N P sz W k (bitOf i b) false t
 
     tells : (b i : ℕ) (m : List ℕ) (x d g c a : Bool) → ltb i I ≡ x → eqb (getD m i 0) 5 ≡ d → eqb (getD m i 0) 6 ≡ g → eqb (getD m i 0) 4 ≡ c
         → All-at k w O (suc b) sets i false m → told N W (asked I (lookSets b i m x d g c)) a → Out a (lookSets b i m x d g c)
@@ -812,13 +812,13 @@ module _ (N D P : ℕ) (sz : Tiled D (4 ^ N)) (W : Bits) (vv : Bool) where
   abbrev pub full : Bits
   full = record { has = λ i b. ltb b P; neg = λ i. vv }
 
-  pub all-first : All nothing full (λ p. ⊥) (at P pixels 0 (first D I sz))
+  pub all-first : All nothing full (λ p. ⊥) (at P pixels 0 (first sz))
   all-first = go P refl
     where
       m0 : List ℕ
-      m0 = first D I sz
+      m0 = first sz
 
-      go : (l : ℕ) → l ≡ P → All nothing full (λ p. ⊥) (at l pixels 0 (first D I sz))
+      go : (l : ℕ) → l ≡ P → All nothing full (λ p. ⊥) (at l pixels 0 (first sz))
       go zero q = tt
       go (suc b) q = (
         (λ e h1 h2. absurd (omega arith)),
@@ -834,12 +834,12 @@ module _ (N D P : ℕ) (sz : Tiled D (4 ^ N)) (W : Bits) (vv : Bool) where
         ),
       )
         where
-          g0 : Pix D I sz (preds (G nothing) b) (Known W nothing b) 0 c0 m0
-          g0 = pix-0 D I sz (preds (G nothing) b) (Known W nothing b) (λ j z. false≢true (z .1))
+          g0 : Pix sz (preds (G nothing) b) (Known W nothing b) 0 c0 m0
+          g0 = pix-0 sz (preds (G nothing) b) (Known W nothing b) (λ j z. false≢true (z .1))
 
           no : (j : ℕ) → j < I → (v : ℕ) → getD m0 j 0 ≡ v → 1 ≤ v → v < 5 → (1 ≡ v → ⊥) → ⊥
-          no j hj v e v1 v5 n = n ((is-alone D I sz c0 m0 (g0 .core) j hj (omega (arith, e)) (omega (arith, e))) .1 ∙ e)
+          no j hj v e v1 v5 n = n ((is-alone sz c0 m0 (g0 .core) j hj (omega (arith, e)) (omega (arith, e))) .1 ∙ e)
 
   pub all-start : All nothing full (λ p. ⊥) (start I D P)
   unfolding start startMarks
-  all-start = all-settle nothing full (λ p. ⊥) (at P pixels 0 (first D I sz)) all-first
+  all-start = all-settle nothing full (λ p. ⊥) (at P pixels 0 (first sz)) all-first

@@ -104,7 +104,7 @@ module _ (N : ℕ) where
   find-grand W g b h = let r : (j : ℕ) × (j < 4 ^ N) × ((inside N (inGrand g b) j && W .has j b) ≡ true) = any-find (4 ^ N) (λ x. inside N (inGrand g b) x && W .has x b) h in
       (r .0, r .1, both-left (inside N (inGrand g b) (r .0)) (W .has (r .0) b) (r .2), both-right (inside N (inGrand g b) (r .0)) (W .has (r .0) b) (r .2))
 
-module _ (N D P : ℕ) (sz : Tiled D (4 ^ N)) where
+module _ (N : ℕ) {D : ℕ} (P : ℕ) (sz : Tiled D (4 ^ N)) where
   abbrev I : ℕ
   I = 4 ^ N
 
@@ -127,11 +127,11 @@ module _ (N D P : ℕ) (sz : Tiled D (4 ^ N)) where
 
   -- what was answered 1 is owed
   module _ (W : Bits) (vv : Bool) where
-    keep : (s : State) (u : List Bool) (O : Question → Type 0) (p : Question) → O p → Owing N D P sz W vv s u O p
+    keep : (s : State) (u : List Bool) (O : Question → Type 0) (p : Question) → O p → Owing N P sz W vv s u O p
     keep s [] O p o = o
     keep s (a ∷ u) O p o = keep (next I s a) u (λ p. O p ⊎ ((a ≡ true) × (ask I s ≡ some p))) p (inl o)
 
-    pub owing : (s : State) (u : List Bool) (O : Question → Type 0) (p : Question) → Owed N State (ask I) (next I) s u p → Owing N D P sz W vv s u O p
+    pub owing : (s : State) (u : List Bool) (O : Question → Type 0) (p : Question) → Owed N State (ask I) (next I) s u p → Owing N P sz W vv s u O p
     owing s [] O p o = absurd o
     owing s (a ∷ u) O p (inl o) = keep (next I s a) u (λ p. O p ⊎ ((a ≡ true) × (ask I s ≡ some p))) p (inr o)
     owing s (a ∷ u) O p (inr o) = owing (next I s a) u (λ p. O p ⊎ ((a ≡ true) × (ask I s ≡ some p))) p o
@@ -139,7 +139,7 @@ module _ (N D P : ℕ) (sz : Tiled D (4 ^ N)) where
   -- the question's bits cleared: the array still has P planes, and its stream still begins with u
   module _ (W : Bits) (O : Question → Type 0) (u : List Bool) (va : Valid I P W) (f : Begins W u) (ow : (p : Question) → Owed N State (ask I) (next I) S0 u p → O p)
       (q : Question) (b : ℕ) (In : ℕ → Type 0) (to : (j : ℕ) → inside N q j ≡ true → In j × (j < I))
-      (en : Enough N D P sz W O b In) where
+      (en : Enough N P sz W O b In) where
     out : (j e : ℕ) → (In j → e ≡ b → ⊥) → W .has j e ≡ true → (clear N q b W) .has j e ≡ true
     out j e n h = clear-out N q b W j e (λ i z. n ((to j i) .0) z) h
 
@@ -187,9 +187,9 @@ module _ (N D P : ℕ) (sz : Tiled D (4 ^ N)) where
   module _ (W k : Bits) (vv : Bool) (O : Question → Type 0) (k⊑W : (j e : ℕ) → k .has j e ≡ true → W .has j e ≡ true) (cap : (j e : ℕ) → W .has j e ≡ true → e < P) where
     abbrev Can : Question → Type 0
     Can (signOf i) = W .neg i ≡ vv
-    Can (bitOf i b) = (i < I) × Enough N D P sz W O b (λ j. j ≡ i)
-    Can (inDesc g b) = Enough N D P sz W O b (λ j. Under g j)
-    Can (inGrand g b) = Enough N D P sz W O b (λ j. Under g (j / 4))
+    Can (bitOf i b) = (i < I) × Enough N P sz W O b (λ j. j ≡ i)
+    Can (inDesc g b) = Enough N P sz W O b (λ j. Under g j)
+    Can (inGrand g b) = Enough N P sz W O b (λ j. Under g (j / 4))
 
     abbrev CanL : Look → Type 0
     CanL over = Unit {0}
@@ -208,14 +208,14 @@ module _ (N D P : ℕ) (sz : Tiled D (4 ^ N)) where
     YesL (asks q) = Yes q
 
     abbrev Here : ℕ → Pass → ℕ → Bool → List ℕ → Type 0
-    Here l p i s m = All-at N D P sz W vv k W O l p i s m
+    Here l p i s m = All-at N P sz W vv k W O l p i s m
 
     can-pix : (b i : ℕ) (m : List ℕ) (x y : Bool) → ltb i I ≡ x → eqb (getD m i 0) 1 ≡ y → Here (suc b) pixels i false m → CanL (lookPixels b i m x y) × YesL (lookPixels b i m x y)
     can-pix b i m false y ex ey z = (tt, tt)
     can-pix b i m true false ex ey z = (tt, tt)
     can-pix b i m true true ex ey z =
-        let r : Open1 N D P sz W b (λ j. j ≡ i) = open-pix N D P sz W k vv O k⊑W cap b i m (z .1 .0) (ltb-true i I ex) (z .1 .1) (eqb-true _ _ ey) in (
-          (ltb-true i I ex, enough-pix N D P sz W k vv O k⊑W cap b i m (z .1 .0) (ltb-true i I ex) (z .1 .1) (eqb-true _ _ ey)),
+        let r : Open1 N P sz W b (λ j. j ≡ i) = open-pix N P sz W k vv O k⊑W cap b i m (z .1 .0) (ltb-true i I ex) (z .1 .1) (eqb-true _ _ ey) in (
+          (ltb-true i I ex, enough-pix N P sz W k vv O k⊑W cap b i m (z .1 .0) (ltb-true i I ex) (z .1 .1) (eqb-true _ _ ey)),
           yes-one N W i b (subst (λ (x : ℕ). W .has x b ≡ true) (r .2) (r .3)),
         )
 
@@ -223,23 +223,23 @@ module _ (N D P : ℕ) (sz : Tiled D (4 ^ N)) where
         → (Clash D I P b i m → ⊥) → CanL (lookSets b i m x d g c)
     can-sets b i m false d g c ex ed eg ec z n = tt
     can-sets b i m true false false false ex ed eg ec z n = tt
-    can-sets b i m true true g c ex ed eg ec z n = enough-D N D P sz W k vv O k⊑W cap b i m (z .1 .0) (ltb-true i I ex) (z .0) (z .1 .1) (eqb-true _ _ ed) n
-    can-sets b i m true false true c ex ed eg ec z n = enough-G N D P sz W k vv O k⊑W cap b i m (z .1 .0) (ltb-true i I ex) (z .0) (z .1 .1) (eqb-true _ _ eg) n
-    can-sets b i m true false false true ex ed eg ec z n = (ltb-true i I ex, enough-C N D P sz W k vv O k⊑W cap b i m (z .1 .0) (ltb-true i I ex) (z .0) (z .1 .1) (eqb-true _ _ ec) n)
+    can-sets b i m true true g c ex ed eg ec z n = enough-D N P sz W k vv O k⊑W cap b i m (z .1 .0) (ltb-true i I ex) (z .0) (z .1 .1) (eqb-true _ _ ed) n
+    can-sets b i m true false true c ex ed eg ec z n = enough-G N P sz W k vv O k⊑W cap b i m (z .1 .0) (ltb-true i I ex) (z .0) (z .1 .1) (eqb-true _ _ eg) n
+    can-sets b i m true false false true ex ed eg ec z n = (ltb-true i I ex, enough-C N P sz W k vv O k⊑W cap b i m (z .1 .0) (ltb-true i I ex) (z .0) (z .1 .1) (eqb-true _ _ ec) n)
 
     yes-sets : (b i : ℕ) (m : List ℕ) (x d g c : Bool) → ltb i I ≡ x → eqb (getD m i 0) 5 ≡ d → eqb (getD m i 0) 6 ≡ g → eqb (getD m i 0) 4 ≡ c → Here (suc b) sets i false m → YesL (lookSets b i m x d g c)
     yes-sets b i m false d g c ex ed eg ec z = tt
     yes-sets b i m true false false false ex ed eg ec z = tt
     yes-sets b i m true true g c ex ed eg ec z =
-        let r : Open1 N D P sz W b (λ j. Under (i / 4) j) = open-D N D P sz W k vv O k⊑W cap b i m (z .1 .0) (ltb-true i I ex) (z .0) (z .1 .1) (eqb-true _ _ ed) in
-        let is : (i % 4 ≡ 0) × (stands D I (z .1 .0) (i / 4) ≡ true) × ((z .1 .0) .sD (i / 4) ≡ false) × (D ≤ i) = is-D D I sz (z .1 .0) m (z .1 .1 .g .core) i (ltb-true i I ex) (eqb-true _ _ ed) in
+        let r : Open1 N P sz W b (λ j. Under (i / 4) j) = open-D N P sz W k vv O k⊑W cap b i m (z .1 .0) (ltb-true i I ex) (z .0) (z .1 .1) (eqb-true _ _ ed) in
+        let is : (i % 4 ≡ 0) × (stands D I (z .1 .0) (i / 4) ≡ true) × ((z .1 .0) .sD (i / 4) ≡ false) × (D ≤ i) = is-D sz (z .1 .0) m (z .1 .1 .g .core) i (ltb-true i I ex) (eqb-true _ _ ed) in
         yes-desc N W (i / 4) b (r .0) (r .1) (in-desc N (i / 4) b (r .0) (omega (arith, is .3)) (r .1) (r .2)) (r .3)
     yes-sets b i m true false true c ex ed eg ec z =
-        let r : Open1 N D P sz W b (λ j. Under (i / 16) (j / 4)) = open-G N D P sz W k vv O k⊑W cap b i m (z .1 .0) (ltb-true i I ex) (z .0) (z .1 .1) (eqb-true _ _ eg) in
-        let is : (i ≡ 16 * (i / 16)) × ((z .1 .0) .sD (i / 16) ≡ true) × ((z .1 .0) .sG (i / 16) ≡ false) × (D ≤ 4 * (i / 16)) × (alone D I (z .1 .0) i ≡ false) = is-G D I sz (z .1 .0) m (z .1 .1 .g .core) i (ltb-true i I ex) (eqb-true _ _ eg) in
+        let r : Open1 N P sz W b (λ j. Under (i / 16) (j / 4)) = open-G N P sz W k vv O k⊑W cap b i m (z .1 .0) (ltb-true i I ex) (z .0) (z .1 .1) (eqb-true _ _ eg) in
+        let is : (i ≡ 16 * (i / 16)) × ((z .1 .0) .sD (i / 16) ≡ true) × ((z .1 .0) .sG (i / 16) ≡ false) × (D ≤ 4 * (i / 16)) × (alone D I (z .1 .0) i ≡ false) = is-G sz (z .1 .0) m (z .1 .1 .g .core) i (ltb-true i I ex) (eqb-true _ _ eg) in
         yes-grand N W (i / 16) b (r .0) (r .1) (in-grand N (i / 16) b (r .0) (omega (arith, is .3)) (r .1) (r .2)) (r .3)
     yes-sets b i m true false false true ex ed eg ec z =
-        let r : Open1 N D P sz W b (λ j. j ≡ i) = open-C N D P sz W k vv O k⊑W cap b i m (z .1 .0) (ltb-true i I ex) (z .0) (z .1 .1) (eqb-true _ _ ec) in
+        let r : Open1 N P sz W b (λ j. j ≡ i) = open-C N P sz W k vv O k⊑W cap b i m (z .1 .0) (ltb-true i I ex) (z .0) (z .1 .1) (eqb-true _ _ ec) in
         yes-one N W i b (subst (λ (x : ℕ). W .has x b ≡ true) (r .2) (r .3))
 
     can-fine : (b i : ℕ) (m : List ℕ) (x s n : Bool) → ltb i I ≡ x → eqb (getD m i 0) 3 ≡ s → Here (suc b) refining i false m → CanL (lookRefining b i m x s n) × YesL (lookRefining b i m x s n)
@@ -247,19 +247,19 @@ module _ (N D P : ℕ) (sz : Tiled D (4 ^ N)) where
     can-fine b i m true false true ex es z = (tt, tt)
     can-fine b i m true false false ex es z = (tt, tt)
     can-fine b i m true true n ex es z =
-        let r : Open1 N D P sz W b (λ j. j ≡ i) = open-fine N D P sz W k vv O k⊑W cap b i m (z .1 .0) (ltb-true i I ex) (z .1 .1) (eqb-true _ _ es) in (
-          (ltb-true i I ex, enough-fine N D P sz W k vv O k⊑W cap b i m (z .1 .0) (ltb-true i I ex) (z .1 .1) (eqb-true _ _ es)),
+        let r : Open1 N P sz W b (λ j. j ≡ i) = open-fine N P sz W k vv O k⊑W cap b i m (z .1 .0) (ltb-true i I ex) (z .1 .1) (eqb-true _ _ es) in (
+          (ltb-true i I ex, enough-fine N P sz W k vv O k⊑W cap b i m (z .1 .0) (ltb-true i I ex) (z .1 .1) (eqb-true _ _ es)),
           yes-one N W i b (subst (λ (x : ℕ). W .has x b ≡ true) (r .2) (r .3)),
         )
 
     sign-pix : (b i : ℕ) (m : List ℕ) → Here (suc b) pixels i true m → W .neg i ≡ vv
     sign-pix b i m z =
-        let it : (alone D I (z .1 .0) i ≡ true) × ((z .1 .0) .al i ≡ getD m i 0) = is-alone D I sz (z .1 .0) m (z .1 .1 .g .core) i (z .2) (omega (arith, z .3)) (omega (arith, z .3)) in
+        let it : (alone D I (z .1 .0) i ≡ true) × ((z .1 .0) .al i ≡ getD m i 0) = is-alone sz (z .1 .0) m (z .1 .1 .g .core) i (z .2) (omega (arith, z .3)) (omega (arith, z .3)) in
         z .1 .1 .ho .ng i (λ a l u. omega (arith, it .1, z .3))
 
     sign-sets : (b i : ℕ) (m : List ℕ) → Here (suc b) sets i true m → W .neg i ≡ vv
     sign-sets b i m z =
-        let it : (alone D I (z .1 .0) i ≡ true) × ((z .1 .0) .al i ≡ getD m i 0) = is-alone D I sz (z .1 .0) m (z .1 .1 .g .core) i (z .2) (omega (arith, z .3)) (omega (arith, z .3)) in
+        let it : (alone D I (z .1 .0) i ≡ true) × ((z .1 .0) .al i ≡ getD m i 0) = is-alone sz (z .1 .0) m (z .1 .1 .g .core) i (z .2) (omega (arith, z .3)) (omega (arith, z .3)) in
         z .1 .1 .ho .ng i (λ a l u. omega (arith, it .1, z .3))
 
     can-look : (l : ℕ) (p : Pass) (i : ℕ) (s : Bool) (m : List ℕ) → Here l p i s m → (Clash-at l p i s m → ⊥) → CanL (lookAt I l p i s m)
@@ -305,10 +305,10 @@ module _ (N D P : ℕ) (sz : Tiled D (4 ^ N)) where
       fW = most-fits N State (ask I) (next I) A S0 u (all-of a) f A⊑
 
       O : Question → Type 0
-      O = Owing N D P sz W a S0 u (λ p. ⊥)
+      O = Owing N P sz W a S0 u (λ p. ⊥)
 
-      z : All N D P sz W a k W O s
-      z = all-run N D P sz W a nothing (all-of a) (λ p. ⊥) S0 u (all-start N D P sz W a) fW
+      z : All N P sz W a k W O s
+      z = all-run N P sz W a nothing (all-of a) (λ p. ⊥) S0 u (all-start N P sz W a) fW
 
       cap : (j e : ℕ) → W .has j e ≡ true → e < P
       cap j e h = ltb-true e P (most-below N State (ask I) (next I) S0 u (all-of a) j e h)

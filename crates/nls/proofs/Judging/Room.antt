@@ -20,7 +20,7 @@ use Rattle.nls.proofs.Judging.Apart.{Cmp, same, over, below, cmp}
 use Rattle.nls.proofs.Judging.Fresh.{SetFr}
 use Rattle.nls.proofs.Judging.Clash.{Clash, last-child, last-grand, last-desc, last-root}
 
-module _ (N D P : ℕ) (sz : Tiled D (4 ^ N)) where
+module _ (N : ℕ) {D : ℕ} (P : ℕ) (sz : Tiled D (4 ^ N)) where
   abbrev I : ℕ
   I = 4 ^ N
 
@@ -40,9 +40,9 @@ module _ (N D P : ℕ) (sz : Tiled D (4 ^ N)) where
 
   module _ (W k : Bits) (k⊑W : (j e : ℕ) → k .has j e ≡ true → W .has j e ≡ true) (cap : (j e : ℕ) → W .has j e ≡ true → e < P)
       (b t : ℕ) (m : List ℕ) (c : Cfg) (ti : t < I)
-      (above : From D I sz P (fam N D P sz W k) (suc b))
-      (p : Sets D I sz (preds (fam N D P sz W k) b) (Known W k b) t c m) (f : Fresh W k b t c) where
-    kk : Core D I sz c m
+      (above : From sz P (fam N P sz W k) (suc b))
+      (p : Sets sz (preds (fam N P sz W k) b) (Known W k b) t c m) (f : Fresh W k b t c) where
+    kk : Core sz c m
     kk = p .core
 
     -- MCP: there is a member of DESC(t / 4) other than t
@@ -50,7 +50,7 @@ module _ (N D P : ℕ) (sz : Tiled D (4 ^ N)) where
     room-child mk n = go (ℕ-discrete (t % 4) 3) (decLt (16 * (t / 4)) I)
       where
         it : (alone D I c t ≡ true) × (c .al t ≡ getD m t 0)
-        it = is-alone D I sz c m kk t ti (omega arith) (omega arith)
+        it = is-alone sz c m kk t ti (omega arith) (omega arith)
 
         c4 : (D ≤ t) × (16 * (t / 4) < I → c .sG (t / 4) ≡ false) × ((j : ℕ) → j / 4 ≡ t / 4 → j < t → (c .al j ≡ 1) ⊎ (c .al j ≡ 2))
         c4 = f .c4 (it .0) (it .1 ∙ mk)
@@ -106,7 +106,7 @@ module _ (N D P : ℕ) (sz : Tiled D (4 ^ N)) where
     room-desc mk big n = go (ℕ-discrete (t / 4 % 4) 3)
       where
         is : (t % 4 ≡ 0) × (stands D I c (t / 4) ≡ true) × (c .sD (t / 4) ≡ false) × (D ≤ t)
-        is = is-D D I sz c m kk t ti mk
+        is = is-D sz c m kk t ti mk
 
         split : (h : ℕ) → h / 4 ≡ t / 4 / 4 → (h ≡ t / 4 → ⊥) → c .sD h ≡ true → Spare W k b (λ j. (h : ℕ) × (h / 4 ≡ t / 4 / 4) × (h ≡ t / 4 → ⊥) × Under h j)
         split h e ne s =
@@ -145,7 +145,7 @@ module _ (N D P : ℕ) (sz : Tiled D (4 ^ N)) where
             step false z (inl w) = inl (λ j e y. all j e y (ℕ-discrete j (base + r)))
               where
                 all : (j : ℕ) → j / 4 ≡ t / 4 / 4 → j < base + suc r → Dec (j ≡ base + r) → getD m (4 * j) 0 ≡ 5
-                all j e y (yes q) = mark-D D I sz c m kk j (omega arith) (omega (arith, is .0)) (sg j e) (subst (λ (x : ℕ). c .sD x ≡ false) (sym q) z)
+                all j e y (yes q) = mark-D sz c m kk j (omega arith) (omega (arith, is .0)) (sg j e) (subst (λ (x : ℕ). c .sD x ≡ false) (sym q) z)
                 all j e y (no q) = w j e (omega arith)
 
         earlier : t / 4 % 4 ≡ 3 → ((h : ℕ) → h / 4 ≡ t / 4 / 4 → h < base + 3 → getD m (4 * h) 0 ≡ 5) ⊎ ((h : ℕ) × (h / 4 ≡ t / 4 / 4) × (h < base + 3) × (c .sD h ≡ true)) → Spare W k b (λ j. (h : ℕ) × (h / 4 ≡ t / 4 / 4) × (h ≡ t / 4 → ⊥) × Under h j)
@@ -161,7 +161,7 @@ module _ (N D P : ℕ) (sz : Tiled D (4 ^ N)) where
     room-grand mk n = found (four 4 (lit≤ tt))
       where
         is : (t ≡ 16 * (t / 16)) × (c .sD (t / 16) ≡ true) × (c .sG (t / 16) ≡ false) × (D ≤ 4 * (t / 16)) × (alone D I c t ≡ false)
-        is = is-G D I sz c m kk t ti mk
+        is = is-G sz c m kk t ti mk
 
         kid-alone : (j : ℕ) → j / 4 ≡ t / 16 → alone D I c j ≡ true
         kid-alone j e = pick (alone D I c j) refl
@@ -210,7 +210,7 @@ module _ (N D P : ℕ) (sz : Tiled D (4 ^ N)) where
     room-root mk tD bP n = go (ℕ-discrete (t + 4) (4 * D))
       where
         is : (t % 4 ≡ 0) × (stands D I c (t / 4) ≡ true) × (c .sD (t / 4) ≡ false) × (D ≤ t)
-        is = is-D D I sz c m kk t ti mk
+        is = is-D sz c m kk t ti mk
 
         st : (h : ℕ) → h < D → stands D I c h ≡ true
         st h e = pick (stands D I c h) refl
@@ -269,7 +269,7 @@ module _ (N D P : ℕ) (sz : Tiled D (4 ^ N)) where
           where
             bad : (h : ℕ) → h < t / 4 → (eqb (getD m (4 * h) 0) 5 ≡ false) × (ltb (4 * h) D ≡ false) → (x : Bool) → c .sD h ≡ x → (j : ℕ) × (j < I) × (W .has j b ≡ true) × (Under (t / 4) j → ⊥)
             bad h ht q true s = split h (ltb-false (4 * h) D (q .1)) (omega arith) (λ z. omega arith) s
-            bad h ht q false s = absurd (eqb-false _ _ (q .0) (mark-D D I sz c m kk h (ltb-false (4 * h) D (q .1)) (omega arith) (st h (omega arith)) s))
+            bad h ht q false s = absurd (eqb-false _ _ (q .0) (mark-D sz c m kk h (ltb-false (4 * h) D (q .1)) (omega arith) (st h (omega arith)) s))
 
         later : (t + 4 ≡ 4 * D → ⊥) → (x : Bool) → c .sD (t / 4 + 1) ≡ x → (j : ℕ) × (j < I) × (W .has j b ≡ true) × (Under (t / 4) j → ⊥)
         later z true s = split (t / 4 + 1) (omega (arith, is .3)) (omega (arith, is .0)) (λ q. omega arith) s
@@ -285,11 +285,11 @@ module _ (N D P : ℕ) (sz : Tiled D (4 ^ N)) where
         go (yes z) = last z (all-or D (λ j. eqb (getD m j 0) 1)) (all-or (t / 4) (λ h. eqb (getD m (4 * h) 0) 5 || ltb (4 * h) D))
 
   -- from the marks
-  pub fresh-of : (W k : Bits) (b t : ℕ) (c : Cfg) (m : List ℕ) → t < I → Core D I sz c m → SetFr N D P sz (λ b j. W .has j b ≡ true) (λ e j. k .has j e ≡ true) b t m → Fresh W k b t c
+  pub fresh-of : (W k : Bits) (b t : ℕ) (c : Cfg) (m : List ℕ) → t < I → Core sz c m → SetFr N P sz (λ b j. W .has j b ≡ true) (λ e j. k .has j e ≡ true) b t m → Fresh W k b t c
   fresh-of W k b t c m ti kk p = record {
     f4 = λ j hj a e. p .f4 j hj (kk .tab .solo j hj a ∙ e);
-    fD = λ h lo hi z s n j hj u. p .fD (4 * h) hi z (mark-D D I sz c m kk h lo hi s n) j hj (subst (λ (x : ℕ). Under x j) {x = h} {y = 4 * h / 4} (omega arith) u);
-    fG = λ q lo hi z s n j hj u. p .fG (16 * q) hi z (mark-G D I sz c m kk q lo hi s n) j hj (subst (λ (x : ℕ). Under x (j / 4)) {x = q} {y = 16 * q / 16} (omega arith) u);
+    fD = λ h lo hi z s n j hj u. p .fD (4 * h) hi z (mark-D sz c m kk h lo hi s n) j hj (subst (λ (x : ℕ). Under x j) {x = h} {y = 4 * h / 4} (omega arith) u);
+    fG = λ q lo hi z s n j hj u. p .fG (16 * q) hi z (mark-G sz c m kk q lo hi s n) j hj (subst (λ (x : ℕ). Under x (j / 4)) {x = q} {y = 16 * q / 16} (omega arith) u);
     m2 = λ j hj a e. p .m2 j hj (kk .tab .solo j hj a ∙ e);
     m3 = λ j hj a e. p .m3 j hj (kk .tab .solo j hj a ∙ e);
     c4 = λ a e. c4′ (p .c4 ti (kk .tab .solo t ti a ∙ e));
@@ -297,10 +297,10 @@ module _ (N D P : ℕ) (sz : Tiled D (4 ^ N)) where
     where
       c4′ : (D ≤ t) × (16 * (t / 4) < I → getD m (16 * (t / 4)) 0 ≡ 6) × ((j : ℕ) → j / 4 ≡ t / 4 → j < t → (1 ≤ getD m j 0) × (getD m j 0 ≤ 2))
           → (D ≤ t) × (16 * (t / 4) < I → c .sG (t / 4) ≡ false) × ((j : ℕ) → j / 4 ≡ t / 4 → j < t → (c .al j ≡ 1) ⊎ (c .al j ≡ 2))
-      c4′ r = (r .0, (λ h. subst (λ (x : ℕ). c .sG x ≡ false) {x = 16 * (t / 4) / 16} {y = t / 4} (omega arith) ((is-G D I sz c m kk (16 * (t / 4)) h (r .1 h)) .2)), λ j e l. two j l (r .2 j e l))
+      c4′ r = (r .0, (λ h. subst (λ (x : ℕ). c .sG x ≡ false) {x = 16 * (t / 4) / 16} {y = t / 4} (omega arith) ((is-G sz c m kk (16 * (t / 4)) h (r .1 h)) .2)), λ j e l. two j l (r .2 j e l))
         where
           two : (j : ℕ) → j < t → (1 ≤ getD m j 0) × (getD m j 0 ≤ 2) → (c .al j ≡ 1) ⊎ (c .al j ≡ 2)
-          two j l q = pick (ℕ-discrete (getD m j 0) 1) (is-alone D I sz c m kk j (omega arith) (q .0) (omega (arith, q .1)))
+          two j l q = pick (ℕ-discrete (getD m j 0) 1) (is-alone sz c m kk j (omega arith) (q .0) (omega (arith, q .1)))
             where
               pick : Dec (getD m j 0 ≡ 1) → (alone D I c j ≡ true) × (c .al j ≡ getD m j 0) → (c .al j ≡ 1) ⊎ (c .al j ≡ 2)
               pick (yes z) it = inl (it .1 ∙ z)

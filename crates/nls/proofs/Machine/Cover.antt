@@ -121,7 +121,7 @@ up-6-no x (yes a) b e = omega (arith, up-low x a)
 up-6-no x (no a) (yes b) e = omega (arith, up-5 x (omega arith) b)
 up-6-no x (no a) (no b) e = omega (arith, up-7 x (omega arith))
 
-module _ (D I : ℕ) (sz : Tiled D I) where
+module _ {D I : ℕ} (sz : Tiled D I) where
   pub record Core (c : Cfg) (l : List ℕ) : Type 0 where
     pub len : length l ≡ I
     pub ok : Ok D I c
@@ -218,7 +218,7 @@ module _ (D I : ℕ) (sz : Tiled D I) where
 
       go : (x : Bool) → alone D I c j ≡ x → (alone D I c j ≡ true) × (c .al j ≡ getD l j 0)
       go true e = (e, sym (k .tab .solo j h e))
-      go false e = absurd (no-way (kind-no D I sz c (k .ok) (λ i. getD l i 0) (k .tab) j h e))
+      go false e = absurd (no-way (kind-no sz c (k .ok) (λ i. getD l i 0) (k .tab) j h e))
 
   -- and one of 5 or more is not
   pub not-alone : (c : Cfg) (l : List ℕ) → Core c l → (j : ℕ) → j < I → 5 ≤ getD l j 0 → alone D I c j ≡ false
@@ -244,15 +244,15 @@ module _ (D I : ℕ) (sz : Tiled D I) where
 
           hit : Dec (j ≡ t) → ⊥
           hit (yes q) = true≢false (sym (subst (λ (i : ℕ). alone D I c i ≡ true) q e) ∙ not-alone c l k t h big)
-          hit (no q) = true≢false (sym e ∙ (gap D I sz c (λ i. getD l i 0) (k .ok) (k .tab) t h (not-alone c l k t h big) big j (omega arith) b ji) .0)
+          hit (no q) = true≢false (sym e ∙ (gap sz c (λ i. getD l i 0) (k .ok) (k .tab) t h (not-alone c l k t h big) big j (omega arith) b ji) .0)
 
   -- the mark of one coefficient changes
   pub core-A : (c : Cfg) (l : List ℕ) (i v : ℕ) → Core c l → i < I → alone D I c i ≡ true → 1 ≤ v → v ≤ 4 → Core (withA i v c) (set l i v)
   unfolding withA alone
   core-A c l i v k h a v1 v4 = record {
     len = length-set l i v ∙ k .len;
-    ok = ok-A D I sz c (k .ok) (λ j. getD l j 0) (k .tab) i v;
-    tab = table-A D I sz c (k .ok) (λ j. getD l j 0) (k .tab) i v a (λ j. getD (set l i v) j 0)
+    ok = ok-A sz c (k .ok) (λ j. getD l j 0) (k .tab) i v;
+    tab = table-A sz c (k .ok) (λ j. getD l j 0) (k .tab) i v a (λ j. getD (set l i v) j 0)
         (getD-set-same l i v 0 (omega (arith, k .len))) (λ j hj n. getD-set-other l i j v 0 n);
     rng = λ j hj e. rng′ j hj e (ℕ-discrete j i);
   }
@@ -484,12 +484,12 @@ module _ (D I : ℕ) (sz : Tiled D I) where
   -- no standing set begins strictly inside a skip past a mark of 5 or more
   quiet-D : (c : Cfg) (l : List ℕ) → Core c l → (t : ℕ) → t < I → 5 ≤ getD l t 0 → (h : ℕ) → D ≤ 4 * h → 4 * h < I → t < 4 * h → 4 * h < t + skip (getD l t 0) → stands D I c h ≡ true → c .sD h ≡ false → ⊥
   quiet-D c l k t ti big h a b x y s n =
-      let z : (alone D I c (4 * h) ≡ false) × (getD l (4 * h) 0 ≡ 0) = gap D I sz c (λ i. getD l i 0) (k .ok) (k .tab) t ti (not-alone c l k t ti big) big (4 * h) x y b in
+      let z : (alone D I c (4 * h) ≡ false) × (getD l (4 * h) 0 ≡ 0) = gap sz c (λ i. getD l i 0) (k .ok) (k .tab) t ti (not-alone c l k t ti big) big (4 * h) x y b in
       omega (arith, z .1, mark-D c l k h a b s n)
 
   quiet-G : (c : Cfg) (l : List ℕ) → Core c l → (t : ℕ) → t < I → 5 ≤ getD l t 0 → (q : ℕ) → D ≤ 4 * q → 16 * q < I → t < 16 * q → 16 * q < t + skip (getD l t 0) → c .sD q ≡ true → c .sG q ≡ false → ⊥
   quiet-G c l k t ti big q a b x y s n =
-      let z : (alone D I c (16 * q) ≡ false) × (getD l (16 * q) 0 ≡ 0) = gap D I sz c (λ i. getD l i 0) (k .ok) (k .tab) t ti (not-alone c l k t ti big) big (16 * q) x y b in
+      let z : (alone D I c (16 * q) ≡ false) × (getD l (16 * q) 0 ≡ 0) = gap sz c (λ i. getD l i 0) (k .ok) (k .tab) t ti (not-alone c l k t ti big) big (16 * q) x y b in
       omega (arith, z .1, mark-G c l k q a b s n)
 
   -- The set pass goes on past t to t + w, with no MCP at t, if nothing stands between, but perhaps a set at t that is settled
@@ -684,8 +684,8 @@ module _ (D I : ℕ) (sz : Tiled D I) where
   sets-D1 R X t c l p ti m y = record {
     core = record {
       len = length-split I t l (ltb (4 * t) I) ∙ k .len;
-      ok = ok-D D I sz c (k .ok) (λ j. getD l j 0) (k .tab) g glo ghi (is .1) (is .2) m′ kids low′ rest;
-      tab = table-D D I sz c (k .ok) (λ j. getD l j 0) (k .tab) g glo ghi (is .1) (is .2) m′ kids low′ rest;
+      ok = ok-D sz c (k .ok) (λ j. getD l j 0) (k .tab) g glo ghi (is .1) (is .2) m′ kids low′ rest;
+      tab = table-D sz c (k .ok) (λ j. getD l j 0) (k .tab) g glo ghi (is .1) (is .2) m′ kids low′ rest;
       rng = λ j hj a. rng′ j hj a (ℕ-discrete (j / 4) g);
     };
     more = more-D R g c (p .more) glo (is .2) y;
@@ -781,9 +781,9 @@ module _ (D I : ℕ) (sz : Tiled D I) where
   pub sets-G1 : (R : Preds) (X : ℕ → Type 0) (t : ℕ) (c : Cfg) (l : List ℕ) → Sets R X t c l → t < I → getD l t 0 ≡ 6 → R .QG (t / 16) → Sets R X t (withG (t / 16) c) (splitGrand I t l)
   sets-G1 R X t c l p ti m y = record {
     core = record {
-      len = subst (λ (x : ℕ). length (splitGrand I x l) ≡ I) (sym (is .0)) (len-G D I sz c (k .ok) l (k .len) (k .tab) q (is .3) q-hi (is .1) (is .2));
-      ok = ok-G D I sz c (k .ok) l (k .len) (k .tab) q (is .3) q-hi (is .1) (is .2);
-      tab = subst (λ (x : ℕ). Table D I (withG q c) (λ j. getD (splitGrand I x l) j 0)) (sym (is .0)) (table-G D I sz c (k .ok) l (k .len) (k .tab) q (is .3) q-hi (is .1) (is .2));
+      len = subst (λ (x : ℕ). length (splitGrand I x l) ≡ I) (sym (is .0)) (len-G sz c (k .ok) l (k .len) (k .tab) q (is .3) q-hi (is .1) (is .2));
+      ok = ok-G sz c (k .ok) l (k .len) (k .tab) q (is .3) q-hi (is .1) (is .2);
+      tab = subst (λ (x : ℕ). Table D I (withG q c) (λ j. getD (splitGrand I x l) j 0)) (sym (is .0)) (table-G sz c (k .ok) l (k .len) (k .tab) q (is .3) q-hi (is .1) (is .2));
       rng = λ j hj a. subst (λ (x : ℕ). (1 ≤ x) × (x ≤ 4)) (sym (al-G q c j)) (k .rng j hj (was j a));
     };
     more = more-G R q c (p .more) y;

@@ -275,7 +275,7 @@ pub stands-G-off : (D I q : ℕ) (c : Cfg) (h : ℕ) → (h / 4 ≡ q → ⊥) �
 unfolding stands
 stands-G-off D I q c h e = ap (λ (x : Bool). ltb h D || x) (sG-off q c (h / 4) e)
 
-module _ (D I : ℕ) (sz : Tiled D I) (c : Cfg) (o : Ok D I c) (l : List ℕ) (len : length l ≡ I) (t : Table D I c (λ j. getD l j 0))
+module _ {D I : ℕ} (sz : Tiled D I) (c : Cfg) (o : Ok D I c) (l : List ℕ) (len : length l ≡ I) (t : Table D I c (λ j. getD l j 0))
     (q : ℕ) (q-lo : D ≤ 4 * q) (q-hi : 16 * q < I) (q-D : c .sD q ≡ true) (q-no : c .sG q ≡ false) where
   abbrev pub r : List ℕ
   r = splitGrand I (16 * q) l

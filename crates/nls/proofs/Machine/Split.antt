@@ -88,7 +88,7 @@ pub same-G : (i v : ℕ) (c : Cfg) (h : ℕ) → (withA i v c) .sG h ≡ c .sG h
 unfolding withA
 same-G i v c h = refl
 
-module _ (D I : ℕ) (sz : Tiled D I) (c : Cfg) (o : Ok D I c) (m : ℕ → ℕ) (t : Table D I c m) where
+module _ {D I : ℕ} (sz : Tiled D I) (c : Cfg) (o : Ok D I c) (m : ℕ → ℕ) (t : Table D I c m) where
   module _ (g : ℕ) (g-lo : D ≤ 4 * g) (g-hi : 4 * g < I) (g-st : stands D I c g ≡ true) (g-no : c .sD g ≡ false)
       (m′ : ℕ → ℕ) (kids : (k : ℕ) → k < I → k / 4 ≡ g → m′ k ≡ 4) (below : 16 * g < I → m′ (16 * g) ≡ 6)
       (rest : (k : ℕ) → k < I → (k / 4 ≡ g → ⊥) → (k ≡ 16 * g → ⊥) → m′ k ≡ m k) where

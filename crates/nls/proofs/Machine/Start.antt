@@ -21,7 +21,7 @@ use Rattle.nls.proofs.Machine.Steps.{Fam, preds, Good, good-settle}
 abbrev pub c0 : Cfg
 c0 = record { sD = λ h. false; sG = λ q. false; al = λ j. 1 }
 
-module _ (D I : ℕ) (sz : Tiled D I) where
+module _ {D I : ℕ} (sz : Tiled D I) where
   abbrev pub base : List ℕ
   base = replicate D 1 ++ replicate (I - D) 0
 
@@ -89,7 +89,7 @@ module _ (D I : ℕ) (sz : Tiled D I) where
           let lo : D ≤ j / 4 = (no-stands D I c0 (j / 4) s) .0 in
           same j z ∙ base-0 j (omega arith) h ∙ sym (ap up (same (j / 4) (λ y. z (y .0, y .1, down e (y .2))) ∙ base-0 (j / 4) lo (omega arith)) ∙ up-low 0 (lit< tt))
 
-  pub pix-0 : (R : Preds) (X : ℕ → Type 0) → ((j : ℕ) → R .Z j → ⊥) → Pix D I sz R X 0 c0 first
+  pub pix-0 : (R : Preds) (X : ℕ → Type 0) → ((j : ℕ) → R .Z j → ⊥) → Pix sz R X 0 c0 first
   pix-0 R X n = record {
     more = record { sg = λ j h a l u. absurd (omega arith); qD = λ h e. absurd (false≢true e); qG = λ h e. absurd (false≢true e); zs = λ j h e. absurd (n j e) };
     core = record {
@@ -103,11 +103,11 @@ module _ (D I : ℕ) (sz : Tiled D I) where
     done = λ j h a b e. absurd (omega arith);
   }
 
-  pub good-start : (P : ℕ) (F : Fam) → ((j : ℕ) → F .Z j → ⊥) → Good D I sz P F (start I D P)
+  pub good-start : (P : ℕ) (F : Fam) → ((j : ℕ) → F .Z j → ⊥) → Good sz P F (start I D P)
   unfolding start startMarks
-  good-start P F n = good-settle D I sz P F (at P pixels 0 first) (go P)
+  good-start P F n = good-settle sz P F (at P pixels 0 first) (go P)
     where
-      go : (l : ℕ) → Good D I sz l F (at l pixels 0 first)
+      go : (l : ℕ) → Good sz l F (at l pixels 0 first)
       go zero = ((λ e h1 h2. absurd (omega arith)), λ j hj z. absurd (n j z))
       go (suc b) = ((λ e h1 h2. absurd (omega arith)), (c0, pix-0 (preds F b) (F .X b) n))
 

@@ -30,15 +30,15 @@ preds F b = record { Y = F .Y; QD = F .QD b; QG = F .QG b; Z = F .Z }
 abbrev pub withZ : Fam → (ℕ → Type 0) → Fam
 withZ F Z′ = record { X = F .X; Y = F .Y; QD = F .QD; QG = F .QG; Z = Z′; dnD = F .dnD; dnG = F .dnG }
 
-module _ (D I : ℕ) (sz : Tiled D I) (P : ℕ) where
+module _ {D I : ℕ} (sz : Tiled D I) (P : ℕ) where
   abbrev pub PixI : Preds → (ℕ → Type 0) → ℕ → Cfg → List ℕ → Type 0
-  PixI R X t c m = Pix D I sz R X t c m
+  PixI R X t c m = Pix sz R X t c m
 
   abbrev pub SetsI : Preds → (ℕ → Type 0) → ℕ → Cfg → List ℕ → Type 0
-  SetsI R X t c m = Sets D I sz R X t c m
+  SetsI R X t c m = Sets sz R X t c m
 
   abbrev pub FineI : Preds → (ℕ → Type 0) → ℕ → Cfg → List ℕ → Type 0
-  FineI R X t c m = Fine D I sz R X t c m
+  FineI R X t c m = Fine sz R X t c m
 
   -- the planes from b on are settled
   abbrev pub From : Fam → ℕ → Type 0
@@ -62,23 +62,23 @@ module _ (D I : ℕ) (sz : Tiled D I) (P : ℕ) where
   Good-look F (asks q) = Unit {0}
 
   good-pix : (F : Fam) (b i : ℕ) (m : List ℕ) (x y : Bool) → ltb i I ≡ x → eqb (getD m i 0) 1 ≡ y → Good-at F (suc b) pixels i false m → Good-look F (lookPixels b i m x y)
-  good-pix F b i m false y ex ey g = (g .0, (g .1 .0, pix-end D I sz (preds F b) (F .X b) i (g .1 .0) m (g .1 .1) (ltb-false i I ex)))
+  good-pix F b i m false y ex ey g = (g .0, (g .1 .0, pix-end sz (preds F b) (F .X b) i (g .1 .0) m (g .1 .1) (ltb-false i I ex)))
   good-pix F b i m true true ex ey g = tt
-  good-pix F b i m true false ex ey g = (g .0, (g .1 .0, pix-hush D I sz (preds F b) (F .X b) i (g .1 .0) m (g .1 .1) (ltb-true i I ex) (eqb-false _ _ ey)))
+  good-pix F b i m true false ex ey g = (g .0, (g .1 .0, pix-hush sz (preds F b) (F .X b) i (g .1 .0) m (g .1 .1) (ltb-true i I ex) (eqb-false _ _ ey)))
 
   good-sets : (F : Fam) (b i : ℕ) (m : List ℕ) (x d g c : Bool) → ltb i I ≡ x → eqb (getD m i 0) 5 ≡ d → eqb (getD m i 0) 6 ≡ g → eqb (getD m i 0) 4 ≡ c
       → Good-at F (suc b) sets i false m → Good-look F (lookSets b i m x d g c)
-  good-sets F b i m false d g c ex ed eg ec h = (h .0, (h .1 .0, sets-end D I sz (preds F b) (F .X b) i (h .1 .0) m (h .1 .1) (ltb-false i I ex)))
+  good-sets F b i m false d g c ex ed eg ec h = (h .0, (h .1 .0, sets-end sz (preds F b) (F .X b) i (h .1 .0) m (h .1 .1) (ltb-false i I ex)))
   good-sets F b i m true true g c ex ed eg ec h = tt
   good-sets F b i m true false true c ex ed eg ec h = tt
   good-sets F b i m true false false true ex ed eg ec h = tt
   good-sets F b i m true false false false ex ed eg ec h =
-      (h .0, (h .1 .0, sets-hush D I sz (preds F b) (F .X b) i (h .1 .0) m (h .1 .1) (ltb-true i I ex) (eqb-false _ _ ed) (eqb-false _ _ eg) (eqb-false _ _ ec)))
+      (h .0, (h .1 .0, sets-hush sz (preds F b) (F .X b) i (h .1 .0) m (h .1 .1) (ltb-true i I ex) (eqb-false _ _ ed) (eqb-false _ _ eg) (eqb-false _ _ ec)))
 
   good-down : (F : Fam) (b : ℕ) (m : List ℕ) → From F (suc b) → ((j : ℕ) → j < I → F .X b j) → ((Y : ℕ → Type 0) → (c : Cfg) × PixI (preds F b) Y 0 c m) → Good F (at b pixels 0 m)
   good-down F zero m f x p = ((λ e h1 h2 j hj. go e h2 j hj (ℕ-discrete e 0)), λ j hj z. signed j hj (k .zs j hj z))
     where
-      k : More D I sz (preds F 0) ((p (F .X 0)) .0)
+      k : More sz (preds F 0) ((p (F .X 0)) .0)
       k = (p (F .X 0)) .1 .more
 
       signed : (j : ℕ) → j < I → (alone D I ((p (F .X 0)) .0) j ≡ true) × (2 ≤ ((p (F .X 0)) .0) .al j) × (((p (F .X 0)) .0) .al j ≤ 3) → F .Y j
@@ -108,11 +108,11 @@ module _ (D I : ℕ) (sz : Tiled D I) (P : ℕ) where
   good-fine : (F : Fam) (b i : ℕ) (m : List ℕ) (x s n : Bool) → ltb i I ≡ x → eqb (getD m i 0) 3 ≡ s → eqb (getD m i 0) 2 ≡ n
       → Good-at F (suc b) refining i false m → Good-look F (lookRefining b i m x s n)
   good-fine F b i m false s n ex es en g =
-      good-down F b m (g .0) ((fine-end D I sz (preds F b) (F .X b) (F .X b) i (g .1 .0) m (g .1 .1) (ltb-false i I ex)) .0)
-      (λ Y. (g .1 .0, (fine-end D I sz (preds F b) (F .X b) Y i (g .1 .0) m (g .1 .1) (ltb-false i I ex)) .1))
+      good-down F b m (g .0) ((fine-end sz (preds F b) (F .X b) (F .X b) i (g .1 .0) m (g .1 .1) (ltb-false i I ex)) .0)
+      (λ Y. (g .1 .0, (fine-end sz (preds F b) (F .X b) Y i (g .1 .0) m (g .1 .1) (ltb-false i I ex)) .1))
   good-fine F b i m true true n ex es en g = tt
-  good-fine F b i m true false true ex es en g = (g .0, (withA i 3 (g .1 .0), fine-np D I sz (preds F b) (F .X b) i (g .1 .0) m (g .1 .1) (ltb-true i I ex) (eqb-true _ _ en)))
-  good-fine F b i m true false false ex es en g = (g .0, (g .1 .0, fine-hush D I sz (preds F b) (F .X b) i (g .1 .0) m (g .1 .1) (ltb-true i I ex) (eqb-false _ _ es) (eqb-false _ _ en)))
+  good-fine F b i m true false true ex es en g = (g .0, (withA i 3 (g .1 .0), fine-np sz (preds F b) (F .X b) i (g .1 .0) m (g .1 .1) (ltb-true i I ex) (eqb-true _ _ en)))
+  good-fine F b i m true false false ex es en g = (g .0, (g .1 .0, fine-hush sz (preds F b) (F .X b) i (g .1 .0) m (g .1 .1) (ltb-true i I ex) (eqb-false _ _ es) (eqb-false _ _ en)))
 
   good-look : (F : Fam) (l : ℕ) (p : Pass) (i : ℕ) (s : Bool) (m : List ℕ) → Good-at F l p i s m → Good-look F (lookAt I l p i s m)
   good-look F zero p i s m g = tt
@@ -155,7 +155,7 @@ module _ (D I : ℕ) (sz : Tiled D I) (P : ℕ) where
   On-ask F Z′ a (asks q) = Learned F Z′ q a
 
   abbrev pub MoreI : Preds → Cfg → Type 0
-  MoreI R c = More D I sz R c
+  MoreI R c = More sz R c
 
   pub more-Z : (R S : Preds) (c : Cfg) → ((j : ℕ) → R .Y j → S .Y j) → ((j : ℕ) → R .QD j → S .QD j) → ((j : ℕ) → R .QG j → S .QG j) → ((j : ℕ) → S .Z j → R .Z j) → MoreI R c → MoreI S c
   more-Z R S c y d g z k = record { sg = λ j h a l u. y j (k .sg j h a l u); qD = λ h e. d h (k .qD h e); qG = λ h e. g h (k .qG h e); zs = λ j h e. k .zs j h (z j e) }
@@ -198,7 +198,7 @@ module _ (D I : ℕ) (sz : Tiled D I) (P : ℕ) where
     g .0,
     (
       g .1 .0,
-      pix-zero D I sz (preds (withZ F Z′) b) (F .X b) i (g .1 .0) m
+      pix-zero sz (preds (withZ F Z′) b) (F .X b) i (g .1 .0) m
           (pix-Z (preds F b) (preds (withZ F Z′) b) (F .X b) (F .X b) i (g .1 .0) m (shrink F Z′ b (g .1 .0) (o .1)) (λ j x. x) (g .1 .1)) (o .0),
     ),
   )
@@ -210,7 +210,7 @@ module _ (D I : ℕ) (sz : Tiled D I) (P : ℕ) where
     h .0,
     (
       withD (i / 4) (h .1 .0),
-      sets-D1 D I sz (preds (withZ F Z′) b) (F .X b) i (h .1 .0) m
+      sets-D1 sz (preds (withZ F Z′) b) (F .X b) i (h .1 .0) m
           (sets-Z (preds F b) (preds (withZ F Z′) b) (F .X b) (F .X b) i (h .1 .0) m (shrink F Z′ b (h .1 .0) (o .1)) (λ j x. x) (h .1 .1)) (ltb-true i I ex) (eqb-true _ _ ed) (o .0),
     ),
   )
@@ -218,16 +218,16 @@ module _ (D I : ℕ) (sz : Tiled D I) (P : ℕ) where
     h .0,
     (
       h .1 .0,
-      sets-D0 D I sz (preds (withZ F Z′) b) (F .X b) i (h .1 .0) m
+      sets-D0 sz (preds (withZ F Z′) b) (F .X b) i (h .1 .0) m
           (sets-Z (preds F b) (preds (withZ F Z′) b) (F .X b) (F .X b) i (h .1 .0) m (shrink F Z′ b (h .1 .0) (o .1)) (λ j x. x) (h .1 .1)) (ltb-true i I ex) (eqb-true _ _ ed)
-          (o .0 (omega (arith, is-D D I sz (h .1 .0) m (h .1 .1 .core) i (ltb-true i I ex) (eqb-true _ _ ed)))),
+          (o .0 (omega (arith, is-D sz (h .1 .0) m (h .1 .1 .core) i (ltb-true i I ex) (eqb-true _ _ ed)))),
     ),
   )
   tell-sets′ F Z′ b i m true false true c true ex ed eg ec h o = (
     h .0,
     (
       withG (i / 16) (h .1 .0),
-      sets-G1 D I sz (preds (withZ F Z′) b) (F .X b) i (h .1 .0) m
+      sets-G1 sz (preds (withZ F Z′) b) (F .X b) i (h .1 .0) m
           (sets-Z (preds F b) (preds (withZ F Z′) b) (F .X b) (F .X b) i (h .1 .0) m (shrink F Z′ b (h .1 .0) (o .1)) (λ j x. x) (h .1 .1)) (ltb-true i I ex) (eqb-true _ _ eg) (o .0),
     ),
   )
@@ -235,20 +235,20 @@ module _ (D I : ℕ) (sz : Tiled D I) (P : ℕ) where
     h .0,
     (
       h .1 .0,
-      sets-G0 D I sz (preds (withZ F Z′) b) (F .X b) i (h .1 .0) m
+      sets-G0 sz (preds (withZ F Z′) b) (F .X b) i (h .1 .0) m
           (sets-Z (preds F b) (preds (withZ F Z′) b) (F .X b) (F .X b) i (h .1 .0) m (shrink F Z′ b (h .1 .0) (o .1)) (λ j x. x) (h .1 .1)) (ltb-true i I ex) (eqb-true _ _ eg)
-          (o .0 (omega (arith, is-G D I sz (h .1 .0) m (h .1 .1 .core) i (ltb-true i I ex) (eqb-true _ _ eg)))),
+          (o .0 (omega (arith, is-G sz (h .1 .0) m (h .1 .1 .core) i (ltb-true i I ex) (eqb-true _ _ eg)))),
     ),
   )
   tell-sets′ F Z′ b i m true false false true true ex ed eg ec h o =
       (h .0, (h .1 .0, sets-Z (preds F b) (hide i (preds (withZ F Z′) b)) (F .X b) (F .X b) i (h .1 .0) m (shrink-hide F Z′ b i (h .1 .0) (o .1)) (λ j x. x) (h .1 .1)), ltb-true i I ex, eqb-true _ _ ec, o .0)
   tell-sets′ F Z′ b i m true false false true false ex ed eg ec h o =
       let hi : i < I = ltb-true i I ex in
-      let it : (alone D I (h .1 .0) i ≡ true) × ((h .1 .0) .al i ≡ getD m i 0) = is-alone D I sz (h .1 .0) m (h .1 .1 .core) i hi (omega (arith, eqb-true (getD m i 0) 4 ec)) (omega (arith, eqb-true (getD m i 0) 4 ec)) in (
+      let it : (alone D I (h .1 .0) i ≡ true) × ((h .1 .0) .al i ≡ getD m i 0) = is-alone sz (h .1 .0) m (h .1 .1 .core) i hi (omega (arith, eqb-true (getD m i 0) 4 ec)) (omega (arith, eqb-true (getD m i 0) 4 ec)) in (
         h .0,
         (
           withA i 1 (h .1 .0),
-          sets-C D I sz (preds (withZ F Z′) b) (F .X b) i 1 (h .1 .0) m
+          sets-C sz (preds (withZ F Z′) b) (F .X b) i 1 (h .1 .0) m
               (sets-Z (preds F b) (hide i (preds (withZ F Z′) b)) (F .X b) (F .X b) i (h .1 .0) m (shrink-hide F Z′ b i (h .1 .0) (λ j z n. o .1 j z)) (λ j x. x) (h .1 .1))
               hi (eqb-true _ _ ec) (lit≤ tt) (lit< tt) (o .0) (λ z. absurd (omega arith))
               (λ z. absurd (omega (arith, it .1, eqb-true (getD m i 0) 4 ec, h .1 .1 .more .zs i hi (o .1 i z)))),
@@ -259,7 +259,7 @@ module _ (D I : ℕ) (sz : Tiled D I) (P : ℕ) where
   tell-fine : (F : Fam) (Z′ : ℕ → Type 0) (b i : ℕ) (m : List ℕ) (x s n a : Bool) → ltb i I ≡ x → eqb (getD m i 0) 3 ≡ s → eqb (getD m i 0) 2 ≡ n → Good-at F (suc b) refining i false m → On-ask F Z′ a (lookRefining b i m x s n)
       → Good (withZ F Z′) (at (suc b) refining (i + 1) m)
   tell-fine F Z′ b i m false s n a ex es en g o = absurd o
-  tell-fine F Z′ b i m true true n a ex es en g o = (g .0, (c, fine-ask D I sz (preds (withZ F Z′) b) (F .X b) i c m (fine-Z (preds F b) (preds (withZ F Z′) b) (F .X b) (F .X b) i c m (grow a o) (λ j x. x) (g .1 .1)) hi (eqb-true _ _ es) (got a o)))
+  tell-fine F Z′ b i m true true n a ex es en g o = (g .0, (c, fine-ask sz (preds (withZ F Z′) b) (F .X b) i c m (fine-Z (preds F b) (preds (withZ F Z′) b) (F .X b) (F .X b) i c m (grow a o) (λ j x. x) (g .1 .1)) hi (eqb-true _ _ es) (got a o)))
     where
       c : Cfg
       c = g .1 .0
@@ -268,7 +268,7 @@ module _ (D I : ℕ) (sz : Tiled D I) (P : ℕ) where
       hi = ltb-true i I ex
 
       it : (alone D I c i ≡ true) × (c .al i ≡ getD m i 0)
-      it = is-alone D I sz c m (g .1 .1 .core) i hi (omega (arith, eqb-true (getD m i 0) 3 es)) (omega (arith, eqb-true (getD m i 0) 3 es))
+      it = is-alone sz c m (g .1 .1 .core) i hi (omega (arith, eqb-true (getD m i 0) 3 es)) (omega (arith, eqb-true (getD m i 0) 3 es))
 
       got : (a : Bool) → Learned F Z′ (bitOf i b) a → F .X b i
       got true o = o .0
@@ -291,7 +291,7 @@ module _ (D I : ℕ) (sz : Tiled D I) (P : ℕ) where
     g .0,
     (
       withA i 2 (g .1 .0),
-      pix-one D I sz (preds (withZ F Z′) b) (F .X b) i (g .1 .0) m
+      pix-one sz (preds (withZ F Z′) b) (F .X b) i (g .1 .0) m
           (pix-Z (hide i (preds F b)) (hide i (preds (withZ F Z′) b)) (F .X b) (F .X b) i (g .1 .0) m (both-hide F Z′ b i (g .1 .0) (o .1)) (λ j x. x) (g .1 .1)) (g .2) (g .3) (g .4) (o .0),
     ),
   )
@@ -299,7 +299,7 @@ module _ (D I : ℕ) (sz : Tiled D I) (P : ℕ) where
     g .0,
     (
       withA i 2 (g .1 .0),
-      sets-C D I sz (preds (withZ F Z′) b) (F .X b) i 2 (g .1 .0) m
+      sets-C sz (preds (withZ F Z′) b) (F .X b) i 2 (g .1 .0) m
           (sets-Z (hide i (preds F b)) (hide i (preds (withZ F Z′) b)) (F .X b) (F .X b) i (g .1 .0) m (both-hide F Z′ b i (g .1 .0) (o .1)) (λ j x. x) (g .1 .1)) (g .2) (g .3) (lit≤ tt) (lit< tt) (g .4) (λ z. o .0) (λ z. lit≤ tt),
     ),
   )

@@ -120,7 +120,7 @@ up-big x h = go (decLt x 5)
     go (yes k) = absurd (omega (arith, h, up-low x k))
     go (no k) = omega arith
 
-module _ (D I : ℕ) (sz : Tiled D I) where
+module _ {D I : ℕ} (sz : Tiled D I) where
   abbrev pub Gap : Cfg → (ℕ → ℕ) → ℕ → Type 0
   Gap c m j = (k : ℕ) → j < k → k < j + skip (m j) → k < I → (alone D I c k ≡ false) × (m k ≡ 0)
 

@@ -44,7 +44,7 @@ below-under (suc n) g i h = go (or-cases (eqb (i / 4) g) (below n g (i / 4)) h) 
     go (inl e) ih = kid (eqb-true (i / 4) g e)
     go (inr e) ih = far (ih e)
 
-module _ (N D P : ℕ) (sz : Tiled D (4 ^ N)) where
+module _ (N : ℕ) {D : ℕ} (P : ℕ) (sz : Tiled D (4 ^ N)) where
   abbrev I : ℕ
   I = 4 ^ N
 
@@ -61,9 +61,9 @@ module _ (N D P : ℕ) (sz : Tiled D (4 ^ N)) where
   }
 
   abbrev pub Ok-at : Fam → State → Type 0
-  Ok-at F s = Good D I sz P F s
+  Ok-at F s = Good sz P F s
 
-  pub learned : (A k : Bits) (q : Question) (a : Bool) → ans N A q ≡ a → Learned D I sz P (withZ (fam A (know q a k)) (λ j. (e : ℕ) × (k .has j e ≡ true))) (λ j. (e : ℕ) × ((know q a k) .has j e ≡ true)) q a
+  pub learned : (A k : Bits) (q : Question) (a : Bool) → ans N A q ≡ a → Learned sz P (withZ (fam A (know q a k)) (λ j. (e : ℕ) × (k .has j e ≡ true))) (λ j. (e : ℕ) × ((know q a k) .has j e ≡ true)) q a
   unfolding ans inside
   learned A k (bitOf i b) true e = ((λ h. know-one i b k), λ j z n. (z .0, know-other i b k j (z .0) (z .1) n))
   learned A k (bitOf i b) false e = ((λ h. absurd (true≢false (sym h ∙ e))), λ j z. (z .0, unfold know in z .1))
@@ -86,7 +86,7 @@ module _ (N D P : ℕ) (sz : Tiled D (4 ^ N)) where
   abbrev pub Zof : Bits → ℕ → Type 0
   Zof k j = (e : ℕ) × (k .has j e ≡ true)
 
-  on-ask : (A k : Bits) (a : Bool) (L : Look) → told N A (asked I L) a → On-ask D I sz P (withZ (fam A (knowO (asked I L) a k)) (Zof k)) (Zof (knowO (asked I L) a k)) a L
+  on-ask : (A k : Bits) (a : Bool) (L : Look) → told N A (asked I L) a → On-ask sz P (withZ (fam A (knowO (asked I L) a k)) (Zof k)) (Zof (knowO (asked I L) a k)) a L
   on-ask A k a over t = t
   on-ask A k a (silent s) t = t
   on-ask A k a (asks q) t = learned A k q a t
@@ -102,8 +102,8 @@ module _ (N D P : ℕ) (sz : Tiled D (4 ^ N)) where
 
   pub one-bit : (A k : Bits) (s : State) (a : Bool) → Ok-at (fam A k) s → told N A (ask I s) a → Ok-at (fam A (knowO (ask I s) a k)) (next I s a)
   unfolding ask _⊑_
-  one-bit A k s a g t = good-next D I sz P (withZ (fam A (knowO (ask I s) a k)) (Zof k)) (Zof (knowO (ask I s) a k)) s a
-      (good-mono D I sz P (fam A k) (withZ (fam A (knowO (ask I s) a k)) (Zof k))
+  one-bit A k s a g t = good-next sz P (withZ (fam A (knowO (ask I s) a k)) (Zof k)) (Zof (knowO (ask I s) a k)) s a
+      (good-mono sz P (fam A k) (withZ (fam A (knowO (ask I s) a k)) (Zof k))
       (λ b j z h. growsO (ask I s) a k j b (z h)) (negO A k (ask I s) a t) (λ b j z. z) (λ b j z. z) (λ j z. z) s g) (on-ask A k a (look I s) t)
 
   -- along a run
