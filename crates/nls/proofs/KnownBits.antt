@@ -25,12 +25,11 @@ use Rattle.nls.proofs.Arrays.{Bits, bits-of, ans}
 use Rattle.nls.proofs.Judging.Most.{told, Fits}
 use Rattle.nls.proofs.Machine.Table.{Cfg, alone}
 use Rattle.nls.proofs.Machine.Cover.{Core, More, is-alone}
-use Rattle.nls.proofs.Machine.Steps.{Good-at, From, preds}
+use Rattle.nls.proofs.Machine.Steps.{Good-at, From, preds, from-good}
 use Rattle.nls.proofs.Machine.Start.{good-start}
 use Rattle.nls.proofs.Machine.Start as first
 use Rattle.nls.proofs.Reading.Know.{know, knowO, add, least, know-sgn-has}
 use Rattle.nls.proofs.Reading.Whole.{fam, one-bit, run}
-use Rattle.nls.proofs.Reading.Prefix.{from-good}
 use Rattle.nls.proofs.Kept.{AfterMove, settle-keeps}
 use Rattle.nls.proofs.Lists.{arrOf}
 use Rattle.nls.proofs.Streams.{begins-iff}
@@ -62,7 +61,7 @@ module _ (N L : ℕ) (size : Sized N L) (P : ℕ) (A : List ℤ) (under : (i : �
   B = bits-of (arrOf A)
 
   abbrev Good : Bits → ℕ → Pass → ℕ → Bool → List ℕ → Type 0
-  Good k l p i w m = Good-at sz P (fam N P sz B k) l p i w m
+  Good k l p i w m = Good-at sz P (fam N B k) l p i w m
 
   -- Of a scan at s: what is noted of a coefficient are A's bits, down to its plane; a bit that was read lies at its plane or above,
   -- but the one whose sign is still to come; and that is A's highest.
@@ -81,12 +80,12 @@ module _ (N L : ℕ) (size : Sized N L) (P : ℕ) (A : List ℤ) (under : (i : �
       on false q = refl
       on true q =
           absurd
-          (let seen : k .has j e ≡ true = from-good N P sz (fam N P sz B k) l p i w m g e a (omega (arith, h .most j hj)) j hj q in
+          (let seen : k .has j e ≡ true = from-good sz P (fam N B k) l p i w m g e a (omega (arith, h .most j hj)) j hj q in
           omega (arith, r .own j e hj seen (λ x y z. omega arith)))
 
   -- a coefficient whose mark is MIP or MCP has no bit in a finished plane
-  unfound : (k : Bits) (b i : ℕ) (m : List ℕ) (c : Cfg) → From sz P (fam N P sz B k) (suc b)
-      → Core sz c m → More sz (preds (fam N P sz B k) b) c → i < I → (getD m i 0 ≡ 1) ⊎ (getD m i 0 ≡ 4)
+  unfound : (k : Bits) (b i : ℕ) (m : List ℕ) (c : Cfg) → From sz P (fam N B k) (suc b)
+      → Core sz c m → More sz (preds (fam N B k) b) c → i < I → (getD m i 0 ≡ 1) ⊎ (getD m i 0 ≡ 4)
       → (e : ℕ) → suc b ≤ e → e < P → bit (magAt A i) e ≡ false
   unfound k b i m c f core more hi v e a u = on (bit (magAt A i) e) refl
     where
@@ -292,7 +291,7 @@ module _ (N L : ℕ) (size : Sized N L) (P : ℕ) (A : List ℤ) (under : (i : �
 
   -- before the first bit
   good-begin : Good-of first.nothing (begin N L P)
-  good-begin = good-start sz P (fam N P sz B first.nothing) (λ j z. false≢true (z .1))
+  good-begin = good-start sz P (fam N B first.nothing) (λ j z. false≢true (z .1))
 
   right-begin : Right (begin N L P) (nothing N P) first.nothing
   unfolding scan.start

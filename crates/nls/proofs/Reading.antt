@@ -1,3 +1,2 @@
 pub mod Know
 pub mod Whole
-pub mod Prefix

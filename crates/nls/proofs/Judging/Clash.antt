@@ -34,10 +34,7 @@ pub via : (q j : ℕ) → Under q (j / 4) → (h : ℕ) × (h / 4 ≡ q) × Unde
 via q j (kid e) = (j / 4, e, kid refl)
 via q j (far u) = let r : (h : ℕ) × (h / 4 ≡ q) × Under h (j / 4) = via q (j / 4) u in (r .0, r .1, far (r .2))
 
-module _ (N : ℕ) {D : ℕ} (P : ℕ) (sz : Tiled D (4 ^ N)) where
-  abbrev I : ℕ
-  I = 4 ^ N
-
+module _ {D I : ℕ} (sz : Tiled D I) where
   -- nothing in a set that stands is alone
   pub dead-D : (c : Cfg) → Ok D I c → (h j : ℕ) → D ≤ 4 * h → c .sD h ≡ false → Under h j → alone D I c j ≡ false
   dead-D c o h j a n (kid e) = alone-no D I c j (omega arith) (subst (λ (x : ℕ). c .sD x ≡ false) (sym e) n)
@@ -60,9 +57,13 @@ module _ (N : ℕ) {D : ℕ} (P : ℕ) (sz : Tiled D (4 ^ N)) where
       go (yes z) ih = (j / 4, omega arith, z, kid refl)
       go (no z) ih = let r : (h : ℕ) × (D ≤ 4 * h) × (h < D) × Under h (j / 4) = ih (omega arith) (omega arith) in (r .0, r .1, r .2, far (r .3))
 
+module _ (N : ℕ) {D : ℕ} (P : ℕ) (sz : Tiled D (4 ^ N)) where
+  abbrev I : ℕ
+  I = 4 ^ N
+
   module _ (A k : Bits) (va : Valid I P A) (b t : ℕ) (m : List ℕ) (c : Cfg) (ti : t < I)
-      (above : From sz P (fam N P sz A k) (suc b))
-      (p : Sets sz (preds (fam N P sz A k) b) (Known A k b) t c m) where
+      (above : From sz P (fam N A k) (suc b))
+      (p : Sets sz (preds (fam N A k) b) (Known A k b) t c m) where
     kk : Core sz c m
     kk = p .core
 
@@ -98,7 +99,7 @@ module _ (N : ℕ) {D : ℕ} (P : ℕ) (sz : Tiled D (4 ^ N)) where
         let is : (4 * h % 4 ≡ 0) × (stands D I c (4 * h / 4) ≡ true) × (c .sD (4 * h / 4) ≡ false) × (D ≤ 4 * h) = is-D sz c m kk (4 * h) (omega arith) mk in
         let st : stands D I c h ≡ true = subst (λ (x : ℕ). stands D I c x ≡ true) {x = 4 * h / 4} {y = h} (omega arith) (is .1) in
         let no : c .sD h ≡ false = subst (λ (x : ℕ). c .sD x ≡ false) {x = 4 * h / 4} {y = h} (omega arith) (is .2) in
-        true≢false (sym ((known j hj a (p .dD h lo (omega arith) ht st no j hj u)) .0) ∙ dead-D c (kk .ok) h j lo no u)
+        true≢false (sym ((known j hj a (p .dD h lo (omega arith) ht st no j hj u)) .0) ∙ dead-D sz c (kk .ok) h j lo no u)
 
     unsplit : (h : ℕ) → 4 * h < I → getD m (4 * h) 0 ≡ 5 → c .sD h ≡ false
     unsplit h hi mk = subst (λ (x : ℕ). c .sD x ≡ false) {x = 4 * h / 4} {y = h} (omega arith) ((is-D sz c m kk (4 * h) hi mk) .2)
@@ -120,7 +121,7 @@ module _ (N : ℕ) {D : ℕ} (P : ℕ) (sz : Tiled D (4 ^ N)) where
         go : (t ≡ 16 * (t / 16)) × (c .sD (t / 16) ≡ true) × (c .sG (t / 16) ≡ false) × (D ≤ 4 * (t / 16)) × (alone D I c t ≡ false)
             → (j e : ℕ) → j < I → Under (t / 16) j → b ≤ e → A .has j e ≡ true → ans N A (inGrand (t / 16) b) ≡ true
         go is j e hj (kid z) h a = absurd (mip j e hj (f j z) h a)
-        go is j e hj (far u) h a = yes-G (t / 16) j (omega (arith, is .3)) hj u (only-b j e hj (dead-G c (kk .ok) (t / 16) j (is .3) (is .2) u) h a)
+        go is j e hj (far u) h a = yes-G (t / 16) j (omega (arith, is .3)) hj u (only-b j e hj (dead-G sz c (kk .ok) (t / 16) j (is .3) (is .2) u) h a)
 
     pub clash-child : getD m t 0 ≡ 4 → t % 4 ≡ 3 → I ≤ 16 * (t / 4) → ((j : ℕ) → j / 4 ≡ t / 4 → j < t → getD m j 0 ≡ 1) → ans N A (bitOf t b) ≡ true
     unfolding ans
@@ -169,11 +170,11 @@ module _ (N : ℕ) {D : ℕ} (P : ℕ) (sz : Tiled D (4 ^ N)) where
         go : (j e h : ℕ) → j < I → h / 4 ≡ t / 4 / 4 → Under h j → b ≤ e → A .has j e ≡ true → Dec (h ≡ t / 4) → ans N A (inDesc (t / 4) b) ≡ true
         go j e h hj z u be a (yes q) =
             let u′ : Under (t / 4) j = subst (λ (x : ℕ). Under x j) q u in
-            yes-D (t / 4) j (omega arith) hj u′ (only-b j e hj (dead-D c (kk .ok) (t / 4) j (omega (arith, is .3)) (is .2) u′) be a)
+            yes-D (t / 4) j (omega arith) hj u′ (only-b j e hj (dead-D sz c (kk .ok) (t / 4) j (omega (arith, is .3)) (is .2) u′) be a)
         go j e h hj z u be a (no q) =
             let mh : getD m (4 * h) 0 ≡ 5 = f h z (omega arith) in
             let lo : D ≤ 4 * h = omega arith in
-            absurd (past-D h j lo (omega arith) mh hj u (only-b j e hj (dead-D c (kk .ok) h j lo (unsplit h (omega arith) mh) u) be a))
+            absurd (past-D h j lo (omega arith) mh hj u (only-b j e hj (dead-D sz c (kk .ok) h j lo (unsplit h (omega arith) mh) u) be a))
 
     pub clash-root : getD m t 0 ≡ 5 → t + 4 ≡ 4 * D → suc b ≡ P → ((j : ℕ) → j < D → getD m j 0 ≡ 1) → ((h : ℕ) → D ≤ 4 * h → 4 * h < t → getD m (4 * h) 0 ≡ 5) → ans N A (inDesc (t / 4) b) ≡ true
     clash-root mk te bp f1 f2 =
@@ -184,7 +185,7 @@ module _ (N : ℕ) {D : ℕ} (P : ℕ) (sz : Tiled D (4 ^ N)) where
         go : (j : ℕ) → j < I → A .has j b ≡ true → Dec (j < D) → ans N A (inDesc (t / 4) b) ≡ true
         go j hj a (yes z) = absurd (mip j b hj (f1 j z) (omega arith) a)
         go j hj a (no z) =
-            let r : (h : ℕ) × (D ≤ 4 * h) × (h < D) × Under h j = root j j (omega arith) (omega arith) in
+            let r : (h : ℕ) × (D ≤ 4 * h) × (h < D) × Under h j = root sz j j (omega arith) (omega arith) in
             at-root (r .0) (r .1) (r .2) (r .3) (ℕ-discrete (4 * r .0) t)
           where
             at-root : (h : ℕ) → D ≤ 4 * h → h < D → Under h j → Dec (4 * h ≡ t) → ans N A (inDesc (t / 4) b) ≡ true

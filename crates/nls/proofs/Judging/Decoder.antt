@@ -70,7 +70,7 @@ module _ (N : ℕ) {D : ℕ} (P : ℕ) (sz : Tiled D (4 ^ N)) where
   -- SOUND: at a clash every array that fits answers 1
   module _ (A k : Bits) (va : Valid I P A) where
     sound-sets : (b i : ℕ) (m : List ℕ) (x d g c : Bool) → ltb i I ≡ x → eqb (getD m i 0) 5 ≡ d → eqb (getD m i 0) 6 ≡ g → eqb (getD m i 0) 4 ≡ c
-        → Good-at sz P (fam N P sz A k) (suc b) sets i false m → Clash D I P b i m → told N A (asked I (lookSets b i m x d g c)) false → ⊥
+        → Good-at sz P (fam N A k) (suc b) sets i false m → Clash D I P b i m → told N A (asked I (lookSets b i m x d g c)) false → ⊥
     sound-sets b i m false d g c ex ed eg ec z n t = t
     sound-sets b i m true false false false ex ed eg ec z n t = t
     sound-sets b i m true true g c ex ed eg ec z (last-child a n1 n2 n3) t = omega (arith, eqb-true (getD m i 0) 5 ed)
@@ -86,7 +86,7 @@ module _ (N : ℕ) {D : ℕ} (P : ℕ) (sz : Tiled D (4 ^ N)) where
     sound-sets b i m true false false true ex ed eg ec z (last-desc a n1 n2 n3) t = omega (arith, eqb-true (getD m i 0) 4 ec)
     sound-sets b i m true false false true ex ed eg ec z (last-root a n1 n2 n3 n4) t = omega (arith, eqb-true (getD m i 0) 4 ec)
 
-    sound-at : (l : ℕ) (p : Pass) (i : ℕ) (s : Bool) (m : List ℕ) → Good-at sz P (fam N P sz A k) l p i s m → Clash-at N P sz l p i s m → told N A (asked I (lookAt I l p i s m)) false → ⊥
+    sound-at : (l : ℕ) (p : Pass) (i : ℕ) (s : Bool) (m : List ℕ) → Good-at sz P (fam N A k) l p i s m → Clash-at N P sz l p i s m → told N A (asked I (lookAt I l p i s m)) false → ⊥
     sound-at zero p i s m z n t = n
     sound-at (suc b) pixels i s m z n t = n
     sound-at (suc b) refining i s m z n t = n
@@ -99,7 +99,7 @@ module _ (N : ℕ) {D : ℕ} (P : ℕ) (sz : Tiled D (4 ^ N)) where
       let f : Starts (w .0) u = fit-prefix N (w .0) S u (false ∷ []) (w .2) in
       let r : State = reach (4 ^ N) S u in
       sound-at (w .0) (least N State (ask I) (next I) S u nothing) (w .1) (r .left) (r .pass) (r .place) (r .pending) (r .marks)
-      (run N P sz (w .0) nothing S u (good-start sz P (fam N P sz (w .0) nothing) (λ j z. false≢true (z .1))) f) n
+      (run N P sz (w .0) nothing S u (good-start sz P (fam N (w .0) nothing) (λ j z. false≢true (z .1))) f) n
       ((fit-split (w .0) S u (false ∷ []) (w .2)) .0)
 
   -- THE TEST IS THE CLASH, after any bits that some array fits

@@ -50,16 +50,16 @@ module _ (N : ℕ) {D : ℕ} (P : ℕ) (sz : Tiled D (4 ^ N)) where
   module _ (c : Cfg) (o : Ok D I c) where
     pub whole-D : (g x : ℕ) → D ≤ 4 * g → c .sD g ≡ false → Under g x → c .sD x ≡ true → ⊥
     whole-D g x lo n w d = true≢false (sym d ∙ subst (λ (y : ℕ). c .sD y ≡ false) {x = 4 * x / 4} {y = x} (omega arith)
-        ((no-alone D I c (4 * x) (dead-D N P sz c o g (4 * x) lo n (far {i = 4 * x} (subst (λ (y : ℕ). Under g y) {x = x} {y = 4 * x / 4} (omega arith) w)))) .1))
+        ((no-alone D I c (4 * x) (dead-D sz c o g (4 * x) lo n (far {i = 4 * x} (subst (λ (y : ℕ). Under g y) {x = x} {y = 4 * x / 4} (omega arith) w)))) .1))
 
     whole-G : (q x : ℕ) → D ≤ 4 * q → c .sG q ≡ false → Under q x → c .sD x ≡ true → ⊥
     whole-G q x lo n w d = true≢false (sym d ∙ subst (λ (y : ℕ). c .sD y ≡ false) {x = 4 * x / 4} {y = x} (omega arith)
-        ((no-alone D I c (4 * x) (dead-G N P sz c o q (4 * x) lo n (subst (λ (y : ℕ). Under q y) {x = x} {y = 4 * x / 4} (omega arith) w))) .1))
+        ((no-alone D I c (4 * x) (dead-G sz c o q (4 * x) lo n (subst (λ (y : ℕ). Under q y) {x = x} {y = 4 * x / 4} (omega arith) w))) .1))
 
   module _ (W k : Bits) (vv : Bool) (O : Question → Type 0) (k⊑W : (j e : ℕ) → k .has j e ≡ true → W .has j e ≡ true) (cap : (j e : ℕ) → W .has j e ≡ true → e < P)
       (b t : ℕ) (m : List ℕ) (c : Cfg) (ti : t < I) where
     -- the pixel pass
-    module _ (p : InPix N P sz W vv (preds (fam N P sz W k) b) k W O b t c m) (mk : getD m t 0 ≡ 1) where
+    module _ (p : InPix N P sz W vv (preds (fam N W k) b) k W O b t c m) (mk : getD m t 0 ≡ 1) where
       it-p : (alone D I c t ≡ true) × (c .al t ≡ getD m t 0)
       it-p = is-alone sz c m (p .g .core) t ti (omega (arith, mk)) (omega (arith, mk))
 
@@ -78,7 +78,7 @@ module _ (N : ℕ) {D : ℕ} (P : ℕ) (sz : Tiled D (4 ^ N)) where
       open-pix = (t, ti, refl, p .fr .todo t ti (λ l u z. omega arith))
 
     -- the refinement pass
-    module _ (p : InFine N P sz W vv (preds (fam N P sz W k) b) k W O b t c m) (mk : getD m t 0 ≡ 3) where
+    module _ (p : InFine N P sz W vv (preds (fam N W k) b) k W O b t c m) (mk : getD m t 0 ≡ 3) where
       it-f : (alone D I c t ≡ true) × (c .al t ≡ getD m t 0)
       it-f = is-alone sz c m (p .g .core) t ti (omega (arith, mk)) (omega (arith, mk))
 
@@ -97,20 +97,20 @@ module _ (N : ℕ) {D : ℕ} (P : ℕ) (sz : Tiled D (4 ^ N)) where
       open-fine = (t, ti, refl, p .ho .op t (it-f .0) (it-f .1 ∙ mk) (omega arith))
 
     -- the set pass
-    module _ (above : From sz P (fam N P sz W k) (suc b)) (p : InSets N P sz W vv (preds (fam N P sz W k) b) k W O b t c m) where
-      fs : Fresh N P sz W k b t c
-      fs = fresh-of N P sz W k b t c m ti (p .g .core) (p .fr)
+    module _ (above : From sz P (fam N W k) (suc b)) (p : InSets N P sz W vv (preds (fam N W k) b) k W O b t c m) where
+      fs : Fresh sz W k b t c
+      fs = fresh-of sz W k b t c m ti (p .g .core) (p .fr)
 
       -- a spare place that lies in every set round the question
-      useD : (Sp In : ℕ → Type 0) → Spare N P sz W k b Sp → ((j : ℕ) → Sp j → In j → ⊥) → (h : ℕ) → O (inDesc h b) → ((j : ℕ) → Sp j → Under h j) → (j : ℕ) × (j < I) × Under h j × (W .has j b ≡ true) × (In j → ⊥) × (1 ≤ h)
+      useD : (Sp In : ℕ → Type 0) → Spare sz W k b Sp → ((j : ℕ) → Sp j → In j → ⊥) → (h : ℕ) → O (inDesc h b) → ((j : ℕ) → Sp j → Under h j) → (j : ℕ) × (j < I) × Under h j × (W .has j b ≡ true) × (In j → ⊥) × (1 ≤ h)
       useD Sp In (now j hj s w) n h o f = (j, hj, f j s, w, n j s, omega (arith, p .g .core .ok .lo h ((p .de .oD h b o) .0)))
       useD Sp In (past j e hj s l w) n h o f = absurd (omega (arith, l, (p .de .oD h b o) .2 j e hj (f j s) w))
 
-      useG : (Sp In : ℕ → Type 0) → Spare N P sz W k b Sp → ((j : ℕ) → Sp j → In j → ⊥) → (h : ℕ) → O (inGrand h b) → ((j : ℕ) → Sp j → Under h (j / 4)) → (j : ℕ) × (j < I) × Under h (j / 4) × (W .has j b ≡ true) × (In j → ⊥) × (1 ≤ h)
+      useG : (Sp In : ℕ → Type 0) → Spare sz W k b Sp → ((j : ℕ) → Sp j → In j → ⊥) → (h : ℕ) → O (inGrand h b) → ((j : ℕ) → Sp j → Under h (j / 4)) → (j : ℕ) × (j < I) × Under h (j / 4) × (W .has j b ≡ true) × (In j → ⊥) × (1 ≤ h)
       useG Sp In (now j hj s w) n h o f = (j, hj, f j s, w, n j s, omega (arith, p .g .core .ok .lo h (p .g .core .ok .gd h ((p .de .oG h b o) .0))))
       useG Sp In (past j e hj s l w) n h o f = absurd (omega (arith, l, (p .de .oG h b o) .2 j e hj (f j s) w))
 
-      useT : (Sp In : ℕ → Type 0) → Spare N P sz W k b Sp → ((j : ℕ) → Sp j → In j → ⊥) → suc b ≡ P → (j : ℕ) × (j < I) × (W .has j b ≡ true) × (In j → ⊥)
+      useT : (Sp In : ℕ → Type 0) → Spare sz W k b Sp → ((j : ℕ) → Sp j → In j → ⊥) → suc b ≡ P → (j : ℕ) × (j < I) × (W .has j b ≡ true) × (In j → ⊥)
       useT Sp In (now j hj s w) n e = (j, hj, w, n j s)
       useT Sp In (past j x hj s l w) n e = absurd (omega (arith, l, cap j x (k⊑W j x w)))
 
@@ -130,7 +130,7 @@ module _ (N : ℕ) {D : ℕ} (P : ℕ) (sz : Tiled D (4 ^ N)) where
           eT = useT SpC (λ j. j ≡ t) sp (λ j s q. s .1 q);
         }
           where
-            sp : Spare N P sz W k b SpC
+            sp : Spare sz W k b SpC
             sp = room-child N P sz W k k⊑W cap b t m c ti above (p .g) fs mk n
 
             inD : (h j : ℕ) → Under h t → Under (t / 4) j → Under h j
@@ -168,9 +168,9 @@ module _ (N : ℕ) {D : ℕ} (P : ℕ) (sz : Tiled D (4 ^ N)) where
         }
           where
             known : (j : ℕ) → O (bitOf j b) → Under (t / 4) j → j < I → ⊥
-            known j o u hj = true≢false (sym ((p .g .more .zs j hj (b, (p .de .oO j b o) .0)) .0) ∙ dead-D N P sz c (p .g .core .ok) (t / 4) j lo-d (is-d .2) u)
+            known j o u hj = true≢false (sym ((p .g .more .zs j hj (b, (p .de .oO j b o) .0)) .0) ∙ dead-D sz c (p .g .core .ok) (t / 4) j lo-d (is-d .2) u)
 
-            sp : 4 * D ≤ t → Spare N P sz W k b SpD
+            sp : 4 * D ≤ t → Spare sz W k b SpD
             sp h = room-desc N P sz W k k⊑W cap b t m c ti above (p .g) fs mk h n
 
             doD : (h x : ℕ) → O (inDesc h b) → Under h x → Under (t / 4) x → Cmp h (t / 4) → (j : ℕ) × (j < I) × Under h j × (W .has j b ≡ true) × (Under (t / 4) j → ⊥) × (1 ≤ h)
@@ -225,9 +225,9 @@ module _ (N : ℕ) {D : ℕ} (P : ℕ) (sz : Tiled D (4 ^ N)) where
         }
           where
             known : (j : ℕ) → O (bitOf j b) → Under (t / 16) (j / 4) → j < I → ⊥
-            known j o u hj = true≢false (sym ((p .g .more .zs j hj (b, (p .de .oO j b o) .0)) .0) ∙ dead-G N P sz c (p .g .core .ok) (t / 16) j (is-g .3) (is-g .2) u)
+            known j o u hj = true≢false (sym ((p .g .more .zs j hj (b, (p .de .oO j b o) .0)) .0) ∙ dead-G sz c (p .g .core .ok) (t / 16) j (is-g .3) (is-g .2) u)
 
-            sp : Spare N P sz W k b SpG
+            sp : Spare sz W k b SpG
             sp = room-grand N P sz W k k⊑W cap b t m c ti above (p .g) fs mk n
 
             doD : (h x : ℕ) → O (inDesc h b) → Under h x → Under (t / 16) (x / 4) → (j : ℕ) × (j < I) × Under h j × (W .has j b ≡ true) × (Under (t / 16) (j / 4) → ⊥) × (1 ≤ h)

@@ -183,7 +183,7 @@ module _ (N : ℕ) {D : ℕ} (P : ℕ) (sz : Tiled D (4 ^ N)) where
         go : Dec (h < D) → ⊥
         go (yes y) = true≢false (sym s ∙ unsplit n h (kk .ok .lo h s) y)
         go (no y) =
-            let r : (g : ℕ) × (D ≤ 4 * g) × (g < D) × Under g h = root N P sz h h (omega arith) (omega arith) in
+            let r : (g : ℕ) × (D ≤ 4 * g) × (g < D) × Under g h = root sz h h (omega arith) (omega arith) in
             whole-D N P sz (z .1 .0) (kk .ok) (r .0) h (r .1) (unsplit n (r .0) (r .1) (r .2)) (r .3) s
 
     none-owed : None D i m → (p : Question) → Plain p → O p → ⊥

@@ -2,7 +2,7 @@
 use mathlib.Core.Path.{_≡_, refl, sym, ap, subst, _∙_}
 use mathlib.Core.Bool.{true, false, true≢false}
 use mathlib.Core.List.{List}
-use Prim.Native.Nat.{ℕ, suc, _+_, _*_, _/_, _%_, _^_, _≤_, _<_}
+use Prim.Native.Nat.{ℕ, suc, _+_, _*_, _/_, _%_, _≤_, _<_}
 use native.Mathlib.Omega.{arith}
 use native.Mathlib.Decide.{ℕ-discrete}
 use lib.ListN.{length, getD, set}
@@ -17,10 +17,7 @@ use Rattle.nls.proofs.Machine.Cover.{Under, kid, far, Core, Preds, Pix,
 use Rattle.nls.proofs.Judging.Clash.{dead-D, dead-G}
 use Rattle.nls.proofs.Judging.Apart.{apart-DD, apart-GD, apart-GG, grand-of}
 
-module _ (N : ℕ) {D : ℕ} (P : ℕ) (sz : Tiled D (4 ^ N)) where
-  abbrev I : ℕ
-  I = 4 ^ N
-
+module _ {D I : ℕ} (sz : Tiled D I) where
   pub record PixFr (T M : ℕ → ℕ → Type 0) (b t : ℕ) (m : List ℕ) : Type 0 where
     pub todo : (j : ℕ) → j < I → (1 ≤ getD m j 0 → getD m j 0 ≤ 2 → j < t → ⊥) → T b j
     pub m2 : (j : ℕ) → j < I → getD m j 0 ≡ 2 → M b j
@@ -82,8 +79,8 @@ module _ (N : ℕ) {D : ℕ} (P : ℕ) (sz : Tiled D (4 ^ N)) where
       pub frp-end : (t : ℕ) (c : Cfg) (m : List ℕ) → PixR t c m → PixFr T M b t m → SetFr T M b 0 m
       frp-end t c m g p = record {
         f4 = λ j hj e. absurd (no4 j hj e);
-        fD = λ x hx z e j hj u. p .todo j hj (λ a1 a2 a3. clash j hj a1 a2 (dead-D N P sz c (g .core .ok) (x / 4) j (omega (arith, isD x hx e)) ((isD x hx e) .2) u));
-        fG = λ x hx z e j hj u. p .todo j hj (λ a1 a2 a3. clash j hj a1 a2 (dead-G N P sz c (g .core .ok) (x / 16) j ((isG x hx e) .3) ((isG x hx e) .2) u));
+        fD = λ x hx z e j hj u. p .todo j hj (λ a1 a2 a3. clash j hj a1 a2 (dead-D sz c (g .core .ok) (x / 4) j (omega (arith, isD x hx e)) ((isD x hx e) .2) u));
+        fG = λ x hx z e j hj u. p .todo j hj (λ a1 a2 a3. clash j hj a1 a2 (dead-G sz c (g .core .ok) (x / 16) j ((isG x hx e) .3) ((isG x hx e) .2) u));
         m2 = p .m2;
         m3 = p .m3;
         c4 = λ hx e. absurd (no4 0 hx e);
@@ -148,11 +145,11 @@ module _ (N : ℕ) {D : ℕ} (P : ℕ) (sz : Tiled D (4 ^ N)) where
 
           inD : (x : ℕ) → x < I → getD m x 0 ≡ 5 → (j : ℕ) → Under (x / 4) j → alone D I c j ≡ false
           inD x hx e j u = let i : (x % 4 ≡ 0) × (stands D I c (x / 4) ≡ true) × (c .sD (x / 4) ≡ false) × (D ≤ x) = is-D sz c m (g .core) x hx e in
-              dead-D N P sz c (g .core .ok) (x / 4) j (omega arith) (i .2) u
+              dead-D sz c (g .core .ok) (x / 4) j (omega arith) (i .2) u
 
           inG : (x : ℕ) → x < I → getD m x 0 ≡ 6 → (j : ℕ) → Under (x / 16) (j / 4) → alone D I c j ≡ false
           inG x hx e j u = let i : (x ≡ 16 * (x / 16)) × (c .sD (x / 16) ≡ true) × (c .sG (x / 16) ≡ false) × (D ≤ 4 * (x / 16)) × (alone D I c x ≡ false) = is-G sz c m (g .core) x hx e in
-              dead-G N P sz c (g .core .ok) (x / 16) j (i .3) (i .2) u
+              dead-G sz c (g .core .ok) (x / 16) j (i .3) (i .2) u
 
           f4′ : (j : ℕ) → j < I → getD (set m t v) j 0 ≡ 4 → Dec (j ≡ t) → T′ b j
           f4′ j hj e (yes q) = absurd (omega (arith, at, ap (λ (x : ℕ). getD (set m t v) x 0) q))
@@ -217,15 +214,15 @@ module _ (N : ℕ) {D : ℕ} (P : ℕ) (sz : Tiled D (4 ^ N)) where
         -- marks of two standing sets
         marks-DD : (x y j : ℕ) → x < I → y < I → getD m x 0 ≡ 5 → getD m y 0 ≡ 5 → Under (x / 4) j → Under (y / 4) j → x ≡ y
         marks-DD x y j hx hy ex ey u v =
-            let e : x / 4 ≡ y / 4 = apart-DD N P sz c (k .ok) (x / 4) (y / 4) j (omega (arith, isD x hx ex)) ((isD x hx ex) .1) ((isD x hx ex) .2) (omega (arith, isD y hy ey)) ((isD y hy ey) .1) ((isD y hy ey) .2) u v in
+            let e : x / 4 ≡ y / 4 = apart-DD sz c (k .ok) (x / 4) (y / 4) j (omega (arith, isD x hx ex)) ((isD x hx ex) .1) ((isD x hx ex) .2) (omega (arith, isD y hy ey)) ((isD y hy ey) .1) ((isD y hy ey) .2) u v in
             omega (arith, isD x hx ex, isD y hy ey)
 
         marks-GD : (x y j : ℕ) → x < I → y < I → getD m x 0 ≡ 6 → getD m y 0 ≡ 5 → Under (x / 16) (j / 4) → Under (y / 4) j → ⊥
-        marks-GD x y j hx hy ex ey u v = apart-GD N P sz c (k .ok) (x / 16) (y / 4) j ((isG x hx ex) .3) ((isG x hx ex) .1) ((isG x hx ex) .2) (omega (arith, isD y hy ey)) ((isD y hy ey) .1) ((isD y hy ey) .2) u v
+        marks-GD x y j hx hy ex ey u v = apart-GD sz c (k .ok) (x / 16) (y / 4) j ((isG x hx ex) .3) ((isG x hx ex) .1) ((isG x hx ex) .2) (omega (arith, isD y hy ey)) ((isD y hy ey) .1) ((isD y hy ey) .2) u v
 
         marks-GG : (x y j : ℕ) → x < I → y < I → getD m x 0 ≡ 6 → getD m y 0 ≡ 6 → Under (x / 16) (j / 4) → Under (y / 16) (j / 4) → x ≡ y
         marks-GG x y j hx hy ex ey u v =
-            let e : x / 16 ≡ y / 16 = apart-GG N P sz c (k .ok) (x / 16) (y / 16) j ((isG x hx ex) .3) ((isG x hx ex) .1) ((isG x hx ex) .2) ((isG y hy ey) .3) ((isG y hy ey) .1) ((isG y hy ey) .2) u v in
+            let e : x / 16 ≡ y / 16 = apart-GG sz c (k .ok) (x / 16) (y / 16) j ((isG x hx ex) .3) ((isG x hx ex) .1) ((isG x hx ex) .2) ((isG y hy ey) .3) ((isG y hy ey) .1) ((isG y hy ey) .2) u v in
             omega (arith, (isG x hx ex) .0, (isG y hy ey) .0)
 
         mark-D′ : (x : ℕ) → x < I → x % 4 ≡ 0 → D ≤ x → stands D I c (x / 4) ≡ true → c .sD (x / 4) ≡ false → getD m x 0 ≡ 5

@@ -18,8 +18,8 @@ use Rattle.nls.proofs.Arrays.{Bits, ans, inside, below}
 use Rattle.nls.proofs.Machine.Table.{Cfg, alone, stands, alone-no}
 use Rattle.nls.proofs.Machine.Split.{withD, withG, withA, same-D, same-G, al-at, al-else, al-D-on, al-D-off, sD-off}
 use Rattle.nls.proofs.Machine.Push.{al-G, sD-G}
-use Rattle.nls.proofs.Machine.Cover.{Under, Preds, hide, is-alone, Pix, Sets, Fine, pix-hush, pix-zero, pix-one, pix-end, sets-hush, sets-D0, sets-D1, sets-G0, sets-G1, sets-C, sets-end, fine-hush, fine-ask, fine-np, fine-end, is-D, is-G}
-use Rattle.nls.proofs.Machine.Steps.{Fam, preds, From, more-Z, pix-Z, sets-Z, fine-Z, MoreI}
+use Rattle.nls.proofs.Machine.Cover.{Under, Preds, hide, is-alone, Pix, Sets, Fine, pix-hush, pix-zero, pix-one, pix-end, sets-hush, sets-D0, sets-D1, sets-G0, sets-G1, sets-C, sets-end, fine-hush, fine-ask, fine-np, fine-end, is-D, is-G, More}
+use Rattle.nls.proofs.Machine.Steps.{Fam, preds, From, more-Z, pix-Z, sets-Z, fine-Z}
 use Rattle.nls.proofs.Judging.Most.{_⊑_, told, afterO, after, clear, sign, stays, most, Fits}
 use Rattle.nls.proofs.Reading.Know.{know, knowO, know-grows, know-one, know-sgn-has, know-neg, add, least}
 use Rattle.nls.proofs.Reading.Whole.{fam, Known, Zof, learned, below-under}
@@ -75,25 +75,25 @@ module _ (N : ℕ) {D : ℕ} (P : ℕ) (sz : Tiled D (4 ^ N)) (W : Bits) (vv : B
   I = 4 ^ N
 
   abbrev pub G : Bits → Fam
-  G k = fam N P sz W k
+  G k = fam N W k
 
   pub record InPix (R : Preds) (k w : Bits) (O : Question → Type 0) (b t : ℕ) (c : Cfg) (m : List ℕ) : Type 0 where
     pub g : Pix sz R (Known W k b) t c m
-    pub fr : PixFr N P sz (T w) (M k) b t m
+    pub fr : PixFr sz (T w) (M k) b t m
     pub ho : Hold D I P w vv b 0 c
     pub de : Debt D I P O k b (suc b) 0 c
     pub np : suc b ≡ P → (h : ℕ) → c .sD h ≡ false
 
   pub record InSets (R : Preds) (k w : Bits) (O : Question → Type 0) (b t : ℕ) (c : Cfg) (m : List ℕ) : Type 0 where
     pub g : Sets sz R (Known W k b) t c m
-    pub fr : SetFr N P sz (T w) (M k) b t m
+    pub fr : SetFr sz (T w) (M k) b t m
     pub ho : Hold D I P w vv b 0 c
     pub de : Debt D I P O k b b 0 c
     pub rs : suc b ≡ P → (h : ℕ) → D ≤ 4 * h → h < D → t ≤ 4 * h → c .sD h ≡ true → c .al (4 * h) ≡ 4
 
   pub record InFine (R : Preds) (k w : Bits) (O : Question → Type 0) (b t : ℕ) (c : Cfg) (m : List ℕ) : Type 0 where
     pub g : Fine sz R (Known W k b) t c m
-    pub fr : FineFr N P sz (T w) (M k) b t m
+    pub fr : FineFr sz (T w) (M k) b t m
     pub ho : Hold D I P w vv b t c
     pub de : Debt D I P O k b b t c
 
@@ -129,7 +129,7 @@ module _ (N : ℕ) {D : ℕ} (P : ℕ) (sz : Tiled D (4 ^ N)) (W : Bits) (vv : B
             c,
             record {
               g = pix-end sz (preds (G k) b) (Known W k b) i c m (p .g) (ltb-false i I ex);
-              fr = frp-end N P sz (preds (G k) b) (Known W k b) (T w) (M k) b i c m (p .g) (p .fr);
+              fr = frp-end sz (preds (G k) b) (Known W k b) (T w) (M k) b i c m (p .g) (p .fr);
               ho = p .ho;
               de = debt-c D I P O k b (suc b) b 0 0 c c (p .de) (omega arith) (λ h e. e) (λ h e. e) (λ j e f. f e);
               rs = λ e h lo hd l y. absurd (true≢false (sym y ∙ p .np e h));
@@ -144,7 +144,7 @@ module _ (N : ℕ) {D : ℕ} (P : ℕ) (sz : Tiled D (4 ^ N)) (W : Bits) (vv : B
             c,
             record {
               g = pix-hush sz (preds (G k) b) (Known W k b) i c m (p .g) (ltb-true i I ex) (eqb-false _ _ ey);
-              fr = frp-hush N P sz (preds (G k) b) (Known W k b) (T w) (M k) b i (skip (getD m i 0)) m (p .fr);
+              fr = frp-hush sz (preds (G k) b) (Known W k b) (T w) (M k) b i (skip (getD m i 0)) m (p .fr);
               ho = p .ho;
               de = p .de;
               np = p .np;
@@ -165,7 +165,7 @@ module _ (N : ℕ) {D : ℕ} (P : ℕ) (sz : Tiled D (4 ^ N)) (W : Bits) (vv : B
             c,
             record {
               g = sets-end sz (preds (G k) b) (Known W k b) i c m (p .g) (ltb-false i I ex);
-              fr = frs-end N P sz (preds (G k) b) (Known W k b) (T w) (M k) b i m (p .fr);
+              fr = frs-end sz (preds (G k) b) (Known W k b) (T w) (M k) b i m (p .fr);
               ho = p .ho;
               de = p .de;
             },
@@ -179,7 +179,7 @@ module _ (N : ℕ) {D : ℕ} (P : ℕ) (sz : Tiled D (4 ^ N)) (W : Bits) (vv : B
             c,
             record {
               g = sets-hush sz (preds (G k) b) (Known W k b) i c m (p .g) (ltb-true i I ex) (eqb-false _ _ ed) (eqb-false _ _ eg) (eqb-false _ _ ec);
-              fr = frs-hush N P sz (preds (G k) b) (Known W k b) (T w) (M k) b i (setSkip (getD m i 0)) c m (p .g) (ltb-true i I ex) (p .fr) (eqb-false _ _ ec);
+              fr = frs-hush sz (preds (G k) b) (Known W k b) (T w) (M k) b i (setSkip (getD m i 0)) c m (p .g) (ltb-true i I ex) (p .fr) (eqb-false _ _ ec);
               ho = p .ho;
               de = p .de;
               rs = λ e h lo hd l y. p .rs e h lo hd (omega arith) y;
@@ -202,7 +202,7 @@ module _ (N : ℕ) {D : ℕ} (P : ℕ) (sz : Tiled D (4 ^ N)) (W : Bits) (vv : B
                 done = r .1 .done;
                 more = record { sg = r .1 .more .sg; qD = λ h e. (G k) .dnD b h (r .1 .more .qD h e); qG = λ h e. (G k) .dnG b h (r .1 .more .qG h e); zs = r .1 .more .zs };
               };
-              fr = frf-end N P sz (preds (G k) (suc b)) (Known W k (suc b)) (T w) (M k) (suc b) i c m b refl (p .g) ex (p .fr) (λ j hj. p .ho .low j b (omega arith));
+              fr = frf-end sz (preds (G k) (suc b)) (Known W k (suc b)) (T w) (M k) (suc b) i c m b refl (p .g) ex (p .fr) (λ j hj. p .ho .low j b (omega arith));
               ho = hold-down D I P w vv (suc b) b i c refl (p .ho);
               de = debt-down D I P O k (suc b) b i c refl (p .de);
               np = λ e. absurd (omega (arith, p .ho .hi));
@@ -225,7 +225,7 @@ module _ (N : ℕ) {D : ℕ} (P : ℕ) (sz : Tiled D (4 ^ N)) (W : Bits) (vv : B
             c,
             record {
               g = fine-hush sz (preds (G k) b) (Known W k b) i c m (p .g) (ltb-true i I ex) (eqb-false _ _ es) (eqb-false _ _ en);
-              fr = frf-hush N P sz (preds (G k) b) (Known W k b) (T w) (M k) b i (skip (getD m i 0)) m (p .fr);
+              fr = frf-hush sz (preds (G k) b) (Known W k b) (T w) (M k) b i (skip (getD m i 0)) m (p .fr);
               ho = hold-z D I P w vv b i (i + skip (getD m i 0)) c (p .ho) (omega arith);
               de = debt-c D I P O k b b b i (i + skip (getD m i 0)) c c (p .de) (omega arith) (λ h e. e) (λ h e. e) (λ j e f. omega (arith, f e));
             },
@@ -237,7 +237,7 @@ module _ (N : ℕ) {D : ℕ} (P : ℕ) (sz : Tiled D (4 ^ N)) (W : Bits) (vv : B
         withA i 3 c,
         record {
           g = fine-np sz (preds (G k) b) (Known W k b) i c m (p .g) hi mk;
-          fr = frf-np N P sz (preds (G k) b) (Known W k b) (T w) (M k) b i m (p .g .core .len) hi (p .fr) mk;
+          fr = frf-np sz (preds (G k) b) (Known W k b) (T w) (M k) b i m (p .g .core .len) hi (p .fr) mk;
           ho = hold-A D I P w w vv b i (i + 1) i 3 c (p .ho) (it .0) (omega arith) (λ e. omega arith) (λ h. absurd (h (lit≤ tt) (lit≤ tt))) (λ j e h x. x) (λ j h x. x) (λ j h. refl);
           de = debt-c D I P O k b b b i (i + 1) c (withA i 3 c) (p .de) (omega arith) (λ h e. same-D i 3 c h ∙ e) (λ h e. same-G i 3 c h ∙ e) (λ j e f. al′ j e f (ℕ-discrete j i));
         },
@@ -285,10 +285,10 @@ module _ (N : ℕ) {D : ℕ} (P : ℕ) (sz : Tiled D (4 ^ N)) (W : Bits) (vv : B
     all-settle s z = all-quiet (movesLeft I s) s z
 
   -- ANSWERS
-  pixfr : (S S′ R R′ : ℕ → ℕ → Type 0) (b t : ℕ) (m : List ℕ) → ((j : ℕ) → S b j → S′ b j) → ((e j : ℕ) → R e j → R′ e j) → PixFr N P sz S R b t m → PixFr N P sz S′ R′ b t m
+  pixfr : (S S′ R R′ : ℕ → ℕ → Type 0) (b t : ℕ) (m : List ℕ) → ((j : ℕ) → S b j → S′ b j) → ((e j : ℕ) → R e j → R′ e j) → PixFr sz S R b t m → PixFr sz S′ R′ b t m
   pixfr S S′ R R′ b t m f g p = record { todo = λ j h n. f j (p .todo j h n); m2 = λ j h e. g b j (p .m2 j h e); m3 = λ j h e. (let r : (x : ℕ) × (b < x) × R x j = p .m3 j h e in (r .0, r .1, g (r .0) j (r .2))) }
 
-  setfr : (S S′ R R′ : ℕ → ℕ → Type 0) (b t : ℕ) (m : List ℕ) → ((j : ℕ) → S b j → S′ b j) → ((e j : ℕ) → R e j → R′ e j) → SetFr N P sz S R b t m → SetFr N P sz S′ R′ b t m
+  setfr : (S S′ R R′ : ℕ → ℕ → Type 0) (b t : ℕ) (m : List ℕ) → ((j : ℕ) → S b j → S′ b j) → ((e j : ℕ) → R e j → R′ e j) → SetFr sz S R b t m → SetFr sz S′ R′ b t m
   setfr S S′ R R′ b t m f g p = record {
     f4 = λ j h e. f j (p .f4 j h e);
     fD = λ x hx z e j hj u. f j (p .fD x hx z e j hj u);
@@ -298,7 +298,7 @@ module _ (N : ℕ) {D : ℕ} (P : ℕ) (sz : Tiled D (4 ^ N)) (W : Bits) (vv : B
     c4 = p .c4;
   }
 
-  finefr : (S S′ R R′ : ℕ → ℕ → Type 0) (b t : ℕ) (m : List ℕ) → ((e j : ℕ) → R e j → R′ e j) → FineFr N P sz S R b t m → FineFr N P sz S′ R′ b t m
+  finefr : (S S′ R R′ : ℕ → ℕ → Type 0) (b t : ℕ) (m : List ℕ) → ((e j : ℕ) → R e j → R′ e j) → FineFr sz S R b t m → FineFr sz S′ R′ b t m
   finefr S S′ R R′ b t m g p = record {
     m2 = λ j h z e. g b j (p .m2 j h z e);
     m3 = λ j h e. (let r : (x : ℕ) × (b ≤ x) × R x j = p .m3 j h e in (r .0, r .1, g (r .0) j (r .2)));
@@ -323,14 +323,14 @@ module _ (N : ℕ) {D : ℕ} (P : ℕ) (sz : Tiled D (4 ^ N)) (W : Bits) (vv : B
     unfolding _⊑_
     up j x y = know-grows q a k j b (x y)
 
-    mo : (c : Cfg) → ((j : ℕ) → Zof N P sz (know q a k) j → Zof N P sz k j) → MoreI sz P (preds (G k) b) c → MoreI sz P (preds (G (know q a k)) b) c
-    mo c z x = more-Z sz P (preds (G k) b) (preds (G (know q a k)) b) c (know-neg N W k q a eq) (λ j y. y) (λ j y. y) z x
+    mo : (c : Cfg) → ((j : ℕ) → Zof (know q a k) j → Zof k j) → More sz (preds (G k) b) c → More sz (preds (G (know q a k)) b) c
+    mo c z x = more-Z sz (preds (G k) b) (preds (G (know q a k)) b) c (know-neg N W k q a eq) (λ j y. y) (λ j y. y) z x
 
-    mh : (i : ℕ) (c : Cfg) → ((j : ℕ) → Zof N P sz (know q a k) j → (j ≡ i → ⊥) → Zof N P sz k j) → MoreI sz P (preds (G k) b) c → MoreI sz P (hide i (preds (G (know q a k)) b)) c
-    mh i c z x = more-Z sz P (preds (G k) b) (hide i (preds (G (know q a k)) b)) c (know-neg N W k q a eq) (λ j y. y) (λ j y. y) (λ j e. z j (e .0) (e .1)) x
+    mh : (i : ℕ) (c : Cfg) → ((j : ℕ) → Zof (know q a k) j → (j ≡ i → ⊥) → Zof k j) → More sz (preds (G k) b) c → More sz (hide i (preds (G (know q a k)) b)) c
+    mh i c z x = more-Z sz (preds (G k) b) (hide i (preds (G (know q a k)) b)) c (know-neg N W k q a eq) (λ j y. y) (λ j y. y) (λ j e. z j (e .0) (e .1)) x
 
-    hh : (i : ℕ) (c : Cfg) → ((j : ℕ) → Zof N P sz (know q a k) j → Zof N P sz k j) → MoreI sz P (hide i (preds (G k) b)) c → MoreI sz P (hide i (preds (G (know q a k)) b)) c
-    hh i c z x = more-Z sz P (hide i (preds (G k) b)) (hide i (preds (G (know q a k)) b)) c (know-neg N W k q a eq) (λ j y. y) (λ j y. y) (λ j e. (z j (e .0), e .1)) x
+    hh : (i : ℕ) (c : Cfg) → ((j : ℕ) → Zof (know q a k) j → Zof k j) → More sz (hide i (preds (G k) b)) c → More sz (hide i (preds (G (know q a k)) b)) c
+    hh i c z x = more-Z sz (hide i (preds (G k) b)) (hide i (preds (G (know q a k)) b)) c (know-neg N W k q a eq) (λ j y. y) (λ j y. y) (λ j e. (z j (e .0), e .1)) x
 
   module _ (k w : Bits) (O O′ : Question → Type 0) where
     abbrev pub Out : Bool → Look → Type 0
@@ -375,7 +375,7 @@ module _ (N : ℕ) {D : ℕ} (P : ℕ) (sz : Tiled D (4 ^ N)) (W : Bits) (vv : B
       (
         c,
         record {
-          g = pix-Z sz P (preds (G k) b) (hide i (preds (G (know (bitOf i b) true k)) b)) (Known W k b) (Known W (know (bitOf i b) true k) b) i c m (mh k (bitOf i b) true t b i c (l .1)) (up k (bitOf i b) true t b) (p .g);
+          g = pix-Z sz (preds (G k) b) (hide i (preds (G (know (bitOf i b) true k)) b)) (Known W k b) (Known W (know (bitOf i b) true k) b) i c m (mh k (bitOf i b) true t b i c (l .1)) (up k (bitOf i b) true t b) (p .g);
           fr = pixfr (T w) (T w) (M k) (M (know (bitOf i b) true k)) b i m (λ j x. x) (λ e j x. know-grows (bitOf i b) true k j e x) (p .fr);
           ho = p .ho;
           de = debt-one D I P O O′ k (know (bitOf i b) true k) b (suc b) 0 0 i c (p .de) (omega arith) (omega arith) hi (λ e. absurd (omega (arith, it .1, mk))) (out1 true (bitOf i b) o) (know-grows (bitOf i b) true k) (know-one i b k) (know-back i b k);
@@ -403,7 +403,7 @@ module _ (N : ℕ) {D : ℕ} (P : ℕ) (sz : Tiled D (4 ^ N)) (W : Bits) (vv : B
         it : (alone D I c i ≡ true) × (c .al i ≡ getD m i 0)
         it = is-alone sz c m (p .g .core) i hi (omega (arith, mk)) (omega (arith, mk))
 
-        l : Known W (know (bitOf i b) true k) b i × ((j : ℕ) → Zof N P sz (know (bitOf i b) true k) j → (j ≡ i → ⊥) → Zof N P sz k j)
+        l : Known W (know (bitOf i b) true k) b i × ((j : ℕ) → Zof (know (bitOf i b) true k) j → (j ≡ i → ⊥) → Zof k j)
         l = learned N P sz W k (bitOf i b) true t
     tellp b i m true true false ex ey z t o = (
       from k (bitOf i b) false t b (z .0),
@@ -411,8 +411,8 @@ module _ (N : ℕ) {D : ℕ} (P : ℕ) (sz : Tiled D (4 ^ N)) (W : Bits) (vv : B
         c,
         record {
           g = pix-zero sz (preds (G (know (bitOf i b) false k)) b) (Known W (know (bitOf i b) false k) b) i c m
-              (pix-Z sz P (preds (G k) b) (preds (G (know (bitOf i b) false k)) b) (Known W k b) (Known W (know (bitOf i b) false k) b) i c m (mo k (bitOf i b) false t b c (l .1)) (up k (bitOf i b) false t b) (p .g)) (l .0);
-          fr = frp-zero N P sz (preds (G k) b) (Known W k b) (T w) (M (know (bitOf i b) false k)) b (T (after N (bitOf i b) false w)) i m
+              (pix-Z sz (preds (G k) b) (preds (G (know (bitOf i b) false k)) b) (Known W k b) (Known W (know (bitOf i b) false k) b) i c m (mo k (bitOf i b) false t b c (l .1)) (up k (bitOf i b) false t b) (p .g)) (l .0);
+          fr = frp-zero sz (preds (G k) b) (Known W k b) (T w) (M (know (bitOf i b) false k)) b (T (after N (bitOf i b) false w)) i m
               (pixfr (T w) (T w) (M k) (M (know (bitOf i b) false k)) b i m (λ j x. x) (λ e j x. know-grows (bitOf i b) false k j e x) (p .fr)) mk (λ j x n. one0 N i b w j b (λ e f. n e) x);
           ho = hold-w D I P w (after N (bitOf i b) false w) vv b 0 0 c (p .ho) (omega arith) (λ j e h x. one0 N i b w j e (λ y f. omega arith) x) (λ j aj e h x. one0 N i b w j b (λ y f. omega (arith, it .1, mk, e, ap (c .al) y)) x) (λ j. unfold clear in refl);
           de = debt-O D I P O O′ k (know (bitOf i b) false k) b (suc b) 0 c (p .de) (out0 (bitOf i b) o) (λ j x. unfold know in refl);
@@ -436,7 +436,7 @@ module _ (N : ℕ) {D : ℕ} (P : ℕ) (sz : Tiled D (4 ^ N)) (W : Bits) (vv : B
         it : (alone D I c i ≡ true) × (c .al i ≡ getD m i 0)
         it = is-alone sz c m (p .g .core) i hi (omega (arith, mk)) (omega (arith, mk))
 
-        l : Known W (know (bitOf i b) false k) b i × ((j : ℕ) → Zof N P sz (know (bitOf i b) false k) j → Zof N P sz k j)
+        l : Known W (know (bitOf i b) false k) b i × ((j : ℕ) → Zof (know (bitOf i b) false k) j → Zof k j)
         l = learned N P sz W k (bitOf i b) false t
 
     -- a sign, in the pixel pass
@@ -448,8 +448,8 @@ module _ (N : ℕ) {D : ℕ} (P : ℕ) (sz : Tiled D (4 ^ N)) (W : Bits) (vv : B
         withA i 2 c,
         record {
           g = pix-one sz (preds (G (know (signOf i) a k)) b) (Known W (know (signOf i) a k) b) i c m
-              (pix-Z sz P (hide i (preds (G k) b)) (hide i (preds (G (know (signOf i) a k)) b)) (Known W k b) (Known W (know (signOf i) a k) b) i c m (hh k (signOf i) a t b i c (l .1)) (up k (signOf i) a t b) (p .g)) (z .2) (z .3) (up k (signOf i) a t b i (z .4)) (l .0);
-          fr = frp-one N P sz (preds (G k) b) (Known W k b) (T (after N (signOf i) a w)) (M (know (signOf i) a k)) b i m (p .g .core .len) (z .2)
+              (pix-Z sz (hide i (preds (G k) b)) (hide i (preds (G (know (signOf i) a k)) b)) (Known W k b) (Known W (know (signOf i) a k) b) i c m (hh k (signOf i) a t b i c (l .1)) (up k (signOf i) a t b) (p .g)) (z .2) (z .3) (up k (signOf i) a t b i (z .4)) (l .0);
+          fr = frp-one sz (preds (G k) b) (Known W k b) (T (after N (signOf i) a w)) (M (know (signOf i) a k)) b i m (p .g .core .len) (z .2)
               (pixfr (T w) (T (after N (signOf i) a w)) (M k) (M (know (signOf i) a k)) b i m (λ j x. sgn-has N i a w j b ∙ x) (λ e j x. know-grows (signOf i) a k j e x) (p .fr)) (z .3) (know-grows (signOf i) a k i b (z .5));
           ho = hold-A D I P w (after N (signOf i) a w) vv b 0 0 i 2 c (p .ho) (it .0) (omega arith) (λ e. absurd (omega arith)) (λ h. absurd (h (lit≤ tt) (lit≤ tt))) (λ j e h x. sgn-has N i a w j e ∙ x) (λ j n x. sgn-has N i a w j b ∙ x) (λ j n. sgn-neg N i a w j n);
           de = debt-c D I P O′ (know (signOf i) a k) b (suc b) (suc b) 0 0 c (withA i 2 c) (outs a i b (suc b) 0 c o (p .de)) (omega arith) (λ h e. same-D i 2 c h ∙ e) (λ h e. same-G i 2 c h ∙ e) (λ j e f. al′ j e f (ℕ-discrete j i));
@@ -467,7 +467,7 @@ module _ (N : ℕ) {D : ℕ} (P : ℕ) (sz : Tiled D (4 ^ N)) (W : Bits) (vv : B
         it : (alone D I c i ≡ true) × (c .al i ≡ getD m i 0)
         it = is-alone sz c m (p .g .core) i (z .2) (omega (arith, z .3)) (omega (arith, z .3))
 
-        l : ((know (signOf i) a k) .neg i ≡ W .neg i) × ((j : ℕ) → Zof N P sz (know (signOf i) a k) j → Zof N P sz k j)
+        l : ((know (signOf i) a k) .neg i ≡ W .neg i) × ((j : ℕ) → Zof (know (signOf i) a k) j → Zof k j)
         l = learned N P sz W k (signOf i) a t
 
         al′ : (j : ℕ) → (withA i 2 c) .al j ≡ 3 → (c .al j ≡ 3 → j < 0) → Dec (j ≡ i) → j < 0
@@ -483,10 +483,10 @@ module _ (N : ℕ) {D : ℕ} (P : ℕ) (sz : Tiled D (4 ^ N)) (W : Bits) (vv : B
       atG mk = is-G sz c m (p .g .core) i hi mk
 
       inD : getD m i 0 ≡ 5 → (j : ℕ) → Under (i / 4) j → alone D I c j ≡ false
-      inD mk j u = dead-D N P sz c (p .g .core .ok) (i / 4) j (omega (arith, atD mk)) ((atD mk) .2) u
+      inD mk j u = dead-D sz c (p .g .core .ok) (i / 4) j (omega (arith, atD mk)) ((atD mk) .2) u
 
       inG : getD m i 0 ≡ 6 → (j : ℕ) → Under (i / 16) (j / 4) → alone D I c j ≡ false
-      inG mk j u = dead-G N P sz c (p .g .core .ok) (i / 16) j ((atG mk) .3) ((atG mk) .2) u
+      inG mk j u = dead-G sz c (p .g .core .ok) (i / 16) j ((atG mk) .3) ((atG mk) .2) u
 
       newD : getD m i 0 ≡ 5 → (j x : ℕ) → j < I → Under (i / 4) j → k .has j x ≡ true → ⊥
       newD mk j x hj u y = true≢false (sym ((p .g .more .zs j hj (x, y)) .0) ∙ inD mk j u)
@@ -506,7 +506,7 @@ module _ (N : ℕ) {D : ℕ} (P : ℕ) (sz : Tiled D (4 ^ N)) (W : Bits) (vv : B
         withD (i / 4) c,
         record {
           g = g1;
-          fr = frs-D1 N P sz (preds (G k) b) (Known W k b) (T w) (M k) b i c m (splitDesc I i m (ltb (4 * i) I)) (p .g) hi (p .fr) mk g1;
+          fr = frs-D1 sz (preds (G k) b) (Known W k b) (T w) (M k) b i c m (splitDesc I i m (ltb (4 * i) I)) (p .g) hi (p .fr) mk g1;
           ho = hold-D D I P w vv b 0 (i / 4) c (p .ho) (kidsD b i m c p hi mk);
           de = debt-D D I P O O′ k b 0 (i / 4) c (p .de) (out1 true (inDesc (i / 4) b) o) (newD b i m c p hi mk);
           rs = λ e h lo hd l y. rs′ e h lo hd l y (ℕ-discrete h (i / 4));
@@ -536,7 +536,7 @@ module _ (N : ℕ) {D : ℕ} (P : ℕ) (sz : Tiled D (4 ^ N)) (W : Bits) (vv : B
         c,
         record {
           g = sets-D0 sz (preds (G k) b) (Known W k b) i c m (p .g) hi mk ((learned N P sz W k (inDesc (i / 4) b) false t) .0 (omega (arith, atD b i m c p hi mk)));
-          fr = frs-D0 N P sz (preds (G k) b) (Known W k b) (T w) (M k) b (T (after N (inDesc (i / 4) b) false w)) i c m (p .g) hi (p .fr) mk (λ j x n. desc0 N (i / 4) b w j b (λ u e. n u) x);
+          fr = frs-D0 sz (preds (G k) b) (Known W k b) (T w) (M k) b (T (after N (inDesc (i / 4) b) false w)) i c m (p .g) hi (p .fr) mk (λ j x n. desc0 N (i / 4) b w j b (λ u e. n u) x);
           ho = hold-w D I P w (after N (inDesc (i / 4) b) false w) vv b 0 0 c (p .ho) (omega arith) (λ j e h x. desc0 N (i / 4) b w j e (λ y f. omega arith) x) (λ j aj e h x. desc0 N (i / 4) b w j b (λ u f. true≢false (sym aj ∙ inD b i m c p hi mk j u)) x) (λ j. unfold after clear in refl);
           de = debt-O D I P O O′ k k b b 0 c (p .de) (out0 (inDesc (i / 4) b) o) (λ j x. refl);
           rs = λ e h lo hd l y. p .rs e h lo hd (omega arith) y;
@@ -559,7 +559,7 @@ module _ (N : ℕ) {D : ℕ} (P : ℕ) (sz : Tiled D (4 ^ N)) (W : Bits) (vv : B
         withG (i / 16) c,
         record {
           g = g1;
-          fr = frs-G1 N P sz (preds (G k) b) (Known W k b) (T w) (M k) b i c m (splitGrand I i m) (p .g) hi (p .fr) mk g1;
+          fr = frs-G1 sz (preds (G k) b) (Known W k b) (T w) (M k) b i c m (splitGrand I i m) (p .g) hi (p .fr) mk g1;
           ho = hold-G D I P w vv b 0 (i / 16) c (p .ho);
           de = debt-G D I P O O′ k b 0 (i / 16) c (p .de) (out1 true (inGrand (i / 16) b) o) (newG b i m c p hi mk);
           rs = λ e h lo hd l y. al-G (i / 16) c (4 * h) ∙ p .rs e h lo hd l (sym (sD-G (i / 16) c h) ∙ y);
@@ -585,7 +585,7 @@ module _ (N : ℕ) {D : ℕ} (P : ℕ) (sz : Tiled D (4 ^ N)) (W : Bits) (vv : B
         c,
         record {
           g = sets-G0 sz (preds (G k) b) (Known W k b) i c m (p .g) hi mk ((learned N P sz W k (inGrand (i / 16) b) false t) .0 (omega (arith, atG b i m c p hi mk)));
-          fr = frs-G0 N P sz (preds (G k) b) (Known W k b) (T w) (M k) b (T (after N (inGrand (i / 16) b) false w)) i c m (p .g) hi (p .fr) mk (λ j x n. grand0 N (i / 16) b w j b (λ u e. n u) x);
+          fr = frs-G0 sz (preds (G k) b) (Known W k b) (T w) (M k) b (T (after N (inGrand (i / 16) b) false w)) i c m (p .g) hi (p .fr) mk (λ j x n. grand0 N (i / 16) b w j b (λ u e. n u) x);
           ho = hold-w D I P w (after N (inGrand (i / 16) b) false w) vv b 0 0 c (p .ho) (omega arith) (λ j e h x. grand0 N (i / 16) b w j e (λ y f. omega arith) x) (λ j aj e h x. grand0 N (i / 16) b w j b (λ u f. true≢false (sym aj ∙ inG b i m c p hi mk j u)) x) (λ j. unfold after clear in refl);
           de = debt-O D I P O O′ k k b b 0 c (p .de) (out0 (inGrand (i / 16) b) o) (λ j x. refl);
           rs = λ e h lo hd l y. p .rs e h lo hd (omega arith) y;
@@ -607,7 +607,7 @@ module _ (N : ℕ) {D : ℕ} (P : ℕ) (sz : Tiled D (4 ^ N)) (W : Bits) (vv : B
       (
         c,
         record {
-          g = sets-Z sz P (preds (G k) b) (hide i (preds (G (know (bitOf i b) true k)) b)) (Known W k b) (Known W (know (bitOf i b) true k) b) i c m (mh k (bitOf i b) true t b i c (l .1)) (up k (bitOf i b) true t b) (p .g);
+          g = sets-Z sz (preds (G k) b) (hide i (preds (G (know (bitOf i b) true k)) b)) (Known W k b) (Known W (know (bitOf i b) true k) b) i c m (mh k (bitOf i b) true t b i c (l .1)) (up k (bitOf i b) true t b) (p .g);
           fr = setfr (T w) (T w) (M k) (M (know (bitOf i b) true k)) b i m (λ j x. x) (λ e j x. know-grows (bitOf i b) true k j e x) (p .fr);
           ho = p .ho;
           de = debt-one D I P O O′ k (know (bitOf i b) true k) b b 0 0 i c (p .de) (omega arith) (omega arith) hi (λ e. absurd (omega (arith, it .1, mk))) (out1 true (bitOf i b) o) (know-grows (bitOf i b) true k) (know-one i b k) (know-back i b k);
@@ -629,7 +629,7 @@ module _ (N : ℕ) {D : ℕ} (P : ℕ) (sz : Tiled D (4 ^ N)) (W : Bits) (vv : B
         it : (alone D I c i ≡ true) × (c .al i ≡ getD m i 0)
         it = is-alone sz c m (p .g .core) i hi (omega (arith, mk)) (omega (arith, mk))
 
-        l : Known W (know (bitOf i b) true k) b i × ((j : ℕ) → Zof N P sz (know (bitOf i b) true k) j → (j ≡ i → ⊥) → Zof N P sz k j)
+        l : Known W (know (bitOf i b) true k) b i × ((j : ℕ) → Zof (know (bitOf i b) true k) j → (j ≡ i → ⊥) → Zof k j)
         l = learned N P sz W k (bitOf i b) true t
 
     tells-C0 : (b i : ℕ) (m : List ℕ) → i < I → getD m i 0 ≡ 4 → All-at k w O (suc b) sets i false m → ans N W (bitOf i b) ≡ false → Out false (asks (bitOf i b))
@@ -641,9 +641,9 @@ module _ (N : ℕ) {D : ℕ} (P : ℕ) (sz : Tiled D (4 ^ N)) (W : Bits) (vv : B
         withA i 1 c,
         record {
           g = sets-C sz (preds (G k) b) (Known W k b) i 1 c m
-              (sets-Z sz P (preds (G k) b) (hide i (preds (G k) b)) (Known W k b) (Known W k b) i c m (mh k (bitOf i b) false t b i c (λ j y n. y)) (λ j y. y) (p .g))
+              (sets-Z sz (preds (G k) b) (hide i (preds (G k) b)) (Known W k b) (Known W k b) i c m (mh k (bitOf i b) false t b i c (λ j y n. y)) (λ j y. y) (p .g))
               hi mk (lit≤ tt) (lit< tt) ((learned N P sz W k (bitOf i b) false t) .0) (λ y. absurd (omega arith)) (λ y. absurd (omega (arith, it .1, mk, p .g .more .zs i hi y)));
-          fr = frs-C N P sz (preds (G k) b) (Known W k b) (T w) (M k) b (T (after N (bitOf i b) false w)) i 1 c m (p .g) hi (p .fr) mk (lit≤ tt) (lit≤ tt) (λ e. absurd (omega arith)) (λ j x n. one0 N i b w j b (λ e f. n e) x);
+          fr = frs-C sz (preds (G k) b) (Known W k b) (T w) (M k) b (T (after N (bitOf i b) false w)) i 1 c m (p .g) hi (p .fr) mk (lit≤ tt) (lit≤ tt) (λ e. absurd (omega arith)) (λ j x n. one0 N i b w j b (λ e f. n e) x);
           ho = hold-A D I P w (after N (bitOf i b) false w) vv b 0 0 i 1 c (p .ho) (it .0) (omega arith) (λ e. absurd (omega arith)) (λ h. (unfold after clear in p .ho .ng i (λ y l u. omega (arith, it .1, mk))))
               (λ j e h x. one0 N i b w j e (λ y f. omega arith) x) (λ j n x. one0 N i b w j b (λ y f. n y) x) (λ j n. unfold after clear in refl);
           de = debt-c D I P O′ k b b b 0 0 c (withA i 1 c) (debt-O D I P O O′ k k b b 0 c (p .de) (out0 (bitOf i b) o) (λ j x. refl)) (omega arith) (λ h e. same-D i 1 c h ∙ e) (λ h e. same-G i 1 c h ∙ e) (λ j e f. al′ j e f (ℕ-discrete j i));
@@ -673,7 +673,7 @@ module _ (N : ℕ) {D : ℕ} (P : ℕ) (sz : Tiled D (4 ^ N)) (W : Bits) (vv : B
         withA i 2 c,
         record {
           g = sets-C sz (preds (G (know (signOf i) a k)) b) (Known W (know (signOf i) a k) b) i 2 c m g1 (z .2) (z .3) (lit≤ tt) (lit< tt) (up k (signOf i) a t b i (z .4)) (λ y. l .0) (λ y. lit≤ tt);
-          fr = frs-C N P sz (hide i (preds (G (know (signOf i) a k)) b)) (Known W (know (signOf i) a k) b) (T (after N (signOf i) a w)) (M (know (signOf i) a k)) b (T (after N (signOf i) a w)) i 2 c m g1 (z .2)
+          fr = frs-C sz (hide i (preds (G (know (signOf i) a k)) b)) (Known W (know (signOf i) a k) b) (T (after N (signOf i) a w)) (M (know (signOf i) a k)) b (T (after N (signOf i) a w)) i 2 c m g1 (z .2)
               (setfr (T w) (T (after N (signOf i) a w)) (M k) (M (know (signOf i) a k)) b i m (λ j x. sgn-has N i a w j b ∙ x) (λ e j x. know-grows (signOf i) a k j e x) (p .fr)) (z .3) (lit≤ tt) (lit≤ tt) (λ e. know-grows (signOf i) a k i b (z .5)) (λ j x n. x);
           ho = hold-A D I P w (after N (signOf i) a w) vv b 0 0 i 2 c (p .ho) (it .0) (omega arith) (λ e. absurd (omega arith)) (λ h. absurd (h (lit≤ tt) (lit≤ tt))) (λ j e h x. sgn-has N i a w j e ∙ x) (λ j n x. sgn-has N i a w j b ∙ x) (λ j n. sgn-neg N i a w j n);
           de = debt-c D I P O′ (know (signOf i) a k) b b b 0 0 c (withA i 2 c) (outs a i b b 0 c o (p .de)) (omega arith) (λ h e. same-D i 2 c h ∙ e) (λ h e. same-G i 2 c h ∙ e) (λ j e f. al′ j e f (ℕ-discrete j i));
@@ -691,22 +691,22 @@ module _ (N : ℕ) {D : ℕ} (P : ℕ) (sz : Tiled D (4 ^ N)) (W : Bits) (vv : B
         it : (alone D I c i ≡ true) × (c .al i ≡ getD m i 0)
         it = is-alone sz c m (p .g .core) i (z .2) (omega (arith, z .3)) (omega (arith, z .3))
 
-        l : ((know (signOf i) a k) .neg i ≡ W .neg i) × ((j : ℕ) → Zof N P sz (know (signOf i) a k) j → Zof N P sz k j)
+        l : ((know (signOf i) a k) .neg i ≡ W .neg i) × ((j : ℕ) → Zof (know (signOf i) a k) j → Zof k j)
         l = learned N P sz W k (signOf i) a t
 
         g1 : Sets sz (hide i (preds (G (know (signOf i) a k)) b)) (Known W (know (signOf i) a k) b) i c m
-        g1 = sets-Z sz P (hide i (preds (G k) b)) (hide i (preds (G (know (signOf i) a k)) b)) (Known W k b) (Known W (know (signOf i) a k) b) i c m (hh k (signOf i) a t b i c (l .1)) (up k (signOf i) a t b) (p .g)
+        g1 = sets-Z sz (hide i (preds (G k) b)) (hide i (preds (G (know (signOf i) a k)) b)) (Known W k b) (Known W (know (signOf i) a k) b) i c m (hh k (signOf i) a t b i c (l .1)) (up k (signOf i) a t b) (p .g)
 
         al′ : (j : ℕ) → (withA i 2 c) .al j ≡ 3 → (c .al j ≡ 3 → j < 0) → Dec (j ≡ i) → j < 0
         al′ j e f (yes q) = absurd (omega (arith, al-at i 2 c j q))
         al′ j e f (no q) = f (sym (al-else i 2 c j q) ∙ e)
 
     -- a refinement
-    more-1 : (b i : ℕ) (c : Cfg) → (alone D I c i ≡ true) × (2 ≤ c .al i) × (c .al i ≤ 3) → ans N W (bitOf i b) ≡ true → ((j : ℕ) → Zof N P sz (know (bitOf i b) true k) j → (j ≡ i → ⊥) → Zof N P sz k j)
-        → MoreI sz P (preds (G k) b) c → MoreI sz P (preds (G (know (bitOf i b) true k)) b) c
+    more-1 : (b i : ℕ) (c : Cfg) → (alone D I c i ≡ true) × (2 ≤ c .al i) × (c .al i ≤ 3) → ans N W (bitOf i b) ≡ true → ((j : ℕ) → Zof (know (bitOf i b) true k) j → (j ≡ i → ⊥) → Zof k j)
+        → More sz (preds (G k) b) c → More sz (preds (G (know (bitOf i b) true k)) b) c
     more-1 b i c it t zz x = record { sg = λ j hj aj lo hi. know-neg N W k (bitOf i b) true t j (x .sg j hj aj lo hi); qD = x .qD; qG = x .qG; zs = λ j hj e. pick j hj e (ℕ-discrete j i) }
       where
-        pick : (j : ℕ) → j < I → Zof N P sz (know (bitOf i b) true k) j → Dec (j ≡ i) → (alone D I c j ≡ true) × (2 ≤ c .al j) × (c .al j ≤ 3)
+        pick : (j : ℕ) → j < I → Zof (know (bitOf i b) true k) j → Dec (j ≡ i) → (alone D I c j ≡ true) × (2 ≤ c .al j) × (c .al j ≤ 3)
         pick j hj e (yes q) = subst (λ (y : ℕ). (alone D I c y ≡ true) × (2 ≤ c .al y) × (c .al y ≤ 3)) (sym q) it
         pick j hj e (no q) = x .zs j hj (zz j e q)
 
@@ -719,8 +719,8 @@ module _ (N : ℕ) {D : ℕ} (P : ℕ) (sz : Tiled D (4 ^ N)) (W : Bits) (vv : B
         c,
         record {
           g = fine-ask sz (preds (G (know (bitOf i b) true k)) b) (Known W (know (bitOf i b) true k) b) i c m
-              (fine-Z sz P (preds (G k) b) (preds (G (know (bitOf i b) true k)) b) (Known W k b) (Known W (know (bitOf i b) true k) b) i c m (more-1 b i c (it .0, omega (arith, it .1, mk), omega (arith, it .1, mk)) t (l .1)) (up k (bitOf i b) true t b) (p .g)) hi mk (l .0);
-          fr = frf-hush N P sz (preds (G k) b) (Known W k b) (T w) (M (know (bitOf i b) true k)) b i 1 m (finefr (T w) (T w) (M k) (M (know (bitOf i b) true k)) b i m (λ e j x. know-grows (bitOf i b) true k j e x) (p .fr));
+              (fine-Z sz (preds (G k) b) (preds (G (know (bitOf i b) true k)) b) (Known W k b) (Known W (know (bitOf i b) true k) b) i c m (more-1 b i c (it .0, omega (arith, it .1, mk), omega (arith, it .1, mk)) t (l .1)) (up k (bitOf i b) true t b) (p .g)) hi mk (l .0);
+          fr = frf-hush sz (preds (G k) b) (Known W k b) (T w) (M (know (bitOf i b) true k)) b i 1 m (finefr (T w) (T w) (M k) (M (know (bitOf i b) true k)) b i m (λ e j x. know-grows (bitOf i b) true k j e x) (p .fr));
           ho = hold-z D I P w vv b i (i + 1) c (p .ho) (omega arith);
           de = debt-one D I P O O′ k (know (bitOf i b) true k) b b i (i + 1) i c (p .de) (omega arith) (omega arith) hi (λ e. omega arith) (out1 true (bitOf i b) o) (know-grows (bitOf i b) true k) (know-one i b k) (know-back i b k);
         },
@@ -736,7 +736,7 @@ module _ (N : ℕ) {D : ℕ} (P : ℕ) (sz : Tiled D (4 ^ N)) (W : Bits) (vv : B
         it : (alone D I c i ≡ true) × (c .al i ≡ getD m i 0)
         it = is-alone sz c m (p .g .core) i hi (omega (arith, mk)) (omega (arith, mk))
 
-        l : Known W (know (bitOf i b) true k) b i × ((j : ℕ) → Zof N P sz (know (bitOf i b) true k) j → (j ≡ i → ⊥) → Zof N P sz k j)
+        l : Known W (know (bitOf i b) true k) b i × ((j : ℕ) → Zof (know (bitOf i b) true k) j → (j ≡ i → ⊥) → Zof k j)
         l = learned N P sz W k (bitOf i b) true t
     tellf b i m false hi mk z t o = (
       from k (bitOf i b) false t b (z .0),
@@ -744,8 +744,8 @@ module _ (N : ℕ) {D : ℕ} (P : ℕ) (sz : Tiled D (4 ^ N)) (W : Bits) (vv : B
         c,
         record {
           g = fine-ask sz (preds (G (know (bitOf i b) false k)) b) (Known W (know (bitOf i b) false k) b) i c m
-              (fine-Z sz P (preds (G k) b) (preds (G (know (bitOf i b) false k)) b) (Known W k b) (Known W (know (bitOf i b) false k) b) i c m (mo k (bitOf i b) false t b c (l .1)) (up k (bitOf i b) false t b) (p .g)) hi mk (l .0);
-          fr = frf-hush N P sz (preds (G k) b) (Known W k b) (T (after N (bitOf i b) false w)) (M (know (bitOf i b) false k)) b i 1 m (finefr (T w) (T (after N (bitOf i b) false w)) (M k) (M (know (bitOf i b) false k)) b i m (λ e j x. know-grows (bitOf i b) false k j e x) (p .fr));
+              (fine-Z sz (preds (G k) b) (preds (G (know (bitOf i b) false k)) b) (Known W k b) (Known W (know (bitOf i b) false k) b) i c m (mo k (bitOf i b) false t b c (l .1)) (up k (bitOf i b) false t b) (p .g)) hi mk (l .0);
+          fr = frf-hush sz (preds (G k) b) (Known W k b) (T (after N (bitOf i b) false w)) (M (know (bitOf i b) false k)) b i 1 m (finefr (T w) (T (after N (bitOf i b) false w)) (M k) (M (know (bitOf i b) false k)) b i m (λ e j x. know-grows (bitOf i b) false k j e x) (p .fr));
           ho = hold-w D I P w (after N (bitOf i b) false w) vv b i (i + 1) c (p .ho) (omega arith) (λ j e h x. one0 N i b w j e (λ y f. omega arith) x) (λ j aj e h x. one0 N i b w j b (λ y f. omega arith) x) (λ j. unfold clear in refl);
           de = debt-c D I P O′ (know (bitOf i b) false k) b b b i (i + 1) c c (debt-O D I P O O′ k (know (bitOf i b) false k) b b i c (p .de) (out0 (bitOf i b) o) (λ j x. unfold know in refl)) (omega arith) (λ h e. e) (λ h e. e) (λ j e f. omega (arith, f e));
         },
@@ -758,7 +758,7 @@ module _ (N : ℕ) {D : ℕ} (P : ℕ) (sz : Tiled D (4 ^ N)) (W : Bits) (vv : B
         p : InFine (preds (G k) b) k w O b i c m
         p = z .1 .1
 
-        l : Known W (know (bitOf i b) false k) b i × ((j : ℕ) → Zof N P sz (know (bitOf i b) false k) j → Zof N P sz k j)
+        l : Known W (know (bitOf i b) false k) b i × ((j : ℕ) → Zof (know (bitOf i b) false k) j → Zof k j)
         l = learned N P sz W k (bitOf i b) false t
 
     tells : (b i : ℕ) (m : List ℕ) (x d g c a : Bool) → ltb i I ≡ x → eqb (getD m i 0) 5 ≡ d → eqb (getD m i 0) 6 ≡ g → eqb (getD m i 0) 4 ≡ c

@@ -30,28 +30,50 @@ preds F b = record { Y = F .Y; QD = F .QD b; QG = F .QG b; Z = F .Z }
 abbrev pub withZ : Fam → (ℕ → Type 0) → Fam
 withZ F Z′ = record { X = F .X; Y = F .Y; QD = F .QD; QG = F .QG; Z = Z′; dnD = F .dnD; dnG = F .dnG }
 
+module _ {D I : ℕ} (sz : Tiled D I) where
+  pub more-Z : (R S : Preds) (c : Cfg) → ((j : ℕ) → R .Y j → S .Y j) → ((j : ℕ) → R .QD j → S .QD j) → ((j : ℕ) → R .QG j → S .QG j) → ((j : ℕ) → S .Z j → R .Z j) → More sz R c → More sz S c
+  more-Z R S c y d g z k = record { sg = λ j h a l u. y j (k .sg j h a l u); qD = λ h e. d h (k .qD h e); qG = λ h e. g h (k .qG h e); zs = λ j h e. k .zs j h (z j e) }
+
+  pub pix-Z : (R S : Preds) (X X′ : ℕ → Type 0) (t : ℕ) (c : Cfg) (m : List ℕ) → (More sz R c → More sz S c) → ((j : ℕ) → X j → X′ j) → Pix sz R X t c m → Pix sz S X′ t c m
+  pix-Z R S X X′ t c m f x p = record { core = p .core; more = f (p .more); two = p .two; no4 = p .no4; done = λ j h a z e. x j (p .done j h a z e) }
+
+  pub sets-Z : (R S : Preds) (X X′ : ℕ → Type 0) (t : ℕ) (c : Cfg) (m : List ℕ) → (More sz R c → More sz S c) → ((j : ℕ) → X j → X′ j) → Sets sz R X t c m → Sets sz S X′ t c m
+  sets-Z R S X X′ t c m f x p = record {
+    core = p .core;
+    more = f (p .more);
+    four = p .four;
+    grp = p .grp;
+    ali = p .ali;
+    done = λ j h a e3 e4. x j (p .done j h a e3 e4);
+    dD = λ h a1 a2 a3 a4 a5 j hj u. x j (p .dD h a1 a2 a3 a4 a5 j hj u);
+    dG = λ h a1 a2 a3 a4 a5 j hj u. x j (p .dG h a1 a2 a3 a4 a5 j hj u);
+  }
+
+  pub fine-Z : (R S : Preds) (X X′ : ℕ → Type 0) (t : ℕ) (c : Cfg) (m : List ℕ) → (More sz R c → More sz S c) → ((j : ℕ) → X j → X′ j) → Fine sz R X t c m → Fine sz S X′ t c m
+  fine-Z R S X X′ t c m f x p = record { core = p .core; more = f (p .more); two = p .two; no4 = p .no4; done = λ j h e. x j (p .done j h e) }
+
 module _ {D I : ℕ} (sz : Tiled D I) (P : ℕ) where
-  abbrev pub PixI : Preds → (ℕ → Type 0) → ℕ → Cfg → List ℕ → Type 0
-  PixI R X t c m = Pix sz R X t c m
-
-  abbrev pub SetsI : Preds → (ℕ → Type 0) → ℕ → Cfg → List ℕ → Type 0
-  SetsI R X t c m = Sets sz R X t c m
-
-  abbrev pub FineI : Preds → (ℕ → Type 0) → ℕ → Cfg → List ℕ → Type 0
-  FineI R X t c m = Fine sz R X t c m
-
   -- the planes from b on are settled
   abbrev pub From : Fam → ℕ → Type 0
   From F b = (e : ℕ) → b ≤ e → e < P → (j : ℕ) → j < I → F .X e j
 
   abbrev pub Good-at : Fam → ℕ → Pass → ℕ → Bool → List ℕ → Type 0
   Good-at F zero p i s m = From F zero × ((j : ℕ) → j < I → F .Z j → F .Y j)
-  Good-at F (suc b) pixels i false m = From F (suc b) × ((c : Cfg) × PixI (preds F b) (F .X b) i c m)
-  Good-at F (suc b) pixels i true m = From F (suc b) × ((c : Cfg) × PixI (hide i (preds F b)) (F .X b) i c m) × (i < I) × (getD m i 0 ≡ 1) × F .X b i
-  Good-at F (suc b) sets i false m = From F (suc b) × ((c : Cfg) × SetsI (preds F b) (F .X b) i c m)
-  Good-at F (suc b) sets i true m = From F (suc b) × ((c : Cfg) × SetsI (hide i (preds F b)) (F .X b) i c m) × (i < I) × (getD m i 0 ≡ 4) × F .X b i
-  Good-at F (suc b) refining i false m = From F (suc b) × ((c : Cfg) × FineI (preds F b) (F .X b) i c m)
+  Good-at F (suc b) pixels i false m = From F (suc b) × ((c : Cfg) × Pix sz (preds F b) (F .X b) i c m)
+  Good-at F (suc b) pixels i true m = From F (suc b) × ((c : Cfg) × Pix sz (hide i (preds F b)) (F .X b) i c m) × (i < I) × (getD m i 0 ≡ 1) × F .X b i
+  Good-at F (suc b) sets i false m = From F (suc b) × ((c : Cfg) × Sets sz (preds F b) (F .X b) i c m)
+  Good-at F (suc b) sets i true m = From F (suc b) × ((c : Cfg) × Sets sz (hide i (preds F b)) (F .X b) i c m) × (i < I) × (getD m i 0 ≡ 4) × F .X b i
+  Good-at F (suc b) refining i false m = From F (suc b) × ((c : Cfg) × Fine sz (preds F b) (F .X b) i c m)
   Good-at F (suc b) refining i true m = ⊥
+
+  pub from-good : (F : Fam) (l : ℕ) (p : Pass) (i : ℕ) (s : Bool) (m : List ℕ) → Good-at F l p i s m → From F l
+  from-good F zero p i s m g = g .0
+  from-good F (suc b) pixels i false m g = g .0
+  from-good F (suc b) pixels i true m g = g .0
+  from-good F (suc b) sets i false m g = g .0
+  from-good F (suc b) sets i true m g = g .0
+  from-good F (suc b) refining i false m g = g .0
+  from-good F (suc b) refining i true m g = absurd g
 
   abbrev pub Good : Fam → State → Type 0
   Good F s = Good-at F (s .left) (s .pass) (s .place) (s .pending) (s .marks)
@@ -75,7 +97,7 @@ module _ {D I : ℕ} (sz : Tiled D I) (P : ℕ) where
   good-sets F b i m true false false false ex ed eg ec h =
       (h .0, (h .1 .0, sets-hush sz (preds F b) (F .X b) i (h .1 .0) m (h .1 .1) (ltb-true i I ex) (eqb-false _ _ ed) (eqb-false _ _ eg) (eqb-false _ _ ec)))
 
-  good-down : (F : Fam) (b : ℕ) (m : List ℕ) → From F (suc b) → ((j : ℕ) → j < I → F .X b j) → ((Y : ℕ → Type 0) → (c : Cfg) × PixI (preds F b) Y 0 c m) → Good F (at b pixels 0 m)
+  good-down : (F : Fam) (b : ℕ) (m : List ℕ) → From F (suc b) → ((j : ℕ) → j < I → F .X b j) → ((Y : ℕ → Type 0) → (c : Cfg) × Pix sz (preds F b) Y 0 c m) → Good F (at b pixels 0 m)
   good-down F zero m f x p = ((λ e h1 h2 j hj. go e h2 j hj (ℕ-discrete e 0)), λ j hj z. signed j hj (k .zs j hj z))
     where
       k : More sz (preds F 0) ((p (F .X 0)) .0)
@@ -89,7 +111,7 @@ module _ {D I : ℕ} (sz : Tiled D I) (P : ℕ) where
       go e h j hj (no z) = f e (omega arith) h j hj
   good-down F (suc b) m f x p = ((λ e h1 h2 j hj. go e h1 h2 j hj (ℕ-discrete e (suc b))), step b (p (F .X b)))
     where
-      step : (b : ℕ) → (c : Cfg) × PixI (preds F (suc b)) (F .X b) 0 c m → (c : Cfg) × PixI (preds F b) (F .X b) 0 c m
+      step : (b : ℕ) → (c : Cfg) × Pix sz (preds F (suc b)) (F .X b) 0 c m → (c : Cfg) × Pix sz (preds F b) (F .X b) 0 c m
       step b q = (
         q .0,
         record {
@@ -154,52 +176,28 @@ module _ {D I : ℕ} (sz : Tiled D I) (P : ℕ) where
   On-ask F Z′ a (silent t) = ⊥
   On-ask F Z′ a (asks q) = Learned F Z′ q a
 
-  abbrev pub MoreI : Preds → Cfg → Type 0
-  MoreI R c = More sz R c
-
-  pub more-Z : (R S : Preds) (c : Cfg) → ((j : ℕ) → R .Y j → S .Y j) → ((j : ℕ) → R .QD j → S .QD j) → ((j : ℕ) → R .QG j → S .QG j) → ((j : ℕ) → S .Z j → R .Z j) → MoreI R c → MoreI S c
-  more-Z R S c y d g z k = record { sg = λ j h a l u. y j (k .sg j h a l u); qD = λ h e. d h (k .qD h e); qG = λ h e. g h (k .qG h e); zs = λ j h e. k .zs j h (z j e) }
-
-  pub pix-Z : (R S : Preds) (X X′ : ℕ → Type 0) (t : ℕ) (c : Cfg) (m : List ℕ) → (MoreI R c → MoreI S c) → ((j : ℕ) → X j → X′ j) → PixI R X t c m → PixI S X′ t c m
-  pix-Z R S X X′ t c m f x p = record { core = p .core; more = f (p .more); two = p .two; no4 = p .no4; done = λ j h a z e. x j (p .done j h a z e) }
-
-  pub sets-Z : (R S : Preds) (X X′ : ℕ → Type 0) (t : ℕ) (c : Cfg) (m : List ℕ) → (MoreI R c → MoreI S c) → ((j : ℕ) → X j → X′ j) → SetsI R X t c m → SetsI S X′ t c m
-  sets-Z R S X X′ t c m f x p = record {
-    core = p .core;
-    more = f (p .more);
-    four = p .four;
-    grp = p .grp;
-    ali = p .ali;
-    done = λ j h a e3 e4. x j (p .done j h a e3 e4);
-    dD = λ h a1 a2 a3 a4 a5 j hj u. x j (p .dD h a1 a2 a3 a4 a5 j hj u);
-    dG = λ h a1 a2 a3 a4 a5 j hj u. x j (p .dG h a1 a2 a3 a4 a5 j hj u);
-  }
-
-  pub fine-Z : (R S : Preds) (X X′ : ℕ → Type 0) (t : ℕ) (c : Cfg) (m : List ℕ) → (MoreI R c → MoreI S c) → ((j : ℕ) → X j → X′ j) → FineI R X t c m → FineI S X′ t c m
-  fine-Z R S X X′ t c m f x p = record { core = p .core; more = f (p .more); two = p .two; no4 = p .no4; done = λ j h e. x j (p .done j h e) }
-
   -- the same with a new Z: smaller, or smaller but at i
-  shrink : (F : Fam) (Z′ : ℕ → Type 0) (b : ℕ) (c : Cfg) → Same F Z′ → MoreI (preds F b) c → MoreI (preds (withZ F Z′) b) c
-  shrink F Z′ b c z k = more-Z (preds F b) (preds (withZ F Z′) b) c (λ j y. y) (λ j y. y) (λ j y. y) z k
+  shrink : (F : Fam) (Z′ : ℕ → Type 0) (b : ℕ) (c : Cfg) → Same F Z′ → More sz (preds F b) c → More sz (preds (withZ F Z′) b) c
+  shrink F Z′ b c z k = more-Z sz (preds F b) (preds (withZ F Z′) b) c (λ j y. y) (λ j y. y) (λ j y. y) z k
 
-  shrink-hide : (F : Fam) (Z′ : ℕ → Type 0) (b i : ℕ) (c : Cfg) → ((j : ℕ) → Z′ j → (j ≡ i → ⊥) → F .Z j) → MoreI (preds F b) c → MoreI (hide i (preds (withZ F Z′) b)) c
-  shrink-hide F Z′ b i c z k = more-Z (preds F b) (hide i (preds (withZ F Z′) b)) c (λ j y. y) (λ j y. y) (λ j y. y) (λ j e. z j (e .0) (e .1)) k
+  shrink-hide : (F : Fam) (Z′ : ℕ → Type 0) (b i : ℕ) (c : Cfg) → ((j : ℕ) → Z′ j → (j ≡ i → ⊥) → F .Z j) → More sz (preds F b) c → More sz (hide i (preds (withZ F Z′) b)) c
+  shrink-hide F Z′ b i c z k = more-Z sz (preds F b) (hide i (preds (withZ F Z′) b)) c (λ j y. y) (λ j y. y) (λ j y. y) (λ j e. z j (e .0) (e .1)) k
 
-  both-hide : (F : Fam) (Z′ : ℕ → Type 0) (b i : ℕ) (c : Cfg) → Same F Z′ → MoreI (hide i (preds F b)) c → MoreI (hide i (preds (withZ F Z′) b)) c
-  both-hide F Z′ b i c z k = more-Z (hide i (preds F b)) (hide i (preds (withZ F Z′) b)) c (λ j y. y) (λ j y. y) (λ j y. y) (λ j e. (z j (e .0), e .1)) k
+  both-hide : (F : Fam) (Z′ : ℕ → Type 0) (b i : ℕ) (c : Cfg) → Same F Z′ → More sz (hide i (preds F b)) c → More sz (hide i (preds (withZ F Z′) b)) c
+  both-hide F Z′ b i c z k = more-Z sz (hide i (preds F b)) (hide i (preds (withZ F Z′) b)) c (λ j y. y) (λ j y. y) (λ j y. y) (λ j e. (z j (e .0), e .1)) k
 
   tell-pix : (F : Fam) (Z′ : ℕ → Type 0) (b i : ℕ) (m : List ℕ) (x y a : Bool) → ltb i I ≡ x → eqb (getD m i 0) 1 ≡ y → Good-at F (suc b) pixels i false m → On-ask F Z′ a (lookPixels b i m x y)
       → Good (withZ F Z′) (tellAt I (suc b) pixels i false m a)
   tell-pix F Z′ b i m false y a ex ey g o = absurd o
   tell-pix F Z′ b i m true false a ex ey g o = absurd o
   tell-pix F Z′ b i m true true true ex ey g o =
-      (g .0, (g .1 .0, pix-Z (preds F b) (hide i (preds (withZ F Z′) b)) (F .X b) (F .X b) i (g .1 .0) m (shrink-hide F Z′ b i (g .1 .0) (o .1)) (λ j x. x) (g .1 .1)), ltb-true i I ex, eqb-true _ _ ey, o .0)
+      (g .0, (g .1 .0, pix-Z sz (preds F b) (hide i (preds (withZ F Z′) b)) (F .X b) (F .X b) i (g .1 .0) m (shrink-hide F Z′ b i (g .1 .0) (o .1)) (λ j x. x) (g .1 .1)), ltb-true i I ex, eqb-true _ _ ey, o .0)
   tell-pix F Z′ b i m true true false ex ey g o = (
     g .0,
     (
       g .1 .0,
       pix-zero sz (preds (withZ F Z′) b) (F .X b) i (g .1 .0) m
-          (pix-Z (preds F b) (preds (withZ F Z′) b) (F .X b) (F .X b) i (g .1 .0) m (shrink F Z′ b (g .1 .0) (o .1)) (λ j x. x) (g .1 .1)) (o .0),
+          (pix-Z sz (preds F b) (preds (withZ F Z′) b) (F .X b) (F .X b) i (g .1 .0) m (shrink F Z′ b (g .1 .0) (o .1)) (λ j x. x) (g .1 .1)) (o .0),
     ),
   )
 
@@ -211,7 +209,7 @@ module _ {D I : ℕ} (sz : Tiled D I) (P : ℕ) where
     (
       withD (i / 4) (h .1 .0),
       sets-D1 sz (preds (withZ F Z′) b) (F .X b) i (h .1 .0) m
-          (sets-Z (preds F b) (preds (withZ F Z′) b) (F .X b) (F .X b) i (h .1 .0) m (shrink F Z′ b (h .1 .0) (o .1)) (λ j x. x) (h .1 .1)) (ltb-true i I ex) (eqb-true _ _ ed) (o .0),
+          (sets-Z sz (preds F b) (preds (withZ F Z′) b) (F .X b) (F .X b) i (h .1 .0) m (shrink F Z′ b (h .1 .0) (o .1)) (λ j x. x) (h .1 .1)) (ltb-true i I ex) (eqb-true _ _ ed) (o .0),
     ),
   )
   tell-sets′ F Z′ b i m true true g c false ex ed eg ec h o = (
@@ -219,7 +217,7 @@ module _ {D I : ℕ} (sz : Tiled D I) (P : ℕ) where
     (
       h .1 .0,
       sets-D0 sz (preds (withZ F Z′) b) (F .X b) i (h .1 .0) m
-          (sets-Z (preds F b) (preds (withZ F Z′) b) (F .X b) (F .X b) i (h .1 .0) m (shrink F Z′ b (h .1 .0) (o .1)) (λ j x. x) (h .1 .1)) (ltb-true i I ex) (eqb-true _ _ ed)
+          (sets-Z sz (preds F b) (preds (withZ F Z′) b) (F .X b) (F .X b) i (h .1 .0) m (shrink F Z′ b (h .1 .0) (o .1)) (λ j x. x) (h .1 .1)) (ltb-true i I ex) (eqb-true _ _ ed)
           (o .0 (omega (arith, is-D sz (h .1 .0) m (h .1 .1 .core) i (ltb-true i I ex) (eqb-true _ _ ed)))),
     ),
   )
@@ -228,7 +226,7 @@ module _ {D I : ℕ} (sz : Tiled D I) (P : ℕ) where
     (
       withG (i / 16) (h .1 .0),
       sets-G1 sz (preds (withZ F Z′) b) (F .X b) i (h .1 .0) m
-          (sets-Z (preds F b) (preds (withZ F Z′) b) (F .X b) (F .X b) i (h .1 .0) m (shrink F Z′ b (h .1 .0) (o .1)) (λ j x. x) (h .1 .1)) (ltb-true i I ex) (eqb-true _ _ eg) (o .0),
+          (sets-Z sz (preds F b) (preds (withZ F Z′) b) (F .X b) (F .X b) i (h .1 .0) m (shrink F Z′ b (h .1 .0) (o .1)) (λ j x. x) (h .1 .1)) (ltb-true i I ex) (eqb-true _ _ eg) (o .0),
     ),
   )
   tell-sets′ F Z′ b i m true false true c false ex ed eg ec h o = (
@@ -236,12 +234,12 @@ module _ {D I : ℕ} (sz : Tiled D I) (P : ℕ) where
     (
       h .1 .0,
       sets-G0 sz (preds (withZ F Z′) b) (F .X b) i (h .1 .0) m
-          (sets-Z (preds F b) (preds (withZ F Z′) b) (F .X b) (F .X b) i (h .1 .0) m (shrink F Z′ b (h .1 .0) (o .1)) (λ j x. x) (h .1 .1)) (ltb-true i I ex) (eqb-true _ _ eg)
+          (sets-Z sz (preds F b) (preds (withZ F Z′) b) (F .X b) (F .X b) i (h .1 .0) m (shrink F Z′ b (h .1 .0) (o .1)) (λ j x. x) (h .1 .1)) (ltb-true i I ex) (eqb-true _ _ eg)
           (o .0 (omega (arith, is-G sz (h .1 .0) m (h .1 .1 .core) i (ltb-true i I ex) (eqb-true _ _ eg)))),
     ),
   )
   tell-sets′ F Z′ b i m true false false true true ex ed eg ec h o =
-      (h .0, (h .1 .0, sets-Z (preds F b) (hide i (preds (withZ F Z′) b)) (F .X b) (F .X b) i (h .1 .0) m (shrink-hide F Z′ b i (h .1 .0) (o .1)) (λ j x. x) (h .1 .1)), ltb-true i I ex, eqb-true _ _ ec, o .0)
+      (h .0, (h .1 .0, sets-Z sz (preds F b) (hide i (preds (withZ F Z′) b)) (F .X b) (F .X b) i (h .1 .0) m (shrink-hide F Z′ b i (h .1 .0) (o .1)) (λ j x. x) (h .1 .1)), ltb-true i I ex, eqb-true _ _ ec, o .0)
   tell-sets′ F Z′ b i m true false false true false ex ed eg ec h o =
       let hi : i < I = ltb-true i I ex in
       let it : (alone D I (h .1 .0) i ≡ true) × ((h .1 .0) .al i ≡ getD m i 0) = is-alone sz (h .1 .0) m (h .1 .1 .core) i hi (omega (arith, eqb-true (getD m i 0) 4 ec)) (omega (arith, eqb-true (getD m i 0) 4 ec)) in (
@@ -249,7 +247,7 @@ module _ {D I : ℕ} (sz : Tiled D I) (P : ℕ) where
         (
           withA i 1 (h .1 .0),
           sets-C sz (preds (withZ F Z′) b) (F .X b) i 1 (h .1 .0) m
-              (sets-Z (preds F b) (hide i (preds (withZ F Z′) b)) (F .X b) (F .X b) i (h .1 .0) m (shrink-hide F Z′ b i (h .1 .0) (λ j z n. o .1 j z)) (λ j x. x) (h .1 .1))
+              (sets-Z sz (preds F b) (hide i (preds (withZ F Z′) b)) (F .X b) (F .X b) i (h .1 .0) m (shrink-hide F Z′ b i (h .1 .0) (λ j z n. o .1 j z)) (λ j x. x) (h .1 .1))
               hi (eqb-true _ _ ec) (lit≤ tt) (lit< tt) (o .0) (λ z. absurd (omega arith))
               (λ z. absurd (omega (arith, it .1, eqb-true (getD m i 0) 4 ec, h .1 .1 .more .zs i hi (o .1 i z)))),
         ),
@@ -259,7 +257,7 @@ module _ {D I : ℕ} (sz : Tiled D I) (P : ℕ) where
   tell-fine : (F : Fam) (Z′ : ℕ → Type 0) (b i : ℕ) (m : List ℕ) (x s n a : Bool) → ltb i I ≡ x → eqb (getD m i 0) 3 ≡ s → eqb (getD m i 0) 2 ≡ n → Good-at F (suc b) refining i false m → On-ask F Z′ a (lookRefining b i m x s n)
       → Good (withZ F Z′) (at (suc b) refining (i + 1) m)
   tell-fine F Z′ b i m false s n a ex es en g o = absurd o
-  tell-fine F Z′ b i m true true n a ex es en g o = (g .0, (c, fine-ask sz (preds (withZ F Z′) b) (F .X b) i c m (fine-Z (preds F b) (preds (withZ F Z′) b) (F .X b) (F .X b) i c m (grow a o) (λ j x. x) (g .1 .1)) hi (eqb-true _ _ es) (got a o)))
+  tell-fine F Z′ b i m true true n a ex es en g o = (g .0, (c, fine-ask sz (preds (withZ F Z′) b) (F .X b) i c m (fine-Z sz (preds F b) (preds (withZ F Z′) b) (F .X b) (F .X b) i c m (grow a o) (λ j x. x) (g .1 .1)) hi (eqb-true _ _ es) (got a o)))
     where
       c : Cfg
       c = g .1 .0
@@ -274,11 +272,11 @@ module _ {D I : ℕ} (sz : Tiled D I) (P : ℕ) where
       got true o = o .0
       got false o = o .0
 
-      pick : ((j : ℕ) → Z′ j → (j ≡ i → ⊥) → F .Z j) → MoreI (preds F b) c → (j : ℕ) → j < I → Z′ j → Dec (j ≡ i) → (alone D I c j ≡ true) × (2 ≤ c .al j) × (c .al j ≤ 3)
+      pick : ((j : ℕ) → Z′ j → (j ≡ i → ⊥) → F .Z j) → More sz (preds F b) c → (j : ℕ) → j < I → Z′ j → Dec (j ≡ i) → (alone D I c j ≡ true) × (2 ≤ c .al j) × (c .al j ≤ 3)
       pick z k j hj e (yes q) = subst (λ (x : ℕ). (alone D I c x ≡ true) × (2 ≤ c .al x) × (c .al x ≤ 3)) (sym q) (it .0, omega (arith, it .1, eqb-true (getD m i 0) 3 es), omega (arith, it .1, eqb-true (getD m i 0) 3 es))
       pick z k j hj e (no q) = k .zs j hj (z j e q)
 
-      grow : (a : Bool) → Learned F Z′ (bitOf i b) a → MoreI (preds F b) c → MoreI (preds (withZ F Z′) b) c
+      grow : (a : Bool) → Learned F Z′ (bitOf i b) a → More sz (preds F b) c → More sz (preds (withZ F Z′) b) c
       grow true o k = record { sg = k .sg; qD = k .qD; qG = k .qG; zs = λ j hj e. pick (o .1) k j hj e (ℕ-discrete j i) }
       grow false o k = shrink F Z′ b c (o .1) k
   tell-fine F Z′ b i m true false true a ex es en g o = absurd o
@@ -292,7 +290,7 @@ module _ {D I : ℕ} (sz : Tiled D I) (P : ℕ) where
     (
       withA i 2 (g .1 .0),
       pix-one sz (preds (withZ F Z′) b) (F .X b) i (g .1 .0) m
-          (pix-Z (hide i (preds F b)) (hide i (preds (withZ F Z′) b)) (F .X b) (F .X b) i (g .1 .0) m (both-hide F Z′ b i (g .1 .0) (o .1)) (λ j x. x) (g .1 .1)) (g .2) (g .3) (g .4) (o .0),
+          (pix-Z sz (hide i (preds F b)) (hide i (preds (withZ F Z′) b)) (F .X b) (F .X b) i (g .1 .0) m (both-hide F Z′ b i (g .1 .0) (o .1)) (λ j x. x) (g .1 .1)) (g .2) (g .3) (g .4) (o .0),
     ),
   )
   good-tell F Z′ (suc b) sets i true m a g o = (
@@ -300,7 +298,7 @@ module _ {D I : ℕ} (sz : Tiled D I) (P : ℕ) where
     (
       withA i 2 (g .1 .0),
       sets-C sz (preds (withZ F Z′) b) (F .X b) i 2 (g .1 .0) m
-          (sets-Z (hide i (preds F b)) (hide i (preds (withZ F Z′) b)) (F .X b) (F .X b) i (g .1 .0) m (both-hide F Z′ b i (g .1 .0) (o .1)) (λ j x. x) (g .1 .1)) (g .2) (g .3) (lit≤ tt) (lit< tt) (g .4) (λ z. o .0) (λ z. lit≤ tt),
+          (sets-Z sz (hide i (preds F b)) (hide i (preds (withZ F Z′) b)) (F .X b) (F .X b) i (g .1 .0) m (both-hide F Z′ b i (g .1 .0) (o .1)) (λ j x. x) (g .1 .1)) (g .2) (g .3) (lit≤ tt) (lit< tt) (g .4) (λ z. o .0) (λ z. lit≤ tt),
     ),
   )
   good-tell F Z′ (suc b) refining i true m a g o = absurd g
@@ -317,20 +315,20 @@ module _ {D I : ℕ} (sz : Tiled D I) (P : ℕ) where
       → (s : State) → Good F s → Good E s
   good-mono F E x y d q z s g = go (s .left) (s .pass) (s .place) (s .pending) (s .marks) g
     where
-      mo : (b : ℕ) (c : Cfg) → MoreI (preds F b) c → MoreI (preds E b) c
-      mo b c k = more-Z (preds F b) (preds E b) c y (d b) (q b) z k
+      mo : (b : ℕ) (c : Cfg) → More sz (preds F b) c → More sz (preds E b) c
+      mo b c k = more-Z sz (preds F b) (preds E b) c y (d b) (q b) z k
 
-      mh : (b i : ℕ) (c : Cfg) → MoreI (hide i (preds F b)) c → MoreI (hide i (preds E b)) c
-      mh b i c k = more-Z (hide i (preds F b)) (hide i (preds E b)) c y (d b) (q b) (λ j e. (z j (e .0), e .1)) k
+      mh : (b i : ℕ) (c : Cfg) → More sz (hide i (preds F b)) c → More sz (hide i (preds E b)) c
+      mh b i c k = more-Z sz (hide i (preds F b)) (hide i (preds E b)) c y (d b) (q b) (λ j e. (z j (e .0), e .1)) k
 
       fr : (b : ℕ) → From F b → From E b
       fr b f e h1 h2 j hj = x e j (f e h1 h2 j hj)
 
       go : (l : ℕ) (p : Pass) (i : ℕ) (s : Bool) (m : List ℕ) → Good-at F l p i s m → Good-at E l p i s m
       go zero p i s m g = (fr zero (g .0), λ j hj w. y j (g .1 j hj (z j w)))
-      go (suc b) pixels i false m g = (fr (suc b) (g .0), (g .1 .0, pix-Z (preds F b) (preds E b) (F .X b) (E .X b) i (g .1 .0) m (mo b (g .1 .0)) (x b) (g .1 .1)))
-      go (suc b) pixels i true m g = (fr (suc b) (g .0), (g .1 .0, pix-Z (hide i (preds F b)) (hide i (preds E b)) (F .X b) (E .X b) i (g .1 .0) m (mh b i (g .1 .0)) (x b) (g .1 .1)), g .2, g .3, x b i (g .4))
-      go (suc b) sets i false m g = (fr (suc b) (g .0), (g .1 .0, sets-Z (preds F b) (preds E b) (F .X b) (E .X b) i (g .1 .0) m (mo b (g .1 .0)) (x b) (g .1 .1)))
-      go (suc b) sets i true m g = (fr (suc b) (g .0), (g .1 .0, sets-Z (hide i (preds F b)) (hide i (preds E b)) (F .X b) (E .X b) i (g .1 .0) m (mh b i (g .1 .0)) (x b) (g .1 .1)), g .2, g .3, x b i (g .4))
-      go (suc b) refining i false m g = (fr (suc b) (g .0), (g .1 .0, fine-Z (preds F b) (preds E b) (F .X b) (E .X b) i (g .1 .0) m (mo b (g .1 .0)) (x b) (g .1 .1)))
+      go (suc b) pixels i false m g = (fr (suc b) (g .0), (g .1 .0, pix-Z sz (preds F b) (preds E b) (F .X b) (E .X b) i (g .1 .0) m (mo b (g .1 .0)) (x b) (g .1 .1)))
+      go (suc b) pixels i true m g = (fr (suc b) (g .0), (g .1 .0, pix-Z sz (hide i (preds F b)) (hide i (preds E b)) (F .X b) (E .X b) i (g .1 .0) m (mh b i (g .1 .0)) (x b) (g .1 .1)), g .2, g .3, x b i (g .4))
+      go (suc b) sets i false m g = (fr (suc b) (g .0), (g .1 .0, sets-Z sz (preds F b) (preds E b) (F .X b) (E .X b) i (g .1 .0) m (mo b (g .1 .0)) (x b) (g .1 .1)))
+      go (suc b) sets i true m g = (fr (suc b) (g .0), (g .1 .0, sets-Z sz (hide i (preds F b)) (hide i (preds E b)) (F .X b) (E .X b) i (g .1 .0) m (mh b i (g .1 .0)) (x b) (g .1 .1)), g .2, g .3, x b i (g .4))
+      go (suc b) refining i false m g = (fr (suc b) (g .0), (g .1 .0, fine-Z sz (preds F b) (preds E b) (F .X b) (E .X b) i (g .1 .0) m (mo b (g .1 .0)) (x b) (g .1 .1)))
       go (suc b) refining i true m g = g

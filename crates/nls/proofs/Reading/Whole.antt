@@ -44,26 +44,30 @@ below-under (suc n) g i h = go (or-cases (eqb (i / 4) g) (below n g (i / 4)) h) 
     go (inl e) ih = kid (eqb-true (i / 4) g e)
     go (inr e) ih = far (ih e)
 
+-- what a run knows about an array A that fits it, k being the known bits
+abbrev pub fam : ℕ → Bits → Bits → Fam
+fam N A k = record {
+  X = Known A k;
+  Y = λ j. k .neg j ≡ A .neg j;
+  QD = λ b h. (j : ℕ) × (e : ℕ) × (j < 4 ^ N) × Under h j × (b ≤ e) × (A .has j e ≡ true);
+  QG = λ b h. (j : ℕ) × (e : ℕ) × (j < 4 ^ N) × Under h (j / 4) × (b ≤ e) × (A .has j e ≡ true);
+  Z = λ j. (e : ℕ) × (k .has j e ≡ true);
+  dnD = λ b h r. (r .0, r .1, r .2, r .3, omega arith, r .5);
+  dnG = λ b h r. (r .0, r .1, r .2, r .3, omega arith, r .5);
+}
+
+-- a bit of j is known
+abbrev pub Zof : Bits → ℕ → Type 0
+Zof k j = (e : ℕ) × (k .has j e ≡ true)
+
 module _ (N : ℕ) {D : ℕ} (P : ℕ) (sz : Tiled D (4 ^ N)) where
   abbrev I : ℕ
   I = 4 ^ N
 
-  -- what a run knows about an array A that fits it, k being the known bits
-  abbrev pub fam : Bits → Bits → Fam
-  fam A k = record {
-    X = Known A k;
-    Y = λ j. k .neg j ≡ A .neg j;
-    QD = λ b h. (j : ℕ) × (e : ℕ) × (j < I) × Under h j × (b ≤ e) × (A .has j e ≡ true);
-    QG = λ b h. (j : ℕ) × (e : ℕ) × (j < I) × Under h (j / 4) × (b ≤ e) × (A .has j e ≡ true);
-    Z = λ j. (e : ℕ) × (k .has j e ≡ true);
-    dnD = λ b h r. (r .0, r .1, r .2, r .3, omega arith, r .5);
-    dnG = λ b h r. (r .0, r .1, r .2, r .3, omega arith, r .5);
-  }
-
   abbrev pub Ok-at : Fam → State → Type 0
   Ok-at F s = Good sz P F s
 
-  pub learned : (A k : Bits) (q : Question) (a : Bool) → ans N A q ≡ a → Learned sz P (withZ (fam A (know q a k)) (λ j. (e : ℕ) × (k .has j e ≡ true))) (λ j. (e : ℕ) × ((know q a k) .has j e ≡ true)) q a
+  pub learned : (A k : Bits) (q : Question) (a : Bool) → ans N A q ≡ a → Learned sz P (withZ (fam N A (know q a k)) (λ j. (e : ℕ) × (k .has j e ≡ true))) (λ j. (e : ℕ) × ((know q a k) .has j e ≡ true)) q a
   unfolding ans inside
   learned A k (bitOf i b) true e = ((λ h. know-one i b k), λ j z n. (z .0, know-other i b k j (z .0) (z .1) n))
   learned A k (bitOf i b) false e = ((λ h. absurd (true≢false (sym h ∙ e))), λ j z. (z .0, unfold know in z .1))
@@ -83,10 +87,7 @@ module _ (N : ℕ) {D : ℕ} (P : ℕ) (sz : Tiled D (4 ^ N)) where
   learned A k (inGrand g b) false e =
       ((λ g1 i hi u h. absurd (true≢false (sym (member N (λ j. below N g (j / 4)) A b i (both (lt-ltb i I hi) (under-below N g (i / 4) g1 (omega arith) u)) h) ∙ e))), λ j z. (z .0, unfold know in z .1))
 
-  abbrev pub Zof : Bits → ℕ → Type 0
-  Zof k j = (e : ℕ) × (k .has j e ≡ true)
-
-  on-ask : (A k : Bits) (a : Bool) (L : Look) → told N A (asked I L) a → On-ask sz P (withZ (fam A (knowO (asked I L) a k)) (Zof k)) (Zof (knowO (asked I L) a k)) a L
+  on-ask : (A k : Bits) (a : Bool) (L : Look) → told N A (asked I L) a → On-ask sz P (withZ (fam N A (knowO (asked I L) a k)) (Zof k)) (Zof (knowO (asked I L) a k)) a L
   on-ask A k a over t = t
   on-ask A k a (silent s) t = t
   on-ask A k a (asks q) t = learned A k q a t
@@ -100,14 +101,14 @@ module _ (N : ℕ) {D : ℕ} (P : ℕ) (sz : Tiled D (4 ^ N)) where
   negO A k none a t j h = h
   negO A k (some q) a t j h = know-neg N A k q a t j h
 
-  pub one-bit : (A k : Bits) (s : State) (a : Bool) → Ok-at (fam A k) s → told N A (ask I s) a → Ok-at (fam A (knowO (ask I s) a k)) (next I s a)
+  pub one-bit : (A k : Bits) (s : State) (a : Bool) → Ok-at (fam N A k) s → told N A (ask I s) a → Ok-at (fam N A (knowO (ask I s) a k)) (next I s a)
   unfolding ask _⊑_
-  one-bit A k s a g t = good-next sz P (withZ (fam A (knowO (ask I s) a k)) (Zof k)) (Zof (knowO (ask I s) a k)) s a
-      (good-mono sz P (fam A k) (withZ (fam A (knowO (ask I s) a k)) (Zof k))
+  one-bit A k s a g t = good-next sz P (withZ (fam N A (knowO (ask I s) a k)) (Zof k)) (Zof (knowO (ask I s) a k)) s a
+      (good-mono sz P (fam N A k) (withZ (fam N A (knowO (ask I s) a k)) (Zof k))
       (λ b j z h. growsO (ask I s) a k j b (z h)) (negO A k (ask I s) a t) (λ b j z. z) (λ b j z. z) (λ j z. z) s g) (on-ask A k a (look I s) t)
 
   -- along a run
-  pub run : (A k : Bits) (s : State) (u : List Bool) → Ok-at (fam A k) s → Fits N State (ask I) (next I) A s u → Ok-at (fam A (least N State (ask I) (next I) s u k)) (reach (4 ^ N) s u)
+  pub run : (A k : Bits) (s : State) (u : List Bool) → Ok-at (fam N A k) s → Fits N State (ask I) (next I) A s u → Ok-at (fam N A (least N State (ask I) (next I) s u k)) (reach (4 ^ N) s u)
   unfolding reach
   run A k s [] g f = g
   run A k s (a ∷ u) g f = run A (knowO (ask I s) a k) (next I s a) u (one-bit A k s a g (f .0)) (f .1)
