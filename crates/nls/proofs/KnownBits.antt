@@ -21,8 +21,7 @@ use Rattle.nls.specs.Stream.{begin, after}
 use Rattle.nls.specs.Reading.{Known, nothing, noted, learn, learnAt, learned, known, highBits, precisionAt}
 use Rattle.nls.specs.Judging.{Begins}
 use Rattle.nls.proofs.Tiled.{Tiled, tiled}
-use Rattle.nls.proofs.Arrays.{Bits, bits-of, ans}
-use Rattle.nls.proofs.Judging.Most.{told, Fits}
+use Rattle.nls.proofs.Arrays.{Bits, bits-of, ans, told, Fit}
 use Rattle.nls.proofs.Machine.Table.{Cfg, alone}
 use Rattle.nls.proofs.Machine.Cover.{Core, More, is-alone}
 use Rattle.nls.proofs.Machine.Steps.{Good-at, From, preds, from-good}
@@ -282,8 +281,8 @@ module _ (N L : ℕ) (size : Sized N L) (P : ℕ) (A : List ℤ) (under : (i : �
       on (silent r) t f = absurd t
       on (asks q) t f = f t
 
-  right-run : (o : Known) (k : Bits) (s : State) (u : List Bool) → ((t : State) → look I s ≡ silent t → ⊥) → Good-of k s → Sound I P s o → Right s o k → Fits N State (ask I) (next I) B s u
-      → Right (reach I s u) (learned N s o u) (least N State (ask I) (next I) s u k)
+  right-run : (o : Known) (k : Bits) (s : State) (u : List Bool) → ((t : State) → look I s ≡ silent t → ⊥) → Good-of k s → Sound I P s o → Right s o k → Fit N B s u
+      → Right (reach I s u) (learned N s o u) (least N s u k)
   unfolding reach learned
   right-run o k s [] n g h r f = r
   right-run o k s (a ∷ u) n g h r f =
@@ -302,19 +301,19 @@ module _ (N L : ℕ) (size : Sized N L) (P : ℕ) (A : List ℤ) (under : (i : �
   })
 
   -- the known bits of each coefficient are A's, down to its precision
-  pub answered-bits : (u : List Bool) → Fits N State (ask I) (next I) B (begin N L P) u → (i : ℕ) → i < I → at (known N L P u .bits) i ≡ highBits (precisionAt N L P u i) (at A i)
+  pub answered-bits : (u : List Bool) → Fit N B (begin N L P) u → (i : ℕ) → i < I → at (known N L P u .bits) i ≡ highBits (precisionAt N L P u i) (at A i)
   answered-bits u f i hi =
       r .high i hi
       ∙ high-same (precisionAt N L P u i) (getD (known N L P u .planes) i 0) (at A i) (min-le-left (getD (known N L P u .planes) i 0) (t .left))
       (λ e l h. gap k (t .left) (t .pass) (t .place) (t .pending) (t .marks) (known N L P u) (run N P sz B first.nothing (begin N L P) u good-begin f) (known-sound N L P u) r i hi e (omega arith) h)
     where
       k : Bits
-      k = least N State (ask I) (next I) (begin N L P) u first.nothing
+      k = least N (begin N L P) u first.nothing
 
       t : State
       t = after N L P u
 
-      r : Right (after N L P u) (known N L P u) (least N State (ask I) (next I) (begin N L P) u first.nothing)
+      r : Right (after N L P u) (known N L P u) (least N (begin N L P) u first.nothing)
       r = right-run (nothing N P) first.nothing (begin N L P) u (begin-settled N L P) good-begin (sound-begin N L P) right-begin f
 
 -- KNOWN BITS: of every array whose stream begins so, the bits down to each coefficient's precision

@@ -18,8 +18,7 @@ use Rattle.tree.proofs.Ors.{desc-bit, grand-bit}
 use Rattle.nls.specs.Scan.{Question, bitOf, signOf, inDesc, inGrand, State, ask, next}
 use Rattle.nls.specs.Stream.{answer, answers, begin, after, worstBody, stream}
 use Rattle.nls.proofs.Booleans.{same-bool}
-use Rattle.nls.proofs.Arrays.{Arr, bits-of, below, any, inside, ans, answersOf}
-use Rattle.nls.proofs.Judging.Most.{any-some, any-find}
+use Rattle.nls.proofs.Arrays.{Arr, bits-of, below, any, inside, ans, answersOf, any-some, any-find}
 use Rattle.nls.proofs.Judging.Final.{none-asked}
 use Rattle.nls.proofs.Joined.Whole.{bound, whole}
 use Rattle.nls.proofs.Kept.{Kept, Rooted, AllRooted, kept-next, kept-reach, kept-start, asks-rooted}

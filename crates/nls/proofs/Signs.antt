@@ -22,10 +22,8 @@ use Rattle.nls.specs.Scan as Scan
 use Rattle.nls.specs.Marks.{startMarks}
 use Rattle.nls.specs.Stream.{begin}
 use Rattle.nls.specs.Judging as J
-use Rattle.nls.proofs.Arrays.{Arr, Bits, bits-of, ans}
-use Rattle.nls.proofs.Machine.Run.{Fit}
+use Rattle.nls.proofs.Arrays.{Arr, Bits, bits-of, ans, told, Fit}
 use Rattle.nls.proofs.Counting.Sums.{order}
-use Rattle.nls.proofs.Judging.Most.{told}
 use Rattle.nls.proofs.Judging.Clash.{Valid}
 use Rattle.nls.proofs.Judging.Numbers.{Planes, ans-ext, valid-of}
 use Rattle.nls.proofs.Judging.Only.{to-list}

@@ -14,8 +14,8 @@ use Rattle.coef.specs.Coef.{magAt, IsPlanes}
 use Rattle.nls.specs.Scan.{Question, State, over, pixels, at, look, ask, next, reach}
 use Rattle.nls.specs.Stream.{answer, answers, sent, begin, after, stream}
 use Rattle.nls.specs.Judging.{Begins}
-use Rattle.nls.proofs.Arrays.{bits-of, answersOf}
-use Rattle.nls.proofs.Machine.Run.{Fit, fit-prefix, stream-fits, fits-stream}
+use Rattle.nls.proofs.Arrays.{bits-of, answersOf, Fit}
+use Rattle.nls.proofs.Machine.Run.{fit-prefix, stream-fits, fits-stream}
 use Rattle.nls.proofs.Joined.Leads.{over-none}
 use Rattle.nls.proofs.Joined.Whole as Whole
 use Rattle.nls.proofs.Kept.{kept-reach}

@@ -16,10 +16,8 @@ use Rattle.nls.specs.Scan.{Question, State, silently, settle, ask, next,
 use Rattle.nls.specs.Stream.{begin, after, stream}
 use Rattle.nls.specs.Judging.{Fits, Verdict, taken, contradiction, beyond, Contradicts, IsBeyond, Judged}
 use Rattle.nls.proofs.Tiled.{tiled}
-use Rattle.nls.proofs.Arrays.{Bits, bits-of}
+use Rattle.nls.proofs.Arrays.{Bits, bits-of, told, Fit}
 use Rattle.nls.proofs.Counting.Sums.{order}
-use Rattle.nls.proofs.Machine.Run.{Fit}
-use Rattle.nls.proofs.Judging.Most.{told}
 use Rattle.nls.proofs.Judging.Decide.{clash-by, cb-child, cb-grand, cb-desc, cb-root}
 use Rattle.nls.proofs.Judging.Decoder.{Out, here, no12, no13, decode, Means}
 use Rattle.nls.proofs.Judging.ByCount.{clash-count}

@@ -15,8 +15,7 @@ use Rattle.tree.proofs.Lists.{or-left, or-right}
 use Rattle.bits.proofs.Laws.{bit-or, bit-none}
 use Rattle.nls.specs.Scan.{inDesc, inGrand}
 use Rattle.nls.proofs.Booleans.{or-cases, same-bool}
-use Rattle.nls.proofs.Arrays.{below, any, Arr, bits-of, inside, ans}
-use Rattle.nls.proofs.Judging.Most.{any-some, any-find}
+use Rattle.nls.proofs.Arrays.{below, any, Arr, bits-of, inside, ans, any-some, any-find}
 use Rattle.nls.proofs.Counting.Tree.{Size, I, within}
 use Rattle.nls.proofs.Counting.Summary.{join, or-tree, or-desc, or-grand, has-desc, has-grand}
 

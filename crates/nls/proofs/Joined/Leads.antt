@@ -7,9 +7,8 @@ use mathlib.Core.Option.{Option, none, some}
 use mathlib.Core.List.{List, [], _∷_, _++_}
 use lib.ListN.{take}
 use Rattle.nls.specs.Scan.{State, Look, over, silent, asks, Question, look, tell, settle, ask, asked, next, reach}
-use Rattle.nls.proofs.Arrays.{answersOf, Bits, ans}
-use Rattle.nls.proofs.Judging.Most.{told}
-use Rattle.nls.proofs.Machine.Run.{Fit, settle-hush, settle-asks, settle-over, reach-append, fit-append}
+use Rattle.nls.proofs.Arrays.{answersOf, Bits, ans, told, Fit}
+use Rattle.nls.proofs.Machine.Run.{settle-hush, settle-asks, settle-over, reach-append, fit-append}
 
 -- each question of a run comes while k planes are left
 abbrev pub In : ℕ → ℕ → State → List Bool → Type 0

@@ -14,8 +14,8 @@ use Rattle.tree.proofs.Lists.{or-left}
 use Rattle.nls.specs.Marks.{skip, setSkip, startMarks}
 use Rattle.nls.specs.Scan.{State, Look, over, silent, asks, Question, Pass, pixels, sets, refining, at, look, lookAt, lookPixels, lookSets, lookRefining, tell, tellAt, tellSets, silently, settle, movesLeft, ask, asked, next, reach, start}
 use Rattle.nls.proofs.Tiled.{Tiled}
-use Rattle.nls.proofs.Arrays.{Bits}
-use Rattle.nls.proofs.Judging.Most.{_⊑_, told, Fits, most, afterO}
+use Rattle.nls.proofs.Arrays.{Bits, _⊑_, told, Fit}
+use Rattle.nls.proofs.Judging.Most.{most, afterO}
 use Rattle.nls.proofs.Reading.Know.{least, knowO, belowO}
 use Rattle.nls.proofs.Machine.Table.{Cfg, alone, stands, no-alone, no-stands, alone-no}
 use Rattle.nls.proofs.Machine.Cover.{Core, is-alone, is-D, is-G, mark-D, sskip-small}
@@ -251,7 +251,7 @@ module _ (N : ℕ) {D : ℕ} (P : ℕ) (sz : Tiled D (4 ^ N)) where
         → J (n + 1) (hit || a) (next I s a)
     unfolding next ask
     j-next k w O n hit fl fn s a l z f j t =
-        j-settle A (knowO (ask I s) a k) (afterO N (ask I s) a w) (λ p. O p ⊎ ((a ≡ true) × (ask I s ≡ some p))) (capk (knowO (ask I s) a k) (belowO N State (ask I) (next I) A k (ask I s) a t l)) (n + 1) (hit || a) (tell I s a)
+        j-settle A (knowO (ask I s) a k) (afterO N (ask I s) a w) (λ p. O p ⊎ ((a ≡ true) × (ask I s ≡ some p))) (capk (knowO (ask I s) a k) (belowO N A k (ask I s) a t l)) (n + 1) (hit || a) (tell I s a)
         (all-tell N P sz A false k w O (λ p. O p ⊎ ((a ≡ true) × (ask I s ≡ some p))) (s .left) (s .pass) (s .place) (s .pending) (s .marks) a z t (λ p x. x))
         (jt A k w O (capk k l) n hit fl fn (s .left) (s .pass) (s .place) (s .pending) (s .marks) a z f j t)
 
@@ -266,14 +266,14 @@ module _ (N : ℕ) {D : ℕ} (P : ℕ) (sz : Tiled D (4 ^ N)) where
     fn-next false a fl n e (inr x) = true≢false (sym x ∙ e)
 
     j-run : (k w : Bits) (O : Question → Type 0) (n : ℕ) (hit : Bool) (fl : Type 0) → (hit ≡ false → fl → ⊥) → (s : State) (u : List Bool) → k ⊑ A → All N P sz A false k w O s → Good sz P (F1 fl) s → J n hit s
-        → Fits N State (ask I) (next I) A s u → J (n + length u) (hit || lit u) (reach (4 ^ N) s u)
+        → Fit N A s u → J (n + length u) (hit || lit u) (reach (4 ^ N) s u)
     unfolding reach lit
     j-run k w O n hit fl fn s [] l z g j f = subst (λ (x : Bool). J (n + 0) x s) (sym (or-false hit)) (subst (λ (x : ℕ). J x hit s) {x = n} {y = n + 0} (omega arith) j)
     j-run k w O n hit fl fn s (a ∷ u) l z g j f =
         subst (λ (x : Bool). J (n + suc (length u)) x (reach (4 ^ N) (next I s a) u)) (or-assoc hit a (lit u))
         (subst (λ (x : ℕ). J x ((hit || a) || lit u) (reach (4 ^ N) (next I s a) u)) {x = (n + 1) + length u} {y = n + suc (length u)} (omega arith)
         (j-run (knowO (ask I s) a k) (afterO N (ask I s) a w) (λ p. O p ⊎ ((a ≡ true) × (ask I s ≡ some p))) (n + 1) (hit || a) (fl ⊎ (a ≡ true)) (fn-next hit a fl fn) (next I s a) u
-        (belowO N State (ask I) (next I) A k (ask I s) a (f .0) l) (all-next N P sz A false k w O s a z (f .0)) (good1 s a fl g (f .0)) (j-next k w O n hit fl fn s a l z g j (f .0)) (f .1)))
+        (belowO N A k (ask I s) a (f .0) l) (all-next N P sz A false k w O s a z (f .0)) (good1 s a fl g (f .0)) (j-next k w O n hit fl fn s a l z g j (f .0)) (f .1)))
 
     j-start : J 0 false (start I D P)
     unfolding start startMarks
@@ -283,7 +283,7 @@ module _ (N : ℕ) {D : ℕ} (P : ℕ) (sz : Tiled D (4 ^ N)) where
         go zero = tt
         go (suc b) = λ e. inl (refl, omega arith)
 
-    pub tally : (u : List Bool) → Fits N State (ask I) (next I) A (start I D P) u → J (length u) (lit u) (reach (4 ^ N) (start I D P) u)
+    pub tally : (u : List Bool) → Fit N A (start I D P) u → J (length u) (lit u) (reach (4 ^ N) (start I D P) u)
     unfolding _⊑_
     tally u f = subst (λ (x : ℕ). J x (lit u) (reach (4 ^ N) (start I D P) u)) {x = 0 + length u} {y = length u} (omega arith)
         (j-run nothing (record { has = λ i b. ltb b P; neg = λ i. false }) (λ p. ⊥) 0 false ⊥ (λ e y. y) (start I D P) u (λ i b h. absurd (false≢true h)) (all-start N P sz A false)
@@ -312,8 +312,8 @@ module _ (N : ℕ) {D : ℕ} (P : ℕ) (sz : Tiled D (4 ^ N)) where
   counts n i hit te (inl t) = ((λ e. t .0), λ e. eq-eqb n (D + 3 * D / 4 - 1) (omega (arith, t .1)))
   counts n i hit te (inr t) = ((λ e. absurd (omega (arith, t .1, eqb-true n (D + 3 * D / 4 - 1) e))), λ e. absurd (true≢false (sym e ∙ ap not (t .0))))
 
-  module _ (A : Bits) (va : Valid II P A) (u : List Bool) (f : Fits N State (ask II) (next II) A (start II D P) u) (k w : Bits) (O : Question → Type 0) (nb : lit u ≡ false → Blank N P sz k)
-      (ow : (p : Question) → Owed N State (ask II) (next II) (start II D P) u p → O p) where
+  module _ (A : Bits) (va : Valid II P A) (u : List Bool) (f : Fit N A (start II D P) u) (k w : Bits) (O : Question → Type 0) (nb : lit u ≡ false → Blank N P sz k)
+      (ow : (p : Question) → Owed N (start II D P) u p → O p) where
     ok : (b i : ℕ) (m : List ℕ) → All-at N P sz A false k w O (suc b) sets i false m → Good-at sz P (F1 (Fl u ⊥)) (suc b) sets i false m → J-at N P sz (length u) (lit u) (suc b) sets i false m
         → getD m i 0 ≡ 5 → i + 4 ≡ 4 * D → suc b ≡ P → eqb (length u) (D + 3 * D / 4 - 1) ≡ true → None D i m
     ok b i m z g j a1 a2 a3 n =
@@ -337,7 +337,7 @@ module _ (N : ℕ) {D : ℕ} (P : ℕ) (sz : Tiled D (4 ^ N)) where
 
   both-of : (u : List Bool) → (w : Some N P sz u) → (count-st II D P (length u) ((reach (4 ^ N) S u) .left) ((reach (4 ^ N) S u) .pass) ((reach (4 ^ N) S u) .place) ((reach (4 ^ N) S u) .pending) ((reach (4 ^ N) S u) .marks) ≡ true → Clashes N P sz (reach (4 ^ N) S u))
       × (Clashes N P sz (reach (4 ^ N) S u) → count-st II D P (length u) ((reach (4 ^ N) S u) .left) ((reach (4 ^ N) S u) .pass) ((reach (4 ^ N) S u) .place) ((reach (4 ^ N) S u) .pending) ((reach (4 ^ N) S u) .marks) ≡ true)
-  both-of u w = both-at (w .0) (w .1) u (w .2) (least N State (ask II) (next II) S u nothing) (most N State (ask II) (next II) S u (record { has = λ i b. ltb b P; neg = λ i. false })) (Owing N P sz (w .0) false S u (λ p. ⊥))
+  both-of u w = both-at (w .0) (w .1) u (w .2) (least N S u nothing) (most N S u (record { has = λ i b. ltb b P; neg = λ i. false })) (Owing N P sz (w .0) false S u (λ p. ⊥))
       (λ h. blank-run N P sz S u nothing h (λ j e y. false≢true y)) (λ p o. owing N P sz (w .0) false S u (λ p. ⊥) p o)
       ((reach (4 ^ N) S u) .left) ((reach (4 ^ N) S u) .pass) ((reach (4 ^ N) S u) .place) ((reach (4 ^ N) S u) .pending) ((reach (4 ^ N) S u) .marks)
       (z N P sz (w .0) u (w .2)) (g1 N P sz (w .0) u (w .2)) (tally N P sz (w .0) (w .1) u (w .2))

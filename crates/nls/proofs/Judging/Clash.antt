@@ -10,11 +10,10 @@ use borrow.Author.Tests.{lt-ltb}
 use Rattle.sizes.proofs.Laws.{both}
 use Rattle.nls.specs.Scan.{bitOf, inDesc, inGrand}
 use Rattle.nls.proofs.Tiled.{Tiled}
-use Rattle.nls.proofs.Arrays.{Bits, inside, ans, below}
+use Rattle.nls.proofs.Arrays.{Bits, inside, ans, below, member}
 use Rattle.nls.proofs.Machine.Table.{Cfg, alone, stands, Ok, alone-no, no-alone, stands-no, no-dg, low}
 use Rattle.nls.proofs.Machine.Cover.{Under, kid, far, Core, Sets, is-alone, is-D, is-G}
 use Rattle.nls.proofs.Machine.Steps.{preds, From}
-use Rattle.nls.proofs.Judging.Most.{member}
 use Rattle.nls.proofs.Reading.Whole.{fam, Known, under-below, under-ge}
 
 -- An array of P planes: no bit from P on, and one in plane P - 1

@@ -10,9 +10,8 @@ use lib.Dec.{ltb, eqb}
 use borrow.Author.Tests.{ltb-true, lt-ltb, eqb-true}
 use Rattle.nls.specs.Scan.{State, Question, Pass, pixels, sets, refining, lookAt, lookSets, ask, asked, next, reach, start}
 use Rattle.nls.proofs.Tiled.{Tiled}
-use Rattle.nls.proofs.Arrays.{Bits}
+use Rattle.nls.proofs.Arrays.{Bits, told, Fit}
 use Rattle.nls.proofs.Machine.Run.{fit-prefix, reach-append}
-use Rattle.nls.proofs.Judging.Most.{told, Fits}
 use Rattle.nls.proofs.Reading.Know.{least}
 use Rattle.nls.proofs.Machine.Steps.{Good-at}
 use Rattle.nls.proofs.Reading.Whole.{fam, run}
@@ -53,7 +52,7 @@ module _ (N : ℕ) {D : ℕ} (P : ℕ) (sz : Tiled D (4 ^ N)) where
   S = start I D P
 
   abbrev pub Starts : Bits → List Bool → Type 0
-  Starts A u = Fits N State (ask I) (next I) A (start I D P) u
+  Starts A u = Fit N A (start I D P) u
 
   -- some array of P planes has a stream that begins with u
   abbrev pub Some : List Bool → Type 0
@@ -62,7 +61,7 @@ module _ (N : ℕ) {D : ℕ} (P : ℕ) (sz : Tiled D (4 ^ N)) where
   abbrev Bad : State → Type 0
   Bad s = Clashes N P sz s
 
-  fit-split : (A : Bits) (s : State) (u v : List Bool) → Fits N State (ask I) (next I) A s (u ++ v) → Fits N State (ask I) (next I) A (reach (4 ^ N) s u) v
+  fit-split : (A : Bits) (s : State) (u v : List Bool) → Fit N A s (u ++ v) → Fit N A (reach (4 ^ N) s u) v
   unfolding reach
   fit-split A s [] v f = f
   fit-split A s (a ∷ u) v f = fit-split A (next I s a) u v (f .1)
@@ -98,7 +97,7 @@ module _ (N : ℕ) {D : ℕ} (P : ℕ) (sz : Tiled D (4 ^ N)) where
   refuses u n w =
       let f : Starts (w .0) u = fit-prefix N (w .0) S u (false ∷ []) (w .2) in
       let r : State = reach (4 ^ N) S u in
-      sound-at (w .0) (least N State (ask I) (next I) S u nothing) (w .1) (r .left) (r .pass) (r .place) (r .pending) (r .marks)
+      sound-at (w .0) (least N S u nothing) (w .1) (r .left) (r .pass) (r .place) (r .pending) (r .marks)
       (run N P sz (w .0) nothing S u (good-start sz P (fam N (w .0) nothing) (λ j z. false≢true (z .1))) f) n
       ((fit-split (w .0) S u (false ∷ []) (w .2)) .0)
 

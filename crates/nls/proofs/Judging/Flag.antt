@@ -12,8 +12,8 @@ use lib.Dec.{ltb, eqb}
 use Rattle.nls.specs.Scan.{State, Look, over, silent, asks, Question, bitOf, signOf, inDesc, inGrand, Pass, pixels, sets, refining, look, lookAt, lookPixels, lookSets, lookRefining, ask, asked, next, reach, start}
 use Rattle.nls.proofs.Tiled.{Tiled}
 use Rattle.nls.proofs.Booleans.{neither}
-use Rattle.nls.proofs.Arrays.{Bits}
-use Rattle.nls.proofs.Judging.Most.{told, Fits, most, afterO}
+use Rattle.nls.proofs.Arrays.{Bits, told, Fit}
+use Rattle.nls.proofs.Judging.Most.{most, afterO}
 use Rattle.nls.proofs.Reading.Know.{least, know, knowO, know-sgn-has}
 use Rattle.nls.proofs.Judging.Owed.{Owed}
 use Rattle.nls.proofs.Machine.Table.{alone, stands, no-alone, no-stands, alone-no}
@@ -70,7 +70,7 @@ module _ (N : ℕ) {D : ℕ} (P : ℕ) (sz : Tiled D (4 ^ N)) where
   on-ask1 A fl a (silent s) t = t
   on-ask1 A fl a (asks q) t = learned1 fl q a
 
-  run1 : (A : Bits) (fl : Type 0) (s : State) (u : List Bool) → Good sz P (F1 fl) s → Fits N State (ask I) (next I) A s u → Good sz P (F1 (Fl u fl)) (reach (4 ^ N) s u)
+  run1 : (A : Bits) (fl : Type 0) (s : State) (u : List Bool) → Good sz P (F1 fl) s → Fit N A s u → Good sz P (F1 (Fl u fl)) (reach (4 ^ N) s u)
   unfolding reach ask
   run1 A fl s [] g f = g
   run1 A fl s (a ∷ u) g f = run1 A (fl ⊎ (a ≡ true)) (next I s a) u
@@ -89,7 +89,7 @@ module _ (N : ℕ) {D : ℕ} (P : ℕ) (sz : Tiled D (4 ^ N)) where
   blank-O (some (inDesc g b)) k n = n
   blank-O (some (inGrand g b)) k n = n
 
-  pub blank-run : (s : State) (u : List Bool) (k : Bits) → lit u ≡ false → Blank k → Blank (least N State (ask I) (next I) s u k)
+  pub blank-run : (s : State) (u : List Bool) (k : Bits) → lit u ≡ false → Blank k → Blank (least N s u k)
   unfolding lit
   blank-run s [] k e n = n
   blank-run s (true ∷ u) k e n = absurd (true≢false e)
@@ -130,15 +130,15 @@ module _ (N : ℕ) {D : ℕ} (P : ℕ) (sz : Tiled D (4 ^ N)) where
     plain-at (suc b) refining i false m z = plain-fine b i m (ltb i I) (eqb (getD m i 0) 3) (eqb (getD m i 0) 2)
 
   -- the first 1 answers no sign
-  first-1 : (A k w : Bits) (O : Question → Type 0) (s : State) (u : List Bool) → All N P sz A false k w O s → Blank k → Fits N State (ask I) (next I) A s u → lit u ≡ true → (p : Question) × Plain p × Owed N State (ask I) (next I) s u p
+  first-1 : (A k w : Bits) (O : Question → Type 0) (s : State) (u : List Bool) → All N P sz A false k w O s → Blank k → Fit N A s u → lit u ≡ true → (p : Question) × Plain p × Owed N s u p
   unfolding lit
   first-1 A k w O s [] z n f e = absurd (false≢true e)
   first-1 A k w O s (false ∷ u) z n f e =
-      let r : (p : Question) × Plain p × Owed N State (ask I) (next I) (next I s false) u p = first-1 A (knowO (ask I s) false k) (afterO N (ask I s) false w) (λ p. O p ⊎ ((false ≡ true) × (ask I s ≡ some p))) (next I s false) u (all-next N P sz A false k w O s false z (f .0)) (blank-O (ask I s) k n) (f .1) e in
+      let r : (p : Question) × Plain p × Owed N (next I s false) u p = first-1 A (knowO (ask I s) false k) (afterO N (ask I s) false w) (λ p. O p ⊎ ((false ≡ true) × (ask I s ≡ some p))) (next I s false) u (all-next N P sz A false k w O s false z (f .0)) (blank-O (ask I s) k n) (f .1) e in
       (r .0, r .1, inr (r .2))
   first-1 A k w O s (true ∷ u) z n f e = go (look I s) refl (plain-at A k w O n (s .left) (s .pass) (s .place) (s .pending) (s .marks) z) (unfold ask in f .0)
     where
-      go : (L : Look) → look I s ≡ L → Not-sgn A k w O n L → told N A (asked I (look I s)) true → (p : Question) × Plain p × Owed N State (ask I) (next I) s (true ∷ u) p
+      go : (L : Look) → look I s ≡ L → Not-sgn A k w O n L → told N A (asked I (look I s)) true → (p : Question) × Plain p × Owed N s (true ∷ u) p
       go over q y t = absurd (subst (λ (L : Look). told N A (asked I L) true) q t)
       go (silent r) q y t = absurd (subst (λ (L : Look). told N A (asked I L) true) q t)
       go (asks p) q y t = (p, y, inl (refl, (unfold ask in ap (λ (L : Look). asked I L) q)))
@@ -201,8 +201,8 @@ module _ (N : ℕ) {D : ℕ} (P : ℕ) (sz : Tiled D (4 ^ N)) where
         go hj r (no l) false s = true≢false (sym (r .0) ∙ alone-no D I (z .1 .0) j (omega arith) s)
 
   -- the flag says so
-  module _ (A : Bits) (u : List Bool) (f : Fits N State (ask I) (next I) A (start I D P) u) where
-    pub z : All N P sz A false (least N State (ask I) (next I) S u nothing) (most N State (ask I) (next I) S u (record { has = λ i b. ltb b P; neg = λ i. false })) (Owing N P sz A false S u (λ p. ⊥)) (reach (4 ^ N) S u)
+  module _ (A : Bits) (u : List Bool) (f : Fit N A (start I D P) u) where
+    pub z : All N P sz A false (least N S u nothing) (most N S u (record { has = λ i b. ltb b P; neg = λ i. false })) (Owing N P sz A false S u (λ p. ⊥)) (reach (4 ^ N) S u)
     z = all-run N P sz A false nothing (record { has = λ i b. ltb b P; neg = λ i. false }) (λ p. ⊥) S u (all-start N P sz A false) f
 
     pub g1 : Good sz P (F1 (Fl u ⊥)) (reach (4 ^ N) S u)
@@ -221,8 +221,8 @@ module _ (N : ℕ) {D : ℕ} (P : ℕ) (sz : Tiled D (4 ^ N)) where
             st false y = absurd (omega (arith, (no-stands D I (g .1 .0) h y) .0))
 
     pub flag-of : (k w : Bits) (O : Question → Type 0) (b i : ℕ) (m : List ℕ) → i < I → getD m i 0 ≡ 5 → i + 4 ≡ 4 * D → All-at N P sz A false k w O (suc b) sets i false m
-        → ((p : Question) → Owed N State (ask I) (next I) (start I D P) u p → O p) → None D i m → (x : Bool) → lit u ≡ x → not (lit u) ≡ true
+        → ((p : Question) → Owed N (start I D P) u p → O p) → None D i m → (x : Bool) → lit u ≡ x → not (lit u) ≡ true
     flag-of k w O b i m hi mk te z ow n false e = ap not e
     flag-of k w O b i m hi mk te z ow n true e =
-        let r : (p : Question) × Plain p × Owed N State (ask I) (next I) S u p = first-1 A nothing (record { has = λ i b. ltb b P; neg = λ i. false }) (λ p. ⊥) S u (all-start N P sz A false) (λ j e h. false≢true h) f e in
+        let r : (p : Question) × Plain p × Owed N S u p = first-1 A nothing (record { has = λ i b. ltb b P; neg = λ i. false }) (λ p. ⊥) S u (all-start N P sz A false) (λ j e h. false≢true h) f e in
         absurd (none-owed A k w O b i m hi mk te z n (r .0) (r .1) (ow (r .0) (r .2)))

@@ -8,10 +8,9 @@ use native.Mathlib.Omega.{arith}
 use native.Mathlib.Decide.{decLt}
 use Rattle.bits.specs.Bits.{bit, number}
 use Rattle.bits.proofs.Laws.{bit-high, bit-top, number-lt, number-bit}
-use Rattle.nls.specs.Scan.{Question, bitOf, signOf, inDesc, inGrand, ask, next}
+use Rattle.nls.specs.Scan.{Question, bitOf, signOf, inDesc, inGrand, ask, next, State}
 use Rattle.nls.proofs.Booleans.{not-true-false, same-bool}
-use Rattle.nls.proofs.Arrays.{Arr, Bits, bits-of, ans, inside}
-use Rattle.nls.proofs.Judging.Most.{told, Fits, any-mono}
+use Rattle.nls.proofs.Arrays.{Arr, Bits, bits-of, ans, inside, told, any-mono, Fit}
 use Rattle.nls.proofs.Judging.Clash.{Valid}
 
 -- the number whose bits below n are f
@@ -63,9 +62,9 @@ module _ (N : ℕ) where
   ans-ext A B f g (inDesc h b) = same-bool _ _ (any-mono (4 ^ N) (λ j. inside N (inDesc h b) j) (λ j. A .has j b) (λ j. B .has j b) (λ j e. sym (f j b) ∙ e)) (any-mono (4 ^ N) (λ j. inside N (inDesc h b) j) (λ j. B .has j b) (λ j. A .has j b) (λ j e. f j b ∙ e))
   ans-ext A B f g (inGrand h b) = same-bool _ _ (any-mono (4 ^ N) (λ j. inside N (inGrand h b) j) (λ j. A .has j b) (λ j. B .has j b) (λ j e. sym (f j b) ∙ e)) (any-mono (4 ^ N) (λ j. inside N (inGrand h b) j) (λ j. B .has j b) (λ j. A .has j b) (λ j e. f j b ∙ e))
 
-  pub fits-ext : (S : Type 0) (ask : S → Option Question) (next : S → Bool → S) (A B : Bits) → ((i b : ℕ) → A .has i b ≡ B .has i b) → ((i : ℕ) → A .neg i ≡ B .neg i) → (s : S) (u : List Bool) → Fits N S ask next A s u → Fits N S ask next B s u
-  fits-ext S ask next A B f g s [] h = tt
-  fits-ext S ask next A B f g s (a ∷ u) h = (go (ask s) (h .0), fits-ext S ask next A B f g (next s a) u (h .1))
+  pub fits-ext : (A B : Bits) → ((i b : ℕ) → A .has i b ≡ B .has i b) → ((i : ℕ) → A .neg i ≡ B .neg i) → (s : State) (u : List Bool) → Fit N A s u → Fit N B s u
+  fits-ext A B f g s [] h = tt
+  fits-ext A B f g s (a ∷ u) h = (go (ask (4 ^ N) s) (h .0), fits-ext A B f g (next (4 ^ N) s a) u (h .1))
     where
       go : (o : Option Question) → told N A o a → told N B o a
       go none t = t

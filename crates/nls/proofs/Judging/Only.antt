@@ -11,8 +11,7 @@ use Rattle.sizes.proofs.Laws.{both-right, both}
 use Rattle.bits.specs.Bits.{digit, number}
 use Rattle.nls.specs.Scan.{State, Look, over, silent, asks, Question, bitOf, signOf, inDesc, inGrand, Pass, pixels, sets, refining, look, lookAt, lookPixels, lookSets, lookRefining, ask, asked, next, start}
 use Rattle.nls.proofs.Booleans.{same-bool}
-use Rattle.nls.proofs.Arrays.{Arr, Bits, bits-of, ans, inside}
-use Rattle.nls.proofs.Judging.Most.{told, Fits}
+use Rattle.nls.proofs.Arrays.{Arr, Bits, bits-of, ans, inside, told, Fit}
 use Rattle.nls.proofs.Judging.Clash.{Valid}
 use Rattle.nls.proofs.Judging.Refuse.{find-desc, find-grand, yes-desc, yes-grand}
 use Rattle.nls.proofs.Judging.Numbers.{Planes, arr-of, arr-has, planes-of, fits-ext}
@@ -79,7 +78,7 @@ module _ (N : ℕ) where
       (λ e. (let r : (j : ℕ) × (j < 4 ^ N) × (inside N (inGrand g b) j ≡ true) × (B .has j b ≡ true) = find-grand N B g b e in yes-grand N (only (4 ^ N) B) g b (r .0) (r .1) (r .2) (both (lt-ltb (r .0) (4 ^ N) (r .1)) (r .3))))
       (λ e. (let r : (j : ℕ) × (j < 4 ^ N) × (inside N (inGrand g b) j ≡ true) × ((ltb j (4 ^ N) && B .has j b) ≡ true) = find-grand N (only (4 ^ N) B) g b e in yes-grand N B g b (r .0) (r .1) (r .2) (both-right (ltb (r .0) (4 ^ N)) (B .has (r .0) b) (r .3))))
 
-  pub only-fits : (B : Bits) (s : State) (u : List Bool) → Fits N State (ask (4 ^ N)) (next (4 ^ N)) B s u → Fits N State (ask (4 ^ N)) (next (4 ^ N)) (only (4 ^ N) B) s u
+  pub only-fits : (B : Bits) (s : State) (u : List Bool) → Fit N B s u → Fit N (only (4 ^ N) B) s u
   unfolding ask
   only-fits B s [] f = tt
   only-fits B s (a ∷ u) f = (go (look (4 ^ N) s) (in-at (4 ^ N) (s .left) (s .pass) (s .place) (s .pending) (s .marks)) (f .0), only-fits B (next (4 ^ N) s a) u (f .1))
@@ -96,11 +95,11 @@ module _ (N : ℕ) where
   }
 
   -- SOME ARRAY OF BITS IS SOME LIST OF NUMBERS: 0 from I on
-  pub to-list : (D P : ℕ) (u : List Bool) → (B : Bits) × Valid (4 ^ N) P B × Fits N State (ask (4 ^ N)) (next (4 ^ N)) B (start (4 ^ N) D P) u
-      → (A : Arr) × Planes (4 ^ N) P A × Fits N State (ask (4 ^ N)) (next (4 ^ N)) (bits-of A) (start (4 ^ N) D P) u × ((j : ℕ) → 4 ^ N ≤ j → A .mag j ≡ 0)
+  pub to-list : (D P : ℕ) (u : List Bool) → (B : Bits) × Valid (4 ^ N) P B × Fit N B (start (4 ^ N) D P) u
+      → (A : Arr) × Planes (4 ^ N) P A × Fit N (bits-of A) (start (4 ^ N) D P) u × ((j : ℕ) → 4 ^ N ≤ j → A .mag j ≡ 0)
   to-list D P u w = (
     arr-of P (only (4 ^ N) (w .0)),
     planes-of (4 ^ N) P (only (4 ^ N) (w .0)) (only-valid P (w .0) (w .1)),
-    fits-ext N State (ask (4 ^ N)) (next (4 ^ N)) (only (4 ^ N) (w .0)) (bits-of (arr-of P (only (4 ^ N) (w .0)))) (λ j e. sym (arr-has (4 ^ N) P (only (4 ^ N) (w .0)) (only-valid P (w .0) (w .1)) j e)) (λ j. refl) (start (4 ^ N) D P) u (only-fits (w .0) (start (4 ^ N) D P) u (w .2)),
+    fits-ext N (only (4 ^ N) (w .0)) (bits-of (arr-of P (only (4 ^ N) (w .0)))) (λ j e. sym (arr-has (4 ^ N) P (only (4 ^ N) (w .0)) (only-valid P (w .0) (w .1)) j e)) (λ j. refl) (start (4 ^ N) D P) u (only-fits (w .0) (start (4 ^ N) D P) u (w .2)),
     λ j h. number-0 P (λ k. ltb j (4 ^ N) && (w .0) .has j (P - 1 - k)) (λ k. drop (ltb j (4 ^ N)) ((w .0) .has j (P - 1 - k)) (le-ltb j (4 ^ N) h)),
   )

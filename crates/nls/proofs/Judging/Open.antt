@@ -14,13 +14,13 @@ use Rattle.sizes.proofs.Laws.{both-right}
 use Rattle.nls.specs.Marks.{skip, setSkip, splitDesc, splitGrand, startMarks}
 use Rattle.nls.specs.Scan.{State, Look, over, silent, asks, Question, bitOf, signOf, inDesc, inGrand, Pass, pixels, sets, refining, at, look, lookAt, lookPixels, lookSets, lookRefining, tell, tellAt, tellSets, silently, settle, movesLeft, ask, asked, next, reach, start}
 use Rattle.nls.proofs.Tiled.{Tiled}
-use Rattle.nls.proofs.Arrays.{Bits, ans, inside, below}
+use Rattle.nls.proofs.Arrays.{Bits, ans, inside, below, _⊑_, told, sign, Fit}
 use Rattle.nls.proofs.Machine.Table.{Cfg, alone, stands, alone-no}
 use Rattle.nls.proofs.Machine.Split.{withD, withG, withA, same-D, same-G, al-at, al-else, al-D-on, al-D-off, sD-off}
 use Rattle.nls.proofs.Machine.Push.{al-G, sD-G}
 use Rattle.nls.proofs.Machine.Cover.{Under, Preds, hide, is-alone, Pix, Sets, Fine, pix-hush, pix-zero, pix-one, pix-end, sets-hush, sets-D0, sets-D1, sets-G0, sets-G1, sets-C, sets-end, fine-hush, fine-ask, fine-np, fine-end, is-D, is-G, More}
 use Rattle.nls.proofs.Machine.Steps.{Fam, preds, From, more-Z, pix-Z, sets-Z, fine-Z}
-use Rattle.nls.proofs.Judging.Most.{_⊑_, told, afterO, after, clear, sign, stays, most, Fits}
+use Rattle.nls.proofs.Judging.Most.{afterO, after, clear, stays, most}
 use Rattle.nls.proofs.Reading.Know.{know, knowO, know-grows, know-one, know-sgn-has, know-neg, add, least}
 use Rattle.nls.proofs.Reading.Whole.{fam, Known, Zof, learned, below-under}
 use Rattle.nls.proofs.Judging.Clash.{dead-D, dead-G}
@@ -802,8 +802,8 @@ module _ (N : ℕ) {D : ℕ} (P : ℕ) (sz : Tiled D (4 ^ N)) (W : Bits) (vv : B
   Owing s (a ∷ u) O = Owing (next I s a) u (λ p. O p ⊎ ((a ≡ true) × (ask I s ≡ some p)))
 
   -- ALONG A RUN
-  pub all-run : (k w : Bits) (O : Question → Type 0) (s : State) (u : List Bool) → All k w O s → Fits N State (ask I) (next I) W s u
-      → All (least N State (ask I) (next I) s u k) (most N State (ask I) (next I) s u w) (Owing s u O) (reach (4 ^ N) s u)
+  pub all-run : (k w : Bits) (O : Question → Type 0) (s : State) (u : List Bool) → All k w O s → Fit N W s u
+      → All (least N s u k) (most N s u w) (Owing s u O) (reach (4 ^ N) s u)
   unfolding reach
   all-run k w O s [] z f = z
   all-run k w O s (a ∷ u) z f = all-run (knowO (ask I s) a k) (afterO N (ask I s) a w) (λ p. O p ⊎ ((a ≡ true) × (ask I s ≡ some p))) (next I s a) u (all-next k w O s a z (f .0)) (f .1)

@@ -14,9 +14,9 @@ use Rattle.sizes.proofs.Laws.{both-left, both-right, both}
 use Rattle.nls.specs.Scan.{State, Look, over, silent, asks, Question, bitOf, signOf, inDesc, inGrand, Pass, pixels, sets, refining, look, lookAt, lookPixels, lookSets, lookRefining, ask, asked, next, reach, start}
 use Rattle.nls.proofs.Tiled.{Tiled}
 use Rattle.nls.proofs.Booleans.{not-true-false}
-use Rattle.nls.proofs.Arrays.{Bits, inside, ans, below}
+use Rattle.nls.proofs.Arrays.{Bits, inside, ans, below, _⊑_, told, any-find, any-some, Fit}
 use Rattle.nls.proofs.Machine.Run.{fit-append}
-use Rattle.nls.proofs.Judging.Most.{_⊑_, told, Fits, most, most-fits, most-keeps, most-below, clear, any-find, any-some}
+use Rattle.nls.proofs.Judging.Most.{most, most-fits, most-keeps, most-below, clear}
 use Rattle.nls.proofs.Reading.Know.{least, least-below}
 use Rattle.nls.proofs.Judging.Owed.{Owed, owed-true, change}
 use Rattle.nls.proofs.Machine.Cover.{Under, is-alone, is-D, is-G}
@@ -113,7 +113,7 @@ module _ (N : ℕ) {D : ℕ} (P : ℕ) (sz : Tiled D (4 ^ N)) where
 
   -- A's stream begins with u
   abbrev pub Begins : Bits → List Bool → Type 0
-  Begins A u = Fits N State (ask I) (next I) A S0 u
+  Begins A u = Fit N A S0 u
 
   abbrev pub Clash-at : ℕ → Pass → ℕ → Bool → List ℕ → Type 0
   Clash-at zero p i s m = ⊥
@@ -131,22 +131,22 @@ module _ (N : ℕ) {D : ℕ} (P : ℕ) (sz : Tiled D (4 ^ N)) where
     keep s [] O p o = o
     keep s (a ∷ u) O p o = keep (next I s a) u (λ p. O p ⊎ ((a ≡ true) × (ask I s ≡ some p))) p (inl o)
 
-    pub owing : (s : State) (u : List Bool) (O : Question → Type 0) (p : Question) → Owed N State (ask I) (next I) s u p → Owing N P sz W vv s u O p
+    pub owing : (s : State) (u : List Bool) (O : Question → Type 0) (p : Question) → Owed N s u p → Owing N P sz W vv s u O p
     owing s [] O p o = absurd o
     owing s (a ∷ u) O p (inl o) = keep (next I s a) u (λ p. O p ⊎ ((a ≡ true) × (ask I s ≡ some p))) p (inr o)
     owing s (a ∷ u) O p (inr o) = owing (next I s a) u (λ p. O p ⊎ ((a ≡ true) × (ask I s ≡ some p))) p o
 
   -- the question's bits cleared: the array still has P planes, and its stream still begins with u
-  module _ (W : Bits) (O : Question → Type 0) (u : List Bool) (va : Valid I P W) (f : Begins W u) (ow : (p : Question) → Owed N State (ask I) (next I) S0 u p → O p)
+  module _ (W : Bits) (O : Question → Type 0) (u : List Bool) (va : Valid I P W) (f : Begins W u) (ow : (p : Question) → Owed N S0 u p → O p)
       (q : Question) (b : ℕ) (In : ℕ → Type 0) (to : (j : ℕ) → inside N q j ≡ true → In j × (j < I))
       (en : Enough N P sz W O b In) where
     out : (j e : ℕ) → (In j → e ≡ b → ⊥) → W .has j e ≡ true → (clear N q b W) .has j e ≡ true
     out j e n h = clear-out N q b W j e (λ i z. n ((to j i) .0) z) h
 
-    still : (p : Question) → Owed N State (ask I) (next I) S0 u p → ans N (clear N q b W) p ≡ true
-    still (bitOf j e) o = unfold ans in clear-out N q b W j e (λ i z. en .eO j ((to j i) .1) (subst (λ (y : ℕ). O (bitOf j y)) z (ow (bitOf j e) o)) ((to j i) .0)) (unfold ans in owed-true N State (ask I) (next I) W S0 u f (bitOf j e) o)
-    still (signOf j) o = unfold ans clear in owed-true N State (ask I) (next I) W S0 u f (signOf j) o
-    still (inDesc h e) o = at (find-desc N W h e (owed-true N State (ask I) (next I) W S0 u f (inDesc h e) o)) (ℕ-discrete e b)
+    still : (p : Question) → Owed N S0 u p → ans N (clear N q b W) p ≡ true
+    still (bitOf j e) o = unfold ans in clear-out N q b W j e (λ i z. en .eO j ((to j i) .1) (subst (λ (y : ℕ). O (bitOf j y)) z (ow (bitOf j e) o)) ((to j i) .0)) (unfold ans in owed-true N W S0 u f (bitOf j e) o)
+    still (signOf j) o = unfold ans clear in owed-true N W S0 u f (signOf j) o
+    still (inDesc h e) o = at (find-desc N W h e (owed-true N W S0 u f (inDesc h e) o)) (ℕ-discrete e b)
       where
         at : (j : ℕ) × (j < I) × (inside N (inDesc h e) j ≡ true) × (W .has j e ≡ true) → Dec (e ≡ b) → ans N (clear N q b W) (inDesc h e) ≡ true
         at r (no z) = yes-desc N (clear N q b W) h e (r .0) (r .1) (r .2) (out (r .0) e (λ i y. z y) (r .3))
@@ -157,7 +157,7 @@ module _ (N : ℕ) {D : ℕ} (P : ℕ) (sz : Tiled D (4 ^ N)) where
             pick true i =
                 let t : (j : ℕ) × (j < I) × Under h j × (W .has j b ≡ true) × (In j → ⊥) × (1 ≤ h) = en .eD h (r .0) (subst (λ (y : ℕ). O (inDesc h y)) z (ow (inDesc h e) o)) ((desc-in N h e (r .0) (r .2)) .0) ((to (r .0) i) .0) in
                 yes-desc N (clear N q b W) h e (t .0) (t .1) (in-desc N h e (t .0) (t .5) (t .1) (t .2)) (out (t .0) e (λ y w. t .4 y) (subst (λ (y : ℕ). W .has (t .0) y ≡ true) (sym z) (t .3)))
-    still (inGrand h e) o = at (find-grand N W h e (owed-true N State (ask I) (next I) W S0 u f (inGrand h e) o)) (ℕ-discrete e b)
+    still (inGrand h e) o = at (find-grand N W h e (owed-true N W S0 u f (inGrand h e) o)) (ℕ-discrete e b)
       where
         at : (j : ℕ) × (j < I) × (inside N (inGrand h e) j ≡ true) × (W .has j e ≡ true) → Dec (e ≡ b) → ans N (clear N q b W) (inGrand h e) ≡ true
         at r (no z) = yes-grand N (clear N q b W) h e (r .0) (r .1) (r .2) (out (r .0) e (λ i y. z y) (r .3))
@@ -171,7 +171,7 @@ module _ (N : ℕ) {D : ℕ} (P : ℕ) (sz : Tiled D (4 ^ N)) where
 
     pub still-begins : Begins (clear N q b W) u
     unfolding _⊑_
-    still-begins = change N State (ask I) (next I) (clear N q b W) W (λ j e h. clear-below N q b W j e h) (λ j. unfold clear in refl) S0 u f still
+    still-begins = change N (clear N q b W) W (λ j e h. clear-below N q b W j e h) (λ j. unfold clear in refl) S0 u f still
 
     pub still-valid : Valid I P (clear N q b W)
     still-valid = record { cap = λ j e h. va .cap j e (clear-below N q b W j e h); top = top′ (ℕ-discrete (va .top .1) b) }
@@ -293,16 +293,16 @@ module _ (N : ℕ) {D : ℕ} (P : ℕ) (sz : Tiled D (4 ^ N)) where
       s = reach (4 ^ N) S0 u
 
       W : Bits
-      W = most N State (ask I) (next I) S0 u (all-of a)
+      W = most N S0 u (all-of a)
 
       k : Bits
-      k = least N State (ask I) (next I) S0 u nothing
+      k = least N S0 u nothing
 
       A⊑ : A ⊑ all-of a
       A⊑ j e h = lt-ltb e P (va .cap j e h)
 
       fW : Begins W u
-      fW = most-fits N State (ask I) (next I) A S0 u (all-of a) f A⊑
+      fW = most-fits N A S0 u (all-of a) f A⊑
 
       O : Question → Type 0
       O = Owing N P sz W a S0 u (λ p. ⊥)
@@ -311,15 +311,15 @@ module _ (N : ℕ) {D : ℕ} (P : ℕ) (sz : Tiled D (4 ^ N)) where
       z = all-run N P sz W a nothing (all-of a) (λ p. ⊥) S0 u (all-start N P sz W a) fW
 
       cap : (j e : ℕ) → W .has j e ≡ true → e < P
-      cap j e h = ltb-true e P (most-below N State (ask I) (next I) S0 u (all-of a) j e h)
+      cap j e h = ltb-true e P (most-below N S0 u (all-of a) j e h)
 
       k⊑W : (j e : ℕ) → k .has j e ≡ true → W .has j e ≡ true
-      k⊑W j e h = least-below N State (ask I) (next I) W S0 u nothing fW (λ i b y. absurd (false≢true y)) j e h
+      k⊑W j e h = least-below N W S0 u nothing fW (λ i b y. absurd (false≢true y)) j e h
 
       vW : Valid I P W
-      vW = record { cap = cap; top = (va .top .0, va .top .1, va .top .2, va .top .3, most-keeps N State (ask I) (next I) A S0 u (all-of a) f A⊑ (va .top .0) (va .top .1) (va .top .4)) }
+      vW = record { cap = cap; top = (va .top .0, va .top .1, va .top .2, va .top .3, most-keeps N A S0 u (all-of a) f A⊑ (va .top .0) (va .top .1) (va .top .4)) }
 
-      ow : (p : Question) → Owed N State (ask I) (next I) S0 u p → O p
+      ow : (p : Question) → Owed N S0 u p → O p
       ow p o = owing W a S0 u (λ p. ⊥) p o
 
       add : (B : Bits) (p : Question) (c : Bool) → look I s ≡ asks p → Begins B u → ans N B p ≡ c → Begins B (u ++ (c ∷ []))

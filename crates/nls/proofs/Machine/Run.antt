@@ -11,8 +11,7 @@ use lib.Dec.{ltb, eqb, lit<, lit≤}
 use borrow.Author.Tests.{ltb-true}
 use Rattle.nls.specs.Marks.{skip, setSkip}
 use Rattle.nls.specs.Scan.{State, Look, over, silent, asks, Question, Pass, pixels, sets, refining, at, look, lookAt, lookPixels, lookSets, lookRefining, movesLeft, silently, settle, ask, next, reach}
-use Rattle.nls.proofs.Arrays.{answersOf, Bits, ans}
-use Rattle.nls.proofs.Judging.Most.{Fits, told}
+use Rattle.nls.proofs.Arrays.{answersOf, Bits, ans, told, Fit}
 
 pub skip-pos : (m : ℕ) → 1 ≤ skip m
 unfolding skip
@@ -134,36 +133,33 @@ module _ (N : ℕ) where
   abbrev I : ℕ
   I = 4 ^ N
 
-  abbrev pub Fit : Bits → State → List Bool → Type 0
-  Fit A s u = Fits N State (ask I) (next I) A s u
-
   pub reach-append : (s : State) (u v : List Bool) → reach (4 ^ N) s (u ++ v) ≡ reach (4 ^ N) (reach (4 ^ N) s u) v
   unfolding reach
   reach-append s [] v = refl
   reach-append s (a ∷ u) v = reach-append (next I s a) u v
 
-  pub fit-append : (A : Bits) (s : State) (u v : List Bool) → Fit A s u → Fit A (reach (4 ^ N) s u) v → Fit A s (u ++ v)
+  pub fit-append : (A : Bits) (s : State) (u v : List Bool) → Fit N A s u → Fit N A (reach (4 ^ N) s u) v → Fit N A s (u ++ v)
   unfolding reach
   fit-append A s [] v f g = g
   fit-append A s (a ∷ u) v f g = (f .0, fit-append A (next I s a) u v (f .1) g)
 
-  pub fit-prefix : (A : Bits) (s : State) (u v : List Bool) → Fit A s (u ++ v) → Fit A s u
+  pub fit-prefix : (A : Bits) (s : State) (u v : List Bool) → Fit N A s (u ++ v) → Fit N A s u
   fit-prefix A s [] v f = tt
   fit-prefix A s (a ∷ u) v f = (f .0, fit-prefix A (next I s a) u v (f .1))
 
   -- the first n bits of A's stream fit A
-  pub stream-fits : (A : Bits) (n : ℕ) (s : State) → Fit A s (answersOf N A n s)
+  pub stream-fits : (A : Bits) (n : ℕ) (s : State) → Fit N A s (answersOf N A n s)
   unfolding answersOf
   stream-fits A zero s = tt
   stream-fits A (suc n) s = go (ask I s) refl (λ a. stream-fits A n (next I s a))
     where
-      go : (o : Option Question) → ask I s ≡ o → ((a : Bool) → Fit A (next I s a) (answersOf N A n (next I s a)))
-          → Fit A s (elim o as (λ _. List Bool) [ none ↦ [] | some q ↦ ans N A q ∷ answersOf N A n (next I s (ans N A q)) ])
+      go : (o : Option Question) → ask I s ≡ o → ((a : Bool) → Fit N A (next I s a) (answersOf N A n (next I s a)))
+          → Fit N A s (elim o as (λ _. List Bool) [ none ↦ [] | some q ↦ ans N A q ∷ answersOf N A n (next I s (ans N A q)) ])
       go none e ih = tt
       go (some q) e ih = (subst (λ (o : Option Question). told N A o (ans N A q)) (sym e) refl, ih (ans N A q))
 
   -- and what fits A begins A's stream
-  pub fits-stream : (A : Bits) (s : State) (u : List Bool) (n : ℕ) → Fit A s u → length u ≤ n → take (length u) (answersOf N A n s) ≡ u
+  pub fits-stream : (A : Bits) (s : State) (u : List Bool) (n : ℕ) → Fit N A s u → length u ≤ n → take (length u) (answersOf N A n s) ≡ u
   unfolding answersOf
   fits-stream A s [] n f h = refl
   fits-stream A s (a ∷ u) zero f h = absurd (omega (arith, h))

@@ -14,8 +14,7 @@ use Rattle.tree.proofs.Lists.{or-left, or-right}
 use Rattle.nls.specs.Scan.{State, Look, over, silent, asks, Question, bitOf, signOf, inDesc, inGrand, look, ask, asked, next, reach}
 use Rattle.nls.proofs.Tiled.{Tiled}
 use Rattle.nls.proofs.Booleans.{or-cases}
-use Rattle.nls.proofs.Arrays.{Bits, inside, ans, below}
-use Rattle.nls.proofs.Judging.Most.{_⊑_, told, Fits, any-find, member}
+use Rattle.nls.proofs.Arrays.{Bits, inside, ans, below, _⊑_, told, any-find, member, Fit}
 use Rattle.nls.proofs.Reading.Know.{least, know, knowO, know-grows, know-one, know-other, know-sign, know-sgn-has, know-neg}
 use Rattle.nls.proofs.Machine.Cover.{Under, kid, far}
 use Rattle.nls.proofs.Machine.Steps.{Fam, withZ, Good, Learned, On-ask, good-next, good-mono}
@@ -108,7 +107,7 @@ module _ (N : ℕ) {D : ℕ} (P : ℕ) (sz : Tiled D (4 ^ N)) where
       (λ b j z h. growsO (ask I s) a k j b (z h)) (negO A k (ask I s) a t) (λ b j z. z) (λ b j z. z) (λ j z. z) s g) (on-ask A k a (look I s) t)
 
   -- along a run
-  pub run : (A k : Bits) (s : State) (u : List Bool) → Ok-at (fam N A k) s → Fits N State (ask I) (next I) A s u → Ok-at (fam N A (least N State (ask I) (next I) s u k)) (reach (4 ^ N) s u)
+  pub run : (A k : Bits) (s : State) (u : List Bool) → Ok-at (fam N A k) s → Fit N A s u → Ok-at (fam N A (least N s u k)) (reach (4 ^ N) s u)
   unfolding reach
   run A k s [] g f = g
   run A k s (a ∷ u) g f = run A (knowO (ask I s) a k) (next I s a) u (one-bit A k s a g (f .0)) (f .1)
