@@ -15,8 +15,9 @@ use Rattle.tree.proofs.Lists.{or-left, or-right}
 use Rattle.nls.specs.Scan.{Question, bitOf, signOf, inDesc, inGrand, State, ask, next}
 use Rattle.nls.proofs.Booleans.{or-cases}
 
-abbrev pub four : ℕ → ℕ → ℕ → List ℕ → List ℕ
-four I i c m = set (set (set (set m i c) (i + 1) c) (i + 2) c) (i + 3) c
+-- places i to i+3 get c
+abbrev pub four : ℕ → ℕ → List ℕ → List ℕ
+four i c m = set (set (set (set m i c) (i + 1) c) (i + 2) c) (i + 3) c
 
 -- magnitudes and signs by place
 pub record Arr : Type 0 where

@@ -102,8 +102,8 @@ module _ (D I : ℕ) where
       (kept-low _ (i + 3) 4 (omega arith)
       (kept-low _ (i + 2) 4 (omega arith) (kept-low _ (i + 1) 4 (omega arith) (kept-low m i 4 (omega arith) k))))
     where
-      on : (t : Bool) → Kept D I (four I i 4 m) → Kept D I (splitDesc I i m t)
-      on true d = kept-set (four I i 4 m) (4 * i) 6 (λ p. omega arith) (λ p. omega arith) d
+      on : (t : Bool) → Kept D I (four i 4 m) → Kept D I (splitDesc I i m t)
+      on true d = kept-set (four i 4 m) (4 * i) 6 (λ p. omega arith) (λ p. omega arith) d
       on false d = d
 
   kept-grand : (i : ℕ) (m : List ℕ) → D ≤ i → Kept D I m → Kept D I (splitGrand I i m)

@@ -77,8 +77,8 @@ module _ (N : ℕ) (two : 2 ≤ N) where
   pub codes-desc : (i : ℕ) (l : List ℕ) (t : Bool) → 4 ≤ i → Codes N l → Codes N (splitDesc I i l t)
   codes-desc i l t h c = on t (set-low _ (i + 3) 4 (omega arith) (set-low _ (i + 2) 4 (omega arith) (set-low _ (i + 1) 4 (omega arith) (set-low l i 4 (omega arith) c))))
     where
-      on : (t : Bool) → Codes N (four I i 4 l) → Codes N (splitDesc I i l t)
-      on true d = set-high (four I i 4 l) (4 * i) 6 (omega arith) (omega arith) d
+      on : (t : Bool) → Codes N (four i 4 l) → Codes N (splitDesc I i l t)
+      on true d = set-high (four i 4 l) (4 * i) 6 (omega arith) (omega arith) d
       on false d = d
 
   -- a set's mark is at no place below 4

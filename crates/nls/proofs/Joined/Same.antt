@@ -62,9 +62,9 @@ module _ (z : Size) (full : I z ≡ 4 ^ z .deep) (mag : ℕ → ℕ) (neg : ℕ 
 
   pub open-same : (l : List ℕ) (i : ℕ) → splitDesc K i l (ltb (4 * i) K) ≡ open-desc-l z mag neg b l i
   unfolding open-desc-l
-  open-same l i = subst (λ (k : ℕ). splitDesc K i l (ltb (4 * i) K) ≡ cond (ltb (4 * i) k) (set (four K i 4 l) (4 * i) 6) (four K i 4 l)) (sym full) (go (ltb (4 * i) K))
+  open-same l i = subst (λ (k : ℕ). splitDesc K i l (ltb (4 * i) K) ≡ cond (ltb (4 * i) k) (set (four i 4 l) (4 * i) 6) (four i 4 l)) (sym full) (go (ltb (4 * i) K))
     where
-      go : (t : Bool) → splitDesc K i l t ≡ cond t (set (four K i 4 l) (4 * i) 6) (four K i 4 l)
+      go : (t : Bool) → splitDesc K i l t ≡ cond t (set (four i 4 l) (4 * i) 6) (four i 4 l)
       go true = refl
       go false = refl
 

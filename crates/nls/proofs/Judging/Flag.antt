@@ -56,7 +56,7 @@ module _ (N : ℕ) {D : ℕ} (P : ℕ) (sz : Tiled D (4 ^ N)) where
   abbrev S : State
   S = start I D P
 
-  learned1 : (fl : Type 0) (q : Question) (a : Bool) → Learned sz P (F1 (fl ⊎ (a ≡ true))) (λ j. ⊥) q a
+  learned1 : (fl : Type 0) (q : Question) (a : Bool) → Learned I (F1 (fl ⊎ (a ≡ true))) (λ j. ⊥) q a
   learned1 fl (bitOf i b) true = (tt, λ j z n. z)
   learned1 fl (bitOf i b) false = (tt, λ j z. z)
   learned1 fl (signOf i) a = (tt, λ j z. z)
@@ -65,7 +65,7 @@ module _ (N : ℕ) {D : ℕ} (P : ℕ) (sz : Tiled D (4 ^ N)) where
   learned1 fl (inGrand g b) true = (inr refl, λ j z. z)
   learned1 fl (inGrand g b) false = ((λ g1 i hi u. tt), λ j z. z)
 
-  pub on-ask1 : (A : Bits) (fl : Type 0) (a : Bool) (L : Look) → told N A (asked I L) a → On-ask sz P (F1 (fl ⊎ (a ≡ true))) (λ j. ⊥) a L
+  pub on-ask1 : (A : Bits) (fl : Type 0) (a : Bool) (L : Look) → told N A (asked I L) a → On-ask I (F1 (fl ⊎ (a ≡ true))) (λ j. ⊥) a L
   on-ask1 A fl a over t = t
   on-ask1 A fl a (silent s) t = t
   on-ask1 A fl a (asks q) t = learned1 fl q a

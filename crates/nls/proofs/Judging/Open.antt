@@ -404,7 +404,7 @@ module _ (N : ℕ) {D : ℕ} (P : ℕ) (sz : Tiled D (4 ^ N)) (W : Bits) (vv : B
         it = is-alone sz c m (p .g .core) i hi (omega (arith, mk)) (omega (arith, mk))
 
         l : Known W (know (bitOf i b) true k) b i × ((j : ℕ) → Zof (know (bitOf i b) true k) j → (j ≡ i → ⊥) → Zof k j)
-        l = learned N P sz W k (bitOf i b) true t
+        l = learned N W k (bitOf i b) true t
     tellp b i m true true false ex ey z t o = (
       from k (bitOf i b) false t b (z .0),
       (
@@ -437,7 +437,7 @@ module _ (N : ℕ) {D : ℕ} (P : ℕ) (sz : Tiled D (4 ^ N)) (W : Bits) (vv : B
         it = is-alone sz c m (p .g .core) i hi (omega (arith, mk)) (omega (arith, mk))
 
         l : Known W (know (bitOf i b) false k) b i × ((j : ℕ) → Zof (know (bitOf i b) false k) j → Zof k j)
-        l = learned N P sz W k (bitOf i b) false t
+        l = learned N W k (bitOf i b) false t
 
     -- a sign, in the pixel pass
     tellps : (b i : ℕ) (m : List ℕ) (a : Bool) → All-at k w O (suc b) pixels i true m → ans N W (signOf i) ≡ a → Out a (asks (signOf i)) → All (know (signOf i) a k) (after N (signOf i) a w) O′ (at (suc b) pixels (i + 1) (set m i 2))
@@ -468,7 +468,7 @@ module _ (N : ℕ) {D : ℕ} (P : ℕ) (sz : Tiled D (4 ^ N)) (W : Bits) (vv : B
         it = is-alone sz c m (p .g .core) i (z .2) (omega (arith, z .3)) (omega (arith, z .3))
 
         l : ((know (signOf i) a k) .neg i ≡ W .neg i) × ((j : ℕ) → Zof (know (signOf i) a k) j → Zof k j)
-        l = learned N P sz W k (signOf i) a t
+        l = learned N W k (signOf i) a t
 
         al′ : (j : ℕ) → (withA i 2 c) .al j ≡ 3 → (c .al j ≡ 3 → j < 0) → Dec (j ≡ i) → j < 0
         al′ j e f (yes q) = absurd (omega (arith, al-at i 2 c j q))
@@ -525,7 +525,7 @@ module _ (N : ℕ) {D : ℕ} (P : ℕ) (sz : Tiled D (4 ^ N)) (W : Bits) (vv : B
         rs′ e h lo hd l y (no q) = al-D-off (i / 4) c (4 * h) (λ z. q (omega arith)) ∙ p .rs e h lo hd l (sym (sD-off (i / 4) c h q) ∙ y)
 
         g1 : Sets sz (preds (G k) b) (Known W k b) i (withD (i / 4) c) (splitDesc I i m (ltb (4 * i) I))
-        g1 = sets-D1 sz (preds (G k) b) (Known W k b) i c m (p .g) hi mk ((learned N P sz W k (inDesc (i / 4) b) true t) .0)
+        g1 = sets-D1 sz (preds (G k) b) (Known W k b) i c m (p .g) hi mk ((learned N W k (inDesc (i / 4) b) true t) .0)
 
     tells-D0 : (b i : ℕ) (m : List ℕ) → i < I → getD m i 0 ≡ 5 → All-at k w O (suc b) sets i false m → ans N W (inDesc (i / 4) b) ≡ false → Out false (asks (inDesc (i / 4) b))
         → All (know (inDesc (i / 4) b) false k) (after N (inDesc (i / 4) b) false w) O′ (at (suc b) sets (i + 4) m)
@@ -535,7 +535,7 @@ module _ (N : ℕ) {D : ℕ} (P : ℕ) (sz : Tiled D (4 ^ N)) (W : Bits) (vv : B
       (
         c,
         record {
-          g = sets-D0 sz (preds (G k) b) (Known W k b) i c m (p .g) hi mk ((learned N P sz W k (inDesc (i / 4) b) false t) .0 (omega (arith, atD b i m c p hi mk)));
+          g = sets-D0 sz (preds (G k) b) (Known W k b) i c m (p .g) hi mk ((learned N W k (inDesc (i / 4) b) false t) .0 (omega (arith, atD b i m c p hi mk)));
           fr = frs-D0 sz (preds (G k) b) (Known W k b) (T w) (M k) b (T (after N (inDesc (i / 4) b) false w)) i c m (p .g) hi (p .fr) mk (λ j x n. desc0 N (i / 4) b w j b (λ u e. n u) x);
           ho = hold-w D I P w (after N (inDesc (i / 4) b) false w) vv b 0 0 c (p .ho) (omega arith) (λ j e h x. desc0 N (i / 4) b w j e (λ y f. omega arith) x) (λ j aj e h x. desc0 N (i / 4) b w j b (λ u f. true≢false (sym aj ∙ inD b i m c p hi mk j u)) x) (λ j. unfold after clear in refl);
           de = debt-O D I P O O′ k k b b 0 c (p .de) (out0 (inDesc (i / 4) b) o) (λ j x. refl);
@@ -574,7 +574,7 @@ module _ (N : ℕ) {D : ℕ} (P : ℕ) (sz : Tiled D (4 ^ N)) (W : Bits) (vv : B
         p = z .1 .1
 
         g1 : Sets sz (preds (G k) b) (Known W k b) i (withG (i / 16) c) (splitGrand I i m)
-        g1 = sets-G1 sz (preds (G k) b) (Known W k b) i c m (p .g) hi mk ((learned N P sz W k (inGrand (i / 16) b) true t) .0)
+        g1 = sets-G1 sz (preds (G k) b) (Known W k b) i c m (p .g) hi mk ((learned N W k (inGrand (i / 16) b) true t) .0)
 
     tells-G0 : (b i : ℕ) (m : List ℕ) → i < I → getD m i 0 ≡ 6 → All-at k w O (suc b) sets i false m → ans N W (inGrand (i / 16) b) ≡ false → Out false (asks (inGrand (i / 16) b))
         → All (know (inGrand (i / 16) b) false k) (after N (inGrand (i / 16) b) false w) O′ (at (suc b) sets (i + 16) m)
@@ -584,7 +584,7 @@ module _ (N : ℕ) {D : ℕ} (P : ℕ) (sz : Tiled D (4 ^ N)) (W : Bits) (vv : B
       (
         c,
         record {
-          g = sets-G0 sz (preds (G k) b) (Known W k b) i c m (p .g) hi mk ((learned N P sz W k (inGrand (i / 16) b) false t) .0 (omega (arith, atG b i m c p hi mk)));
+          g = sets-G0 sz (preds (G k) b) (Known W k b) i c m (p .g) hi mk ((learned N W k (inGrand (i / 16) b) false t) .0 (omega (arith, atG b i m c p hi mk)));
           fr = frs-G0 sz (preds (G k) b) (Known W k b) (T w) (M k) b (T (after N (inGrand (i / 16) b) false w)) i c m (p .g) hi (p .fr) mk (λ j x n. grand0 N (i / 16) b w j b (λ u e. n u) x);
           ho = hold-w D I P w (after N (inGrand (i / 16) b) false w) vv b 0 0 c (p .ho) (omega arith) (λ j e h x. grand0 N (i / 16) b w j e (λ y f. omega arith) x) (λ j aj e h x. grand0 N (i / 16) b w j b (λ u f. true≢false (sym aj ∙ inG b i m c p hi mk j u)) x) (λ j. unfold after clear in refl);
           de = debt-O D I P O O′ k k b b 0 c (p .de) (out0 (inGrand (i / 16) b) o) (λ j x. refl);
@@ -630,7 +630,7 @@ module _ (N : ℕ) {D : ℕ} (P : ℕ) (sz : Tiled D (4 ^ N)) (W : Bits) (vv : B
         it = is-alone sz c m (p .g .core) i hi (omega (arith, mk)) (omega (arith, mk))
 
         l : Known W (know (bitOf i b) true k) b i × ((j : ℕ) → Zof (know (bitOf i b) true k) j → (j ≡ i → ⊥) → Zof k j)
-        l = learned N P sz W k (bitOf i b) true t
+        l = learned N W k (bitOf i b) true t
 
     tells-C0 : (b i : ℕ) (m : List ℕ) → i < I → getD m i 0 ≡ 4 → All-at k w O (suc b) sets i false m → ans N W (bitOf i b) ≡ false → Out false (asks (bitOf i b))
         → All (know (bitOf i b) false k) (after N (bitOf i b) false w) O′ (at (suc b) sets (i + 1) (set m i 1))
@@ -642,7 +642,7 @@ module _ (N : ℕ) {D : ℕ} (P : ℕ) (sz : Tiled D (4 ^ N)) (W : Bits) (vv : B
         record {
           g = sets-C sz (preds (G k) b) (Known W k b) i 1 c m
               (sets-Z sz (preds (G k) b) (hide i (preds (G k) b)) (Known W k b) (Known W k b) i c m (mh k (bitOf i b) false t b i c (λ j y n. y)) (λ j y. y) (p .g))
-              hi mk (lit≤ tt) (lit< tt) ((learned N P sz W k (bitOf i b) false t) .0) (λ y. absurd (omega arith)) (λ y. absurd (omega (arith, it .1, mk, p .g .more .zs i hi y)));
+              hi mk (lit≤ tt) (lit< tt) ((learned N W k (bitOf i b) false t) .0) (λ y. absurd (omega arith)) (λ y. absurd (omega (arith, it .1, mk, p .g .more .zs i hi y)));
           fr = frs-C sz (preds (G k) b) (Known W k b) (T w) (M k) b (T (after N (bitOf i b) false w)) i 1 c m (p .g) hi (p .fr) mk (lit≤ tt) (lit≤ tt) (λ e. absurd (omega arith)) (λ j x n. one0 N i b w j b (λ e f. n e) x);
           ho = hold-A D I P w (after N (bitOf i b) false w) vv b 0 0 i 1 c (p .ho) (it .0) (omega arith) (λ e. absurd (omega arith)) (λ h. (unfold after clear in p .ho .ng i (λ y l u. omega (arith, it .1, mk))))
               (λ j e h x. one0 N i b w j e (λ y f. omega arith) x) (λ j n x. one0 N i b w j b (λ y f. n y) x) (λ j n. unfold after clear in refl);
@@ -692,7 +692,7 @@ module _ (N : ℕ) {D : ℕ} (P : ℕ) (sz : Tiled D (4 ^ N)) (W : Bits) (vv : B
         it = is-alone sz c m (p .g .core) i (z .2) (omega (arith, z .3)) (omega (arith, z .3))
 
         l : ((know (signOf i) a k) .neg i ≡ W .neg i) × ((j : ℕ) → Zof (know (signOf i) a k) j → Zof k j)
-        l = learned N P sz W k (signOf i) a t
+        l = learned N W k (signOf i) a t
 
         g1 : Sets sz (hide i (preds (G (know (signOf i) a k)) b)) (Known W (know (signOf i) a k) b) i c m
         g1 = sets-Z sz (hide i (preds (G k) b)) (hide i (preds (G (know (signOf i) a k)) b)) (Known W k b) (Known W (know (signOf i) a k) b) i c m (hh k (signOf i) a t b i c (l .1)) (up k (signOf i) a t b) (p .g)
@@ -737,7 +737,7 @@ module _ (N : ℕ) {D : ℕ} (P : ℕ) (sz : Tiled D (4 ^ N)) (W : Bits) (vv : B
         it = is-alone sz c m (p .g .core) i hi (omega (arith, mk)) (omega (arith, mk))
 
         l : Known W (know (bitOf i b) true k) b i × ((j : ℕ) → Zof (know (bitOf i b) true k) j → (j ≡ i → ⊥) → Zof k j)
-        l = learned N P sz W k (bitOf i b) true t
+        l = learned N W k (bitOf i b) true t
     tellf b i m false hi mk z t o = (
       from k (bitOf i b) false t b (z .0),
       (
@@ -759,7 +759,7 @@ module _ (N : ℕ) {D : ℕ} (P : ℕ) (sz : Tiled D (4 ^ N)) (W : Bits) (vv : B
         p = z .1 .1
 
         l : Known W (know (bitOf i b) false k) b i × ((j : ℕ) → Zof (know (bitOf i b) false k) j → Zof k j)
-        l = learned N P sz W k (bitOf i b) false t
+        l = learned N W k (bitOf i b) false t
 
     tells : (b i : ℕ) (m : List ℕ) (x d g c a : Bool) → ltb i I ≡ x → eqb (getD m i 0) 5 ≡ d → eqb (getD m i 0) 6 ≡ g → eqb (getD m i 0) 4 ≡ c
         → All-at k w O (suc b) sets i false m → told N W (asked I (lookSets b i m x d g c)) a → Out a (lookSets b i m x d g c)

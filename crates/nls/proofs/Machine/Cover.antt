@@ -55,12 +55,12 @@ skip-mod v h = go (decLt v 7)
     go (yes k) = ap (λ (x : ℕ). x % 4) (skip-5 v h k ∙ ap (λ (x : ℕ). 4 ^ x) {x = v - 4} {y = suc (v - 5)} (omega arith)) ∙ omega (arith, pow-suc 4 (v - 5))
     go (no k) = ap (λ (x : ℕ). x % 4) (skip-7 v (omega arith) ∙ ap (λ (x : ℕ). 4 ^ x) {x = v - 5} {y = suc (v - 6)} (omega arith)) ∙ omega (arith, pow-suc 4 (v - 6))
 
-length-four : (I i v : ℕ) (l : List ℕ) → length (four I i v l) ≡ length l
-length-four I i v l = simp length-set
+length-four : (i v : ℕ) (l : List ℕ) → length (four i v l) ≡ length l
+length-four i v l = simp length-set
 
 -- four places from i on get v, and no others
-four-in : (I i v : ℕ) (l : List ℕ) (k : ℕ) → i + 3 < length l → i ≤ k → k < i + 4 → getD (four I i v l) k 0 ≡ v
-four-in I i v l k h a b = go (ℕ-discrete k (i + 3)) (ℕ-discrete k (i + 2)) (ℕ-discrete k (i + 1))
+four-in : (i v : ℕ) (l : List ℕ) (k : ℕ) → i + 3 < length l → i ≤ k → k < i + 4 → getD (four i v l) k 0 ≡ v
+four-in i v l k h a b = go (ℕ-discrete k (i + 3)) (ℕ-discrete k (i + 2)) (ℕ-discrete k (i + 1))
   where
     l1 : List ℕ
     l1 = set l i v
@@ -86,8 +86,8 @@ four-in I i v l k h a b = go (ℕ-discrete k (i + 3)) (ℕ-discrete k (i + 2)) (
     go (no z) (no y) (yes x) = getD-set-other l3 (i + 3) k v 0 z ∙ getD-set-other l2 (i + 2) k v 0 y ∙ ap (λ (j : ℕ). getD l2 j 0) x ∙ getD-set-same l1 (i + 1) v 0 (omega (arith, e1))
     go (no z) (no y) (no x) = getD-set-other l3 (i + 3) k v 0 z ∙ getD-set-other l2 (i + 2) k v 0 y ∙ getD-set-other l1 (i + 1) k v 0 x ∙ ap (λ (j : ℕ). getD l1 j 0) {x = k} {y = i} (omega arith) ∙ getD-set-same l i v 0 (omega arith)
 
-four-out : (I i v : ℕ) (l : List ℕ) (k : ℕ) → (i ≤ k → k < i + 4 → ⊥) → getD (four I i v l) k 0 ≡ getD l k 0
-four-out I i v l k n =
+four-out : (i v : ℕ) (l : List ℕ) (k : ℕ) → (i ≤ k → k < i + 4 → ⊥) → getD (four i v l) k 0 ≡ getD l k 0
+four-out i v l k n =
     getD-set-other (set (set (set l i v) (i + 1) v) (i + 2) v) (i + 3) k v 0 (λ z. n (omega arith) (omega arith))
     ∙ getD-set-other (set (set l i v) (i + 1) v) (i + 2) k v 0 (λ z. n (omega arith) (omega arith))
     ∙ getD-set-other (set l i v) (i + 1) k v 0 (λ z. n (omega arith) (omega arith))
@@ -95,21 +95,21 @@ four-out I i v l k n =
 
 -- what a split of DESC writes
 length-split : (I t : ℕ) (l : List ℕ) (x : Bool) → length (splitDesc I t l x) ≡ length l
-length-split I t l true = length-set (four I t 4 l) (4 * t) 6 ∙ length-four I t 4 l
-length-split I t l false = length-four I t 4 l
+length-split I t l true = length-set (four t 4 l) (4 * t) 6 ∙ length-four t 4 l
+length-split I t l false = length-four t 4 l
 
 module _ (I t : ℕ) (l : List ℕ) (len : length l ≡ I) (fits : t + 3 < I) (t1 : 4 ≤ t) where
   pub split-kids : (x : Bool) (k : ℕ) → t ≤ k → k < t + 4 → getD (splitDesc I t l x) k 0 ≡ 4
-  split-kids true k a b = getD-set-other (four I t 4 l) (4 * t) k 6 0 (λ z. omega arith) ∙ four-in I t 4 l k (omega arith) a b
-  split-kids false k a b = four-in I t 4 l k (omega arith) a b
+  split-kids true k a b = getD-set-other (four t 4 l) (4 * t) k 6 0 (λ z. omega arith) ∙ four-in t 4 l k (omega arith) a b
+  split-kids false k a b = four-in t 4 l k (omega arith) a b
 
   split-below : (x : Bool) → ltb (4 * t) I ≡ x → 4 * t < I → getD (splitDesc I t l x) (4 * t) 0 ≡ 6
-  split-below true e h = getD-set-same (four I t 4 l) (4 * t) 6 0 (omega (arith, length-four I t 4 l))
+  split-below true e h = getD-set-same (four t 4 l) (4 * t) 6 0 (omega (arith, length-four t 4 l))
   split-below false e h = absurd (omega (arith, ltb-false (4 * t) I e))
 
   split-rest : (x : Bool) (k : ℕ) → (t ≤ k → k < t + 4 → ⊥) → (k ≡ 4 * t → ⊥) → getD (splitDesc I t l x) k 0 ≡ getD l k 0
-  split-rest true k a b = getD-set-other (four I t 4 l) (4 * t) k 6 0 b ∙ four-out I t 4 l k a
-  split-rest false k a b = four-out I t 4 l k a
+  split-rest true k a b = getD-set-other (four t 4 l) (4 * t) k 6 0 b ∙ four-out t 4 l k a
+  split-rest false k a b = four-out t 4 l k a
 
 up-5-no : (x : ℕ) → Dec (x < 5) → Dec (x < 7) → up x ≡ 5 → ⊥
 up-5-no x (yes a) b e = omega (arith, up-low x a)

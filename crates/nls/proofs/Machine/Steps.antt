@@ -52,6 +52,25 @@ module _ {D I : ℕ} (sz : Tiled D I) where
   pub fine-Z : (R S : Preds) (X X′ : ℕ → Type 0) (t : ℕ) (c : Cfg) (m : List ℕ) → (More sz R c → More sz S c) → ((j : ℕ) → X j → X′ j) → Fine sz R X t c m → Fine sz S X′ t c m
   fine-Z R S X X′ t c m f x p = record { core = p .core; more = f (p .more); two = p .two; no4 = p .no4; done = λ j h e. x j (p .done j h e) }
 
+-- what an answer must bring, with Z′ for Z
+abbrev Same : Fam → (ℕ → Type 0) → Type 0
+Same F Z′ = (j : ℕ) → Z′ j → F .Z j
+
+module _ (I : ℕ) where
+  abbrev pub Learned : Fam → (ℕ → Type 0) → Question → Bool → Type 0
+  Learned F Z′ (bitOf i b) true = F .X b i × ((j : ℕ) → Z′ j → (j ≡ i → ⊥) → F .Z j)
+  Learned F Z′ (bitOf i b) false = F .X b i × Same F Z′
+  Learned F Z′ (signOf i) a = F .Y i × Same F Z′
+  Learned F Z′ (inDesc g b) true = F .QD b g × Same F Z′
+  Learned F Z′ (inDesc g b) false = (1 ≤ g → (i : ℕ) → i < I → Under g i → F .X b i) × Same F Z′
+  Learned F Z′ (inGrand g b) true = F .QG b g × Same F Z′
+  Learned F Z′ (inGrand g b) false = (1 ≤ g → (i : ℕ) → i < I → Under g (i / 4) → F .X b i) × Same F Z′
+
+  abbrev pub On-ask : Fam → (ℕ → Type 0) → Bool → Look → Type 0
+  On-ask F Z′ a over = ⊥
+  On-ask F Z′ a (silent t) = ⊥
+  On-ask F Z′ a (asks q) = Learned F Z′ q a
+
 module _ {D I : ℕ} (sz : Tiled D I) (P : ℕ) where
   -- the planes from b on are settled
   abbrev pub From : Fam → ℕ → Type 0
@@ -158,24 +177,6 @@ module _ {D I : ℕ} (sz : Tiled D I) (P : ℕ) where
   unfolding settle
   good-settle F s g = good-quiet F (movesLeft I s) s g
 
-  -- what an answer must bring, with Z′ for Z
-  abbrev Same : Fam → (ℕ → Type 0) → Type 0
-  Same F Z′ = (j : ℕ) → Z′ j → F .Z j
-
-  abbrev pub Learned : Fam → (ℕ → Type 0) → Question → Bool → Type 0
-  Learned F Z′ (bitOf i b) true = F .X b i × ((j : ℕ) → Z′ j → (j ≡ i → ⊥) → F .Z j)
-  Learned F Z′ (bitOf i b) false = F .X b i × Same F Z′
-  Learned F Z′ (signOf i) a = F .Y i × Same F Z′
-  Learned F Z′ (inDesc g b) true = F .QD b g × Same F Z′
-  Learned F Z′ (inDesc g b) false = (1 ≤ g → (i : ℕ) → i < I → Under g i → F .X b i) × Same F Z′
-  Learned F Z′ (inGrand g b) true = F .QG b g × Same F Z′
-  Learned F Z′ (inGrand g b) false = (1 ≤ g → (i : ℕ) → i < I → Under g (i / 4) → F .X b i) × Same F Z′
-
-  abbrev pub On-ask : Fam → (ℕ → Type 0) → Bool → Look → Type 0
-  On-ask F Z′ a over = ⊥
-  On-ask F Z′ a (silent t) = ⊥
-  On-ask F Z′ a (asks q) = Learned F Z′ q a
-
   -- the same with a new Z: smaller, or smaller but at i
   shrink : (F : Fam) (Z′ : ℕ → Type 0) (b : ℕ) (c : Cfg) → Same F Z′ → More sz (preds F b) c → More sz (preds (withZ F Z′) b) c
   shrink F Z′ b c z k = more-Z sz (preds F b) (preds (withZ F Z′) b) c (λ j y. y) (λ j y. y) (λ j y. y) z k
@@ -186,7 +187,7 @@ module _ {D I : ℕ} (sz : Tiled D I) (P : ℕ) where
   both-hide : (F : Fam) (Z′ : ℕ → Type 0) (b i : ℕ) (c : Cfg) → Same F Z′ → More sz (hide i (preds F b)) c → More sz (hide i (preds (withZ F Z′) b)) c
   both-hide F Z′ b i c z k = more-Z sz (hide i (preds F b)) (hide i (preds (withZ F Z′) b)) c (λ j y. y) (λ j y. y) (λ j y. y) (λ j e. (z j (e .0), e .1)) k
 
-  tell-pix : (F : Fam) (Z′ : ℕ → Type 0) (b i : ℕ) (m : List ℕ) (x y a : Bool) → ltb i I ≡ x → eqb (getD m i 0) 1 ≡ y → Good-at F (suc b) pixels i false m → On-ask F Z′ a (lookPixels b i m x y)
+  tell-pix : (F : Fam) (Z′ : ℕ → Type 0) (b i : ℕ) (m : List ℕ) (x y a : Bool) → ltb i I ≡ x → eqb (getD m i 0) 1 ≡ y → Good-at F (suc b) pixels i false m → On-ask I F Z′ a (lookPixels b i m x y)
       → Good (withZ F Z′) (tellAt I (suc b) pixels i false m a)
   tell-pix F Z′ b i m false y a ex ey g o = absurd o
   tell-pix F Z′ b i m true false a ex ey g o = absurd o
@@ -202,7 +203,7 @@ module _ {D I : ℕ} (sz : Tiled D I) (P : ℕ) where
   )
 
   tell-sets′ : (F : Fam) (Z′ : ℕ → Type 0) (b i : ℕ) (m : List ℕ) (x d g c a : Bool) → ltb i I ≡ x → eqb (getD m i 0) 5 ≡ d → eqb (getD m i 0) 6 ≡ g → eqb (getD m i 0) 4 ≡ c
-      → Good-at F (suc b) sets i false m → On-ask F Z′ a (lookSets b i m x d g c) → Good (withZ F Z′) (tellSets I (suc b) i m a d g)
+      → Good-at F (suc b) sets i false m → On-ask I F Z′ a (lookSets b i m x d g c) → Good (withZ F Z′) (tellSets I (suc b) i m a d g)
   tell-sets′ F Z′ b i m false d g c a ex ed eg ec h o = absurd o
   tell-sets′ F Z′ b i m true true g c true ex ed eg ec h o = (
     h .0,
@@ -254,7 +255,7 @@ module _ {D I : ℕ} (sz : Tiled D I) (P : ℕ) where
       )
   tell-sets′ F Z′ b i m true false false false a ex ed eg ec h o = absurd o
 
-  tell-fine : (F : Fam) (Z′ : ℕ → Type 0) (b i : ℕ) (m : List ℕ) (x s n a : Bool) → ltb i I ≡ x → eqb (getD m i 0) 3 ≡ s → eqb (getD m i 0) 2 ≡ n → Good-at F (suc b) refining i false m → On-ask F Z′ a (lookRefining b i m x s n)
+  tell-fine : (F : Fam) (Z′ : ℕ → Type 0) (b i : ℕ) (m : List ℕ) (x s n a : Bool) → ltb i I ≡ x → eqb (getD m i 0) 3 ≡ s → eqb (getD m i 0) 2 ≡ n → Good-at F (suc b) refining i false m → On-ask I F Z′ a (lookRefining b i m x s n)
       → Good (withZ F Z′) (at (suc b) refining (i + 1) m)
   tell-fine F Z′ b i m false s n a ex es en g o = absurd o
   tell-fine F Z′ b i m true true n a ex es en g o = (g .0, (c, fine-ask sz (preds (withZ F Z′) b) (F .X b) i c m (fine-Z sz (preds F b) (preds (withZ F Z′) b) (F .X b) (F .X b) i c m (grow a o) (λ j x. x) (g .1 .1)) hi (eqb-true _ _ es) (got a o)))
@@ -268,7 +269,7 @@ module _ {D I : ℕ} (sz : Tiled D I) (P : ℕ) where
       it : (alone D I c i ≡ true) × (c .al i ≡ getD m i 0)
       it = is-alone sz c m (g .1 .1 .core) i hi (omega (arith, eqb-true (getD m i 0) 3 es)) (omega (arith, eqb-true (getD m i 0) 3 es))
 
-      got : (a : Bool) → Learned F Z′ (bitOf i b) a → F .X b i
+      got : (a : Bool) → Learned I F Z′ (bitOf i b) a → F .X b i
       got true o = o .0
       got false o = o .0
 
@@ -276,14 +277,14 @@ module _ {D I : ℕ} (sz : Tiled D I) (P : ℕ) where
       pick z k j hj e (yes q) = subst (λ (x : ℕ). (alone D I c x ≡ true) × (2 ≤ c .al x) × (c .al x ≤ 3)) (sym q) (it .0, omega (arith, it .1, eqb-true (getD m i 0) 3 es), omega (arith, it .1, eqb-true (getD m i 0) 3 es))
       pick z k j hj e (no q) = k .zs j hj (z j e q)
 
-      grow : (a : Bool) → Learned F Z′ (bitOf i b) a → More sz (preds F b) c → More sz (preds (withZ F Z′) b) c
+      grow : (a : Bool) → Learned I F Z′ (bitOf i b) a → More sz (preds F b) c → More sz (preds (withZ F Z′) b) c
       grow true o k = record { sg = k .sg; qD = k .qD; qG = k .qG; zs = λ j hj e. pick (o .1) k j hj e (ℕ-discrete j i) }
       grow false o k = shrink F Z′ b c (o .1) k
   tell-fine F Z′ b i m true false true a ex es en g o = absurd o
   tell-fine F Z′ b i m true false false a ex es en g o = absurd o
 
   -- an answer keeps it
-  good-tell : (F : Fam) (Z′ : ℕ → Type 0) (l : ℕ) (p : Pass) (i : ℕ) (s : Bool) (m : List ℕ) (a : Bool) → Good-at F l p i s m → On-ask F Z′ a (lookAt I l p i s m) → Good (withZ F Z′) (tellAt I l p i s m a)
+  good-tell : (F : Fam) (Z′ : ℕ → Type 0) (l : ℕ) (p : Pass) (i : ℕ) (s : Bool) (m : List ℕ) (a : Bool) → Good-at F l p i s m → On-ask I F Z′ a (lookAt I l p i s m) → Good (withZ F Z′) (tellAt I l p i s m a)
   good-tell F Z′ zero p i s m a g o = absurd o
   good-tell F Z′ (suc b) pixels i true m a g o = (
     g .0,
@@ -306,7 +307,7 @@ module _ {D I : ℕ} (sz : Tiled D I) (P : ℕ) where
   good-tell F Z′ (suc b) sets i false m a g o = tell-sets′ F Z′ b i m (ltb i I) (eqb (getD m i 0) 5) (eqb (getD m i 0) 6) (eqb (getD m i 0) 4) a refl refl refl refl g o
   good-tell F Z′ (suc b) refining i false m a g o = tell-fine F Z′ b i m (ltb i I) (eqb (getD m i 0) 3) (eqb (getD m i 0) 2) a refl refl refl g o
 
-  pub good-next : (F : Fam) (Z′ : ℕ → Type 0) (s : State) (a : Bool) → Good F s → On-ask F Z′ a (look I s) → Good (withZ F Z′) (next I s a)
+  pub good-next : (F : Fam) (Z′ : ℕ → Type 0) (s : State) (a : Bool) → Good F s → On-ask I F Z′ a (look I s) → Good (withZ F Z′) (next I s a)
   unfolding next
   good-next F Z′ s a g o = good-settle (withZ F Z′) (tell I s a) (good-tell F Z′ (s .left) (s .pass) (s .place) (s .pending) (s .marks) a g o)
 

@@ -59,14 +59,16 @@ fam N A k = record {
 abbrev pub Zof : Bits → ℕ → Type 0
 Zof k j = (e : ℕ) × (k .has j e ≡ true)
 
-module _ (N : ℕ) {D : ℕ} (P : ℕ) (sz : Tiled D (4 ^ N)) where
+growsO : (o : Option Question) (a : Bool) (k : Bits) → k ⊑ knowO o a k
+unfolding _⊑_
+growsO none a k i b h = h
+growsO (some q) a k i b h = know-grows q a k i b h
+
+module _ (N : ℕ) where
   abbrev I : ℕ
   I = 4 ^ N
 
-  abbrev pub Ok-at : Fam → State → Type 0
-  Ok-at F s = Good sz P F s
-
-  pub learned : (A k : Bits) (q : Question) (a : Bool) → ans N A q ≡ a → Learned sz P (withZ (fam N A (know q a k)) (λ j. (e : ℕ) × (k .has j e ≡ true))) (λ j. (e : ℕ) × ((know q a k) .has j e ≡ true)) q a
+  pub learned : (A k : Bits) (q : Question) (a : Bool) → ans N A q ≡ a → Learned I (withZ (fam N A (know q a k)) (Zof k)) (Zof (know q a k)) q a
   unfolding ans inside
   learned A k (bitOf i b) true e = ((λ h. know-one i b k), λ j z n. (z .0, know-other i b k j (z .0) (z .1) n))
   learned A k (bitOf i b) false e = ((λ h. absurd (true≢false (sym h ∙ e))), λ j z. (z .0, unfold know in z .1))
@@ -86,28 +88,27 @@ module _ (N : ℕ) {D : ℕ} (P : ℕ) (sz : Tiled D (4 ^ N)) where
   learned A k (inGrand g b) false e =
       ((λ g1 i hi u h. absurd (true≢false (sym (member N (λ j. below N g (j / 4)) A b i (both (lt-ltb i I hi) (under-below N g (i / 4) g1 (omega arith) u)) h) ∙ e))), λ j z. (z .0, unfold know in z .1))
 
-  on-ask : (A k : Bits) (a : Bool) (L : Look) → told N A (asked I L) a → On-ask sz P (withZ (fam N A (knowO (asked I L) a k)) (Zof k)) (Zof (knowO (asked I L) a k)) a L
+  on-ask : (A k : Bits) (a : Bool) (L : Look) → told N A (asked I L) a → On-ask I (withZ (fam N A (knowO (asked I L) a k)) (Zof k)) (Zof (knowO (asked I L) a k)) a L
   on-ask A k a over t = t
   on-ask A k a (silent s) t = t
   on-ask A k a (asks q) t = learned A k q a t
-
-  growsO : (o : Option Question) (a : Bool) (k : Bits) → k ⊑ knowO o a k
-  unfolding _⊑_
-  growsO none a k i b h = h
-  growsO (some q) a k i b h = know-grows q a k i b h
 
   negO : (A k : Bits) (o : Option Question) (a : Bool) → told N A o a → (j : ℕ) → k .neg j ≡ A .neg j → (knowO o a k) .neg j ≡ A .neg j
   negO A k none a t j h = h
   negO A k (some q) a t j h = know-neg N A k q a t j h
 
-  pub one-bit : (A k : Bits) (s : State) (a : Bool) → Ok-at (fam N A k) s → told N A (ask I s) a → Ok-at (fam N A (knowO (ask I s) a k)) (next I s a)
+module _ (N : ℕ) {D : ℕ} (P : ℕ) (sz : Tiled D (4 ^ N)) where
+  abbrev pub Ok-at : Fam → State → Type 0
+  Ok-at F s = Good sz P F s
+
+  pub one-bit : (A k : Bits) (s : State) (a : Bool) → Ok-at (fam N A k) s → told N A (ask (4 ^ N) s) a → Ok-at (fam N A (knowO (ask (4 ^ N) s) a k)) (next (4 ^ N) s a)
   unfolding ask _⊑_
-  one-bit A k s a g t = good-next sz P (withZ (fam N A (knowO (ask I s) a k)) (Zof k)) (Zof (knowO (ask I s) a k)) s a
-      (good-mono sz P (fam N A k) (withZ (fam N A (knowO (ask I s) a k)) (Zof k))
-      (λ b j z h. growsO (ask I s) a k j b (z h)) (negO A k (ask I s) a t) (λ b j z. z) (λ b j z. z) (λ j z. z) s g) (on-ask A k a (look I s) t)
+  one-bit A k s a g t = good-next sz P (withZ (fam N A (knowO (ask (4 ^ N) s) a k)) (Zof k)) (Zof (knowO (ask (4 ^ N) s) a k)) s a
+      (good-mono sz P (fam N A k) (withZ (fam N A (knowO (ask (4 ^ N) s) a k)) (Zof k))
+      (λ b j z h. growsO (ask (4 ^ N) s) a k j b (z h)) (negO N A k (ask (4 ^ N) s) a t) (λ b j z. z) (λ b j z. z) (λ j z. z) s g) (on-ask N A k a (look (4 ^ N) s) t)
 
   -- along a run
   pub run : (A k : Bits) (s : State) (u : List Bool) → Ok-at (fam N A k) s → Fit N A s u → Ok-at (fam N A (least N s u k)) (reach (4 ^ N) s u)
   unfolding reach
   run A k s [] g f = g
-  run A k s (a ∷ u) g f = run A (knowO (ask I s) a k) (next I s a) u (one-bit A k s a g (f .0)) (f .1)
+  run A k s (a ∷ u) g f = run A (knowO (ask (4 ^ N) s) a k) (next (4 ^ N) s a) u (one-bit A k s a g (f .0)) (f .1)
