@@ -5,12 +5,12 @@ use mathlib.Core.List.{List, [], _∷_}
 use Prim.Native.Nat.{ℕ, zero, suc, _+_, _/_, _^_, _<_}
 use lib.Dec.{ltb, eqb}
 use lib.ListN.{set}
-use Rattle.bits.specs.Bits.{bit}
 use mathlib.Core.Path.{_≡_, refl, sym, ap, subst, _∙_}
 use mathlib.Core.Logic.{_⊎_, inl, inr}
 use native.Mathlib.Omega.{arith}
 use borrow.Author.Tests.{eqb-true, eqb-false, eq-eqb, ltb-true}
 use Rattle.sizes.proofs.Laws.{both-left, both-right, both}
+use Rattle.bits.specs.Bits.{bit}
 use Rattle.tree.proofs.Lists.{or-left, or-right}
 use Rattle.nls.specs.Scan.{Question, bitOf, signOf, inDesc, inGrand, State, ask, next}
 use Rattle.nls.proofs.Booleans.{or-cases}

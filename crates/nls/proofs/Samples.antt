@@ -3,7 +3,9 @@ use mathlib.Core.Path.{refl, subst}
 use mathlib.Core.Bool.{Bool, true, false}
 use mathlib.Core.List.{List, _∷_, _++_, flatMap}
 use lib.ListN.{replicate}
+use native.Mathlib.Omega.{arith}
 use Rattle.sizes.specs.Tables.{table}
+use Rattle.sizes.specs.Sizes.{Sized}
 use Rattle.bits.specs.Bits.{bit, packed, number}
 use Rattle.places.specs.Order.{linearly, toRaster, rowOf, colOf}
 use Rattle.coef.specs.Coef.{planesOf, largest, digits}
@@ -14,11 +16,9 @@ use Rattle.nls.specs.Scan.{silently, settle, ask, next, reach, start}
 use Rattle.nls.specs.Stream.{answer, answers, worstBody, stream, during}
 use Rattle.nls.specs.Parts.{sumTo, found, descSplit, grandSplit, standsAlone, descStands, grandStands, parts, splits, nonzeros}
 use Rattle.nls.specs.Reading.{learned, valueBy}
-use native.Mathlib.Omega.{arith}
-use Rattle.sizes.specs.Sizes.{Sized}
 use Rattle.nls.specs.Judging.{Verdict, contradiction, Judged}
-use Rattle.nls.proofs.Verdicts.{no-one-found, no-child-found, verdict-judged}
 use Rattle.nls.specs.Samples.{raster, linear, whole, valuesAt, errorAt, samples, Each}
+use Rattle.nls.proofs.Verdicts.{no-one-found, no-child-found, verdict-judged}
 
 small : Sized 2 1
 small = record { least = omega arith; most = omega arith }

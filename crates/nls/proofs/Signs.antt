@@ -14,8 +14,8 @@ use Rattle.sizes.specs.Sizes.{allOf, coarsestOf, Sized}
 use Rattle.sizes.specs.Tables.{table}
 use Rattle.sizes.proofs.Tables.{table-length, table-at}
 use Rattle.bits.specs.Bits.{bit}
-use Rattle.coef.specs.Coef.{at, magAt, magnitude, negative, signed, IsPlanes}
 use Rattle.bits.proofs.Laws.{bit-none}
+use Rattle.coef.specs.Coef.{at, magAt, magnitude, negative, signed, IsPlanes}
 use Rattle.coef.proofs.Laws.{magnitude-signed}
 use Rattle.nls.specs.Scan.{Question, bitOf, signOf, inDesc, inGrand, State, Look, over, silent, asks, Pass, pixels, sets, refining, look, lookAt, lookPixels, lookSets, lookRefining, tell, tellAt, tellSets, settle, ask, asked, next, start}
 use Rattle.nls.specs.Scan as Scan

@@ -9,10 +9,10 @@ use native.Mathlib.Omega.{arith}
 use borrow.Author.Tests.{lt-ltb, ltb-true, eqb-true, eqb-false, eq-eqb}
 use lib.Dec.{ltb, eqb}
 use lib.Bits.{bitOr}
-use Rattle.bits.specs.Bits.{bit}
 use Rattle.sizes.proofs.Laws.{both-left, both-right, both}
-use Rattle.tree.proofs.Lists.{or-left, or-right}
+use Rattle.bits.specs.Bits.{bit}
 use Rattle.bits.proofs.Laws.{bit-or, bit-none}
+use Rattle.tree.proofs.Lists.{or-left, or-right}
 use Rattle.nls.specs.Scan.{inDesc, inGrand}
 use Rattle.nls.proofs.Booleans.{or-cases, same-bool}
 use Rattle.nls.proofs.Arrays.{below, any, Arr, bits-of, inside, ans, any-some, any-find}
