@@ -1,7 +1,7 @@
 -- Refusals 12 and 13 as a computation: the verdict on usable bits, and that it is the one that document 01 means.
 use Prim.Native.Nat.{ℕ, zero, suc, _+_, _≤_, _<_}
 use mathlib.Core.Path.{_≡_, refl, sym, ap, subst, _∙_}
-use mathlib.Core.Bool.{Bool, true, false, not, _&&_, _||_}
+use mathlib.Core.Bool.{Bool, true, false, not, _&&_}
 use mathlib.Core.Logic.{_⊎_, inl, inr}
 use mathlib.Core.Option.{Option, none, some, IsSome}
 use mathlib.Core.List.{List, [], _∷_, _++_}
@@ -19,7 +19,7 @@ use Rattle.nls.proofs.Tiled.{tiled}
 use Rattle.nls.proofs.Arrays.{Bits, bits-of, told, Fit}
 use Rattle.nls.proofs.Counting.Sums.{order}
 use Rattle.nls.proofs.Judging.Decide.{clash-by, cb-child, cb-grand, cb-desc, cb-root}
-use Rattle.nls.proofs.Judging.Decoder.{Out, here, no12, no13, decode, Means}
+use Rattle.nls.proofs.Judging.Decoder.{decode, Means}
 use Rattle.nls.proofs.Judging.ByCount.{clash-count}
 use Rattle.nls.proofs.Judging.Final.{answer-means, none-asked}
 use Rattle.nls.proofs.Lists.{arrOf}
@@ -40,25 +40,19 @@ verdictFrom N L P used s (a ∷ u) = elim (ask (allOf N) s) [
 abbrev pub verdict : ℕ → ℕ → ℕ → List Bool → Verdict
 verdict N L P u = verdictFrom N L P 0 (begin N L P) u
 
--- it is the decoder's answer
-abbrev shown : Out → Verdict
-shown (here s) = taken
-shown (no12 n) = contradiction n
-shown (no13 n) = beyond n
+-- it is the decoder's
+abbrev decoded : ℕ → ℕ → ℕ → ℕ → State → List Bool → Verdict
+decoded N L P used s u = decode (allOf N) (λ used s. clash-count (allOf N) (coarsestOf N L) P used s) used s u
 
-abbrev decoded : ℕ → ℕ → ℕ → ℕ → Bool → State → List Bool → Out
-decoded N L P used hit s u = decode (allOf N) (λ used hit s. clash-count (allOf N) (coarsestOf N L) P used s) used hit s u
-
-shown-from : (N L P used : ℕ) (hit : Bool) (s : State) (u : List Bool) → verdictFrom N L P used s u ≡ shown (decoded N L P used hit s u)
+verdict-decoded : (N L P used : ℕ) (s : State) (u : List Bool) → verdictFrom N L P used s u ≡ decoded N L P used s u
 unfolding verdictFrom decode
-shown-from N L P used hit s [] = refl
-shown-from N L P used hit s (a ∷ u) =
-    on (ask (allOf N) s) (not a && clash-count (allOf N) (coarsestOf N L) P used s) (shown-from N L P (used + 1) (hit || a) (next (allOf N) s a) u)
+verdict-decoded N L P used s [] = refl
+verdict-decoded N L P used s (a ∷ u) =
+    on (ask (allOf N) s) (not a && clash-count (allOf N) (coarsestOf N L) P used s) (verdict-decoded N L P (used + 1) (next (allOf N) s a) u)
   where
-    on : (o : Option Question) (t : Bool)
-        → verdictFrom N L P (used + 1) (next (allOf N) s a) u ≡ shown (decoded N L P (used + 1) (hit || a) (next (allOf N) s a) u)
-        → (elim o as (λ _. Verdict) [ none ↦ beyond used | some q ↦ elim t as (λ _. Verdict) [ true ↦ contradiction used | false ↦ verdictFrom N L P (used + 1) (next (allOf N) s a) u ] ])
-        ≡ shown (elim o as (λ _. Out) [ none ↦ no13 used | some q ↦ elim t as (λ _. Out) [ true ↦ no12 used | false ↦ decoded N L P (used + 1) (hit || a) (next (allOf N) s a) u ] ])
+    on : (o : Option Question) (t : Bool) → verdictFrom N L P (used + 1) (next (allOf N) s a) u ≡ decoded N L P (used + 1) (next (allOf N) s a) u
+        → _≡_ {A = Verdict} (elim o as (λ _. Verdict) [ none ↦ beyond used | some q ↦ elim t as (λ _. Verdict) [ true ↦ contradiction used | false ↦ verdictFrom N L P (used + 1) (next (allOf N) s a) u ] ])
+        (elim o as (λ _. Verdict) [ none ↦ beyond used | some q ↦ elim t as (λ _. Verdict) [ true ↦ contradiction used | false ↦ decoded N L P (used + 1) (next (allOf N) s a) u ] ])
     on none t ih = refl
     on (some q) true ih = refl
     on (some q) false ih = ih
@@ -118,13 +112,10 @@ module _ (N L : ℕ) (z : Sized N L) where
         subst (λ (o : Option Question). told N (bits-of (arrOf (w .0))) o (getD u n false)) e
         (last-told N (bits-of (arrOf (w .0))) (begin N L P) (take n u) (getD u n false) f)
 
-    abbrev Meant : List Bool → Out → Type 0
-    Meant v o = Means N P (tiled N L z) v o
-
     -- what the decoder's answer means, over lists of numbers
-    meant-judged : 1 ≤ P → (v : List Bool) (o : Out) → Meant v o → Judged N L P v (shown o)
-    meant-judged h v (here s) m = lists-fit N L z P v (m .1)
-    meant-judged h v (no12 n) m =
+    meant-judged : 1 ≤ P → (v : List Bool) (o : Verdict) → Means N P (tiled N L z) v o → Judged N L P v o
+    meant-judged h v taken m = lists-fit N L z P v m
+    meant-judged h v (contradiction n) m =
         subst (λ (x : List Bool). Contradicts N L P x n) (sym (m .3))
         (subst (λ (k : ℕ). Contradicts N L P (m .0 ++ (m .1 ∷ m .2)) k) (sym (m .4))
         (record {
@@ -134,7 +125,7 @@ module _ (N L : ℕ) (z : Sized N L) where
           question = m .7 .0;
           inPlane = ap (λ (x : List Bool). ask (allOf N) (after N L P x)) (cut-before (m .0) (m .1) (m .2)) ∙ m .7 .1;
         }))
-    meant-judged h v (no13 n) m =
+    meant-judged h v (beyond n) m =
         subst (λ (x : List Bool). IsBeyond N L P x n) (sym (m .3))
         (subst (λ (k : ℕ). IsBeyond N L P (m .0 ++ (m .1 ∷ m .2)) k) (sym (m .4))
         (record {
@@ -145,8 +136,8 @@ module _ (N L : ℕ) (z : Sized N L) where
 
     judged-some : 1 ≤ P → (u : List Bool) → Judged N L P u (verdict N L P u)
     judged-some h u =
-        subst (λ (v : Verdict). Judged N L P u v) (sym (shown-from N L P 0 false (begin N L P) u))
-        (meant-judged h u (decoded N L P 0 false (begin N L P) u) (answer-means N L z P h u))
+        subst (λ (v : Verdict). Judged N L P u v) (sym (verdict-decoded N L P 0 (begin N L P) u))
+        (meant-judged h u (decoded N L P 0 (begin N L P) u) (answer-means N L z P h u))
 
   judged-none : (u : List Bool) → Judged N L 0 u (verdict N L 0 u)
   unfolding verdictFrom

@@ -26,8 +26,8 @@ use Rattle.nls.proofs.Judging.Open.{All, All-at, All-look, Owing, all-n
 use Rattle.nls.proofs.Judging.Refuse.{Clash-at, Clashes, owing}
 use Rattle.nls.proofs.Judging.Owed.{Owed}
 use Rattle.nls.proofs.Judging.Decide.{clash-by, None, clash-to, clash-from}
-use Rattle.nls.proofs.Judging.Flag.{F1, Fl, on-ask1, Blank, blank-run, flag-to, flag-of, z, g1}
-use Rattle.nls.proofs.Judging.Decoder.{lit, Right, Some}
+use Rattle.nls.proofs.Judging.Flag.{F1, Fl, on-ask1, Blank, blank-run, flag-to, flag-of, z, g1, lit}
+use Rattle.nls.proofs.Judging.Decoder.{Right, Some}
 
 f-or : (x : Bool) → x ≡ false → (x || false) ≡ false
 f-or true e = absurd (true≢false e)
@@ -343,6 +343,6 @@ module _ (N : ℕ) {D : ℕ} (P : ℕ) (sz : Tiled D (4 ^ N)) where
       (z N P sz (w .0) u (w .2)) (g1 N P sz (w .0) u (w .2)) (tally N P sz (w .0) (w .1) u (w .2))
 
   -- THE COUNT DECIDES: the test with the number of bits used is the clash
-  pub right-count : Right N P sz (λ used hit s. clash-count II D P used s)
+  pub right-count : Right N P sz (λ used s. clash-count II D P used s)
   unfolding clash-count
   right-count = record { to = λ u w e. (both-of u w) .0 e; of = λ u w e. (both-of u w) .1 e }

@@ -1,6 +1,6 @@
 -- DEMAND 2 (iii): a decoder that stops at the clash accepts a list of bits exactly if some array of P planes has a stream that begins so; refusals 12 and 13.
-use mathlib.Core.Path.{_≡_, refl, sym, ap, subst, _∙_}
-use mathlib.Core.Bool.{Bool, true, false, not, _&&_, _||_, true≢false, false≢true}
+use mathlib.Core.Path.{_≡_, refl, sym, subst, _∙_}
+use mathlib.Core.Bool.{Bool, true, false, not, _&&_, true≢false, false≢true}
 use mathlib.Core.Option.{Option, none, some}
 use mathlib.Core.List.{List, [], _∷_, _++_, append-nil, append-assoc}
 use Prim.Native.Nat.{ℕ, zero, suc, _+_, _-_, _^_, _≤_}
@@ -8,6 +8,7 @@ use native.Mathlib.Omega.{arith}
 use lib.ListN.{length, getD, length-append}
 use lib.Dec.{ltb, eqb}
 use borrow.Author.Tests.{ltb-true, lt-ltb, eqb-true}
+use Rattle.nls.specs.Judging.{Verdict, taken, contradiction, beyond}
 use Rattle.nls.specs.Scan.{State, Question, Pass, pixels, sets, refining, lookAt, lookSets, ask, asked, next, reach, start}
 use Rattle.nls.proofs.Tiled.{Tiled}
 use Rattle.nls.proofs.Arrays.{Bits, told, Fit}
@@ -19,30 +20,13 @@ use Rattle.nls.proofs.Judging.Clash.{Valid, Clash, last-child, last-gra
 use Rattle.nls.proofs.Machine.Start.{nothing, good-start}
 use Rattle.nls.proofs.Judging.Refuse.{Clash-at, Clashes, accepts}
 
-pub data Out : Type 0 where
-  here : State → Out
-  no12 : ℕ → Out
-  no13 : ℕ → Out
-
--- the decoder over a test for the clash, which may look at the number of bits used, and at whether one of them was a 1
-unfoldable pub decode : ℕ → (ℕ → Bool → State → Bool) → ℕ → Bool → State → List Bool → Out
-decode I cl used hit s [] = here s
-decode I cl used hit s (a ∷ u) = elim (ask I s) [
-  | none ↦ no13 used
-  | some q ↦ elim (not a && cl used hit s) [ true ↦ no12 used | false ↦ decode I cl (used + 1) (hit || a) (next I s a) u ]
+-- the verdict on the bits u from the settled state s on, by a test for the clash that may look at the number of bits used
+unfoldable pub decode : ℕ → (ℕ → State → Bool) → ℕ → State → List Bool → Verdict
+decode I cl used s [] = taken
+decode I cl used s (a ∷ u) = elim (ask I s) [
+  | none ↦ beyond used
+  | some q ↦ elim (not a && cl used s) [ true ↦ contradiction used | false ↦ decode I cl (used + 1) (next I s a) u ]
 ]
-
--- a 1 was read
-unfoldable pub lit : List Bool → Bool
-lit [] = false
-lit (a ∷ u) = a || lit u
-
-lit-snoc : (u : List Bool) (a : Bool) → lit (u ++ (a ∷ [])) ≡ (lit u || a)
-unfolding lit
-lit-snoc [] true = refl
-lit-snoc [] false = refl
-lit-snoc (true ∷ u) a = refl
-lit-snoc (false ∷ u) a = lit-snoc u a
 
 module _ (N : ℕ) {D : ℕ} (P : ℕ) (sz : Tiled D (4 ^ N)) where
   abbrev I : ℕ
@@ -101,33 +85,20 @@ module _ (N : ℕ) {D : ℕ} (P : ℕ) (sz : Tiled D (4 ^ N)) where
       (run N P sz (w .0) nothing S u (good-start sz P (fam N (w .0) nothing) (λ j z. false≢true (z .1))) f) n
       ((fit-split (w .0) S u (false ∷ []) (w .2)) .0)
 
-  -- THE TEST IS THE CLASH, after any bits that some array fits
-  pub record Right (cl : ℕ → Bool → State → Bool) : Type 0 where
-    pub to : (u : List Bool) → Some u → cl (length u) (lit u) (reach (4 ^ N) S u) ≡ true → Bad (reach (4 ^ N) S u)
-    pub of : (u : List Bool) → Some u → Bad (reach (4 ^ N) S u) → cl (length u) (lit u) (reach (4 ^ N) S u) ≡ true
+  -- the test is the clash, after any bits that some array fits
+  pub record Right (cl : ℕ → State → Bool) : Type 0 where
+    pub to : (u : List Bool) → Some u → cl (length u) (reach (4 ^ N) S u) ≡ true → Bad (reach (4 ^ N) S u)
+    pub of : (u : List Bool) → Some u → Bad (reach (4 ^ N) S u) → cl (length u) (reach (4 ^ N) S u) ≡ true
 
-  -- REFUSAL 12 for one bit: after bits that some array fits, with a question pending, a fits none exactly if it is 0 and the test says clash
-  pub refused12 : (cl : ℕ → Bool → State → Bool) → Right cl → (u : List Bool) → Some u → (q : Question) → ask I (reach (4 ^ N) S u) ≡ some q → (a : Bool)
-      → ((Some (u ++ (a ∷ [])) → ⊥) → (a ≡ false) × (cl (length u) (lit u) (reach (4 ^ N) S u) ≡ true)) × ((a ≡ false) × (cl (length u) (lit u) (reach (4 ^ N) S u) ≡ true) → Some (u ++ (a ∷ [])) → ⊥)
-  refused12 cl r u w q e a = (fwd a (cl (length u) (lit u) (reach (4 ^ N) S u)) refl, λ h. back (h .0) (h .1))
-    where
-      fwd : (a c : Bool) → cl (length u) (lit u) (reach (4 ^ N) S u) ≡ c → (Some (u ++ (a ∷ [])) → ⊥) → (a ≡ false) × (cl (length u) (lit u) (reach (4 ^ N) S u) ≡ true)
-      fwd false true ec n = (refl, ec)
-      fwd false false ec n = absurd (n (accepts N P sz (w .0) (w .1) u (w .2) q e false (λ z b. true≢false (sym (r .of u w b) ∙ ec))))
-      fwd true c ec n = absurd (n (accepts N P sz (w .0) (w .1) u (w .2) q e true (λ z b. true≢false z)))
+  -- what the verdict means, for the whole list of bits
+  abbrev pub Means : List Bool → Verdict → Type 0
+  Means v taken = Some v
+  Means v (contradiction n) = (u : List Bool) × (a : Bool) × (r : List Bool) × (v ≡ u ++ (a ∷ r)) × (n ≡ length u) × Some u × (Some (u ++ (a ∷ [])) → ⊥) × ((q : Question) × (ask I (reach (4 ^ N) S u) ≡ some q))
+  Means v (beyond n) = (u : List Bool) × (a : Bool) × (r : List Bool) × (v ≡ u ++ (a ∷ r)) × (n ≡ length u) × Some u × (ask I (reach (4 ^ N) S u) ≡ none)
 
-      back : a ≡ false → cl (length u) (lit u) (reach (4 ^ N) S u) ≡ true → Some (u ++ (a ∷ [])) → ⊥
-      back z h s = refuses u (r .to u w h) (subst (λ (x : Bool). Some (u ++ (x ∷ []))) z s)
-
-  -- WHAT THE DECODER'S ANSWER MEANS, for the whole list of bits
-  abbrev pub Means : List Bool → Out → Type 0
-  Means v (here s) = (s ≡ reach (4 ^ N) S v) × Some v
-  Means v (no12 n) = (u : List Bool) × (a : Bool) × (r : List Bool) × (v ≡ u ++ (a ∷ r)) × (n ≡ length u) × Some u × (Some (u ++ (a ∷ [])) → ⊥) × ((q : Question) × (ask I (reach (4 ^ N) S u) ≡ some q))
-  Means v (no13 n) = (u : List Bool) × (a : Bool) × (r : List Bool) × (v ≡ u ++ (a ∷ r)) × (n ≡ length u) × Some u × (ask I (reach (4 ^ N) S u) ≡ none)
-
-  decode-from : (cl : ℕ → Bool → State → Bool) → Right cl → (v u r : List Bool) → v ≡ u ++ r → Some u → Means v (decode I cl (length u) (lit u) (reach (4 ^ N) S u) r)
+  decode-from : (cl : ℕ → State → Bool) → Right cl → (v u r : List Bool) → v ≡ u ++ r → Some u → Means v (decode I cl (length u) (reach (4 ^ N) S u) r)
   unfolding decode
-  decode-from cl rt v u [] e w = (ap (λ (x : List Bool). reach (4 ^ N) S x) (sym (e ∙ append-nil u)), subst Some (sym (e ∙ append-nil u)) w)
+  decode-from cl rt v u [] e w = subst Some (sym (e ∙ append-nil u)) w
   decode-from cl rt v u (a ∷ r) e w = go (ask I (reach (4 ^ N) S u)) refl (decode-from cl rt v (u ++ (a ∷ [])) r (e ∙ sym (append-assoc u (a ∷ []) r)))
     where
       len : length (u ++ (a ∷ [])) ≡ length u + 1
@@ -136,23 +107,23 @@ module _ (N : ℕ) {D : ℕ} (P : ℕ) (sz : Tiled D (4 ^ N)) where
       step : reach (4 ^ N) S (u ++ (a ∷ [])) ≡ next I (reach (4 ^ N) S u) a
       step = reach-append N S u (a ∷ []) ∙ (unfold reach in refl)
 
-      go : (o : Option Question) → ask I (reach (4 ^ N) S u) ≡ o → (Some (u ++ (a ∷ [])) → Means v (decode I cl (length (u ++ (a ∷ []))) (lit (u ++ (a ∷ []))) (reach (4 ^ N) S (u ++ (a ∷ []))) r))
-          → Means v (elim o as (λ _. Out) [ none ↦ no13 (length u) | some q ↦ elim (not a && cl (length u) (lit u) (reach (4 ^ N) S u)) as (λ _. Out) [ true ↦ no12 (length u) | false ↦ decode I cl (length u + 1) (lit u || a) (next I (reach (4 ^ N) S u) a) r ] ])
+      go : (o : Option Question) → ask I (reach (4 ^ N) S u) ≡ o → (Some (u ++ (a ∷ [])) → Means v (decode I cl (length (u ++ (a ∷ []))) (reach (4 ^ N) S (u ++ (a ∷ []))) r))
+          → Means v (elim o as (λ _. Verdict) [ none ↦ beyond (length u) | some q ↦ elim (not a && cl (length u) (reach (4 ^ N) S u)) as (λ _. Verdict) [ true ↦ contradiction (length u) | false ↦ decode I cl (length u + 1) (next I (reach (4 ^ N) S u) a) r ] ])
       go none eo ih = (u, a, r, e, refl, w, eo)
-      go (some q) eo ih = pick a (cl (length u) (lit u) (reach (4 ^ N) S u)) refl refl
+      go (some q) eo ih = pick a (cl (length u) (reach (4 ^ N) S u)) refl refl
         where
-          more : Some (u ++ (a ∷ [])) → Means v (decode I cl (length u + 1) (lit u || a) (next I (reach (4 ^ N) S u) a) r)
-          more x = subst (λ (n : ℕ). Means v (decode I cl n (lit u || a) (next I (reach (4 ^ N) S u) a) r)) len (subst (λ (h : Bool). Means v (decode I cl (length (u ++ (a ∷ []))) h (next I (reach (4 ^ N) S u) a) r)) (lit-snoc u a) (subst (λ (s : State). Means v (decode I cl (length (u ++ (a ∷ []))) (lit (u ++ (a ∷ []))) s r)) step (ih x)))
+          more : Some (u ++ (a ∷ [])) → Means v (decode I cl (length u + 1) (next I (reach (4 ^ N) S u) a) r)
+          more x = subst (λ (n : ℕ). Means v (decode I cl n (next I (reach (4 ^ N) S u) a) r)) len (subst (λ (s : State). Means v (decode I cl (length (u ++ (a ∷ []))) s r)) step (ih x))
 
-          pick : (x y : Bool) → a ≡ x → cl (length u) (lit u) (reach (4 ^ N) S u) ≡ y → Means v (elim (not x && y) as (λ _. Out) [ true ↦ no12 (length u) | false ↦ decode I cl (length u + 1) (lit u || a) (next I (reach (4 ^ N) S u) a) r ])
+          pick : (x y : Bool) → a ≡ x → cl (length u) (reach (4 ^ N) S u) ≡ y → Means v (elim (not x && y) as (λ _. Verdict) [ true ↦ contradiction (length u) | false ↦ decode I cl (length u + 1) (next I (reach (4 ^ N) S u) a) r ])
           pick true y ea ey = more (accepts N P sz (w .0) (w .1) u (w .2) q eo a (λ z b. true≢false (sym ea ∙ z)))
-          pick false true ea ey = (u, a, r, e, refl, w, (refused12 cl rt u w q eo a) .1 (ea, ey), (q, eo))
+          pick false true ea ey = (u, a, r, e, refl, w, (λ s. refuses u (rt .to u w ey) (subst (λ (x : Bool). Some (u ++ (x ∷ []))) ea s)), (q, eo))
           pick false false ea ey = more (accepts N P sz (w .0) (w .1) u (w .2) q eo a (λ z b. true≢false (sym (rt .of u w b) ∙ ey)))
 
   -- an array of P planes
   first-one : 1 ≤ P → Some []
   first-one h = (record { has = λ i b. ltb b P; neg = λ i. false }, record { cap = λ j e y. ltb-true e P y; top = (0, P - 1, omega arith, omega arith, lt-ltb (P - 1) P (omega arith)) }, tt)
 
-  pub decode-means : (cl : ℕ → Bool → State → Bool) → Right cl → 1 ≤ P → (v : List Bool) → Means v (decode I cl 0 false S v)
-  unfolding reach lit
+  pub decode-means : (cl : ℕ → State → Bool) → Right cl → 1 ≤ P → (v : List Bool) → Means v (decode I cl 0 S v)
+  unfolding reach
   decode-means cl rt h v = decode-from cl rt v [] v refl (first-one h)

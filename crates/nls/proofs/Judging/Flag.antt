@@ -1,6 +1,6 @@
 -- THE WHOLE ARRAY: at the last root of the first plane, "nothing was found significant" is "no 1 was read". So the decoder needs one flag and no walk.
 use mathlib.Core.Path.{_≡_, refl, sym, ap, subst, _∙_}
-use mathlib.Core.Bool.{Bool, true, false, not, true≢false, false≢true}
+use mathlib.Core.Bool.{Bool, true, false, not, true≢false, false≢true, _||_}
 use mathlib.Core.Logic.{_⊎_, inl, inr}
 use mathlib.Core.Option.{Option, none, some}
 use mathlib.Core.List.{List, [], _∷_}
@@ -24,7 +24,11 @@ use Rattle.nls.proofs.Machine.Start.{nothing, good-start}
 use Rattle.nls.proofs.Judging.Open.{All, All-at, Owing, all-next, all-run, all-start}
 use Rattle.nls.proofs.Judging.Enough.{whole-D}
 use Rattle.nls.proofs.Judging.Decide.{None}
-use Rattle.nls.proofs.Judging.Decoder.{lit}
+
+-- a 1 was read
+unfoldable pub lit : List Bool → Bool
+lit [] = false
+lit (a ∷ u) = a || lit u
 
 abbrev Plain : Question → Type 0
 Plain (bitOf i b) = Unit {0}
