@@ -9,9 +9,10 @@ use native.Mathlib.Omega.{arith}
 use borrow.Author.Tests.{lt-ltb, le-ltb, leb-true, leb-false, le-leb, lt-leb, ne-eqb}
 use lib.Dec.{T, ltb, leb, eqb, leb→le, le→leb, ltb→lt, lt→ltb, nleb→lt, nltb→le, T-not, not-T}
 use lib.ListN.{length, length-append}
+use Rattle.bits.specs.Bits.{bit}
 use Rattle.nls.proofs.Counting.Sums.{sum, each, each-length, sum-cong, sum-add, sum-at, sum-four, sum-last, sum-tail, sum-first, sum-two, sum-four-two, by-four}
 use Rattle.nls.proofs.Counting.Tree.{Size, D, Q, I, desc, grand, child-le, desc-le, grand-le, desc-mono, grand-mono}
-use Rattle.nls.proofs.Counting.Parts.{ι, over-desc, over-grand, over-all, big, split-desc, split-grand, alone, stands-desc, stands-grand, parts, splits, bigs, bit, coded, pixel, refine, test-grand, test-desc, children, group, plane, body}
+use Rattle.nls.proofs.Counting.Parts.{ι, over-desc, over-grand, over-all, big, split-desc, split-grand, alone, stands-desc, stands-grand, parts, splits, bigs, coded, pixel, refine, test-grand, test-desc, children, group, plane, body}
 
 -- tests and numbers
 T→1 : (t : Bool) → T t → 1 ≤ ι t
@@ -153,7 +154,7 @@ module _ (z : Size) (mag : ℕ → ℕ) where
 
   -- below 2 ^ (b + 1), bit b says whether a magnitude is at least 2 ^ b
   module _ (neg : ℕ → Bool) where
-    pub bit-big : (b i : ℕ) → T (not (big z mag (suc b) i)) → bit z mag neg b i ≡ big z mag b i
+    pub bit-big : (b i : ℕ) → T (not (big z mag (suc b) i)) → bit (mag i) b ≡ big z mag b i
     unfolding big bit
     bit-big b i t =
         let less : mag i < 2 ^ suc b = nleb→lt (2 ^ suc b) (mag i) t in
@@ -167,7 +168,7 @@ module _ (z : Size) (mag : ℕ → ℕ) where
             let none : mag i / 2 ^ b ≡ 0 = div-eq-of-lt (leb-false (2 ^ b) (mag i) e) in
             rw (e, none)
 
-    coded-length : (b i : ℕ) → T (not (big z mag (suc b) i)) → length (coded z mag neg b i) ≡ suc (ι (big z mag b i))
+    coded-length : (b i : ℕ) → T (not (big z mag (suc b) i)) → length (coded mag neg b i) ≡ suc (ι (big z mag b i))
     unfolding coded
     coded-length b i t = rw (bit-big b i t) (ap suc (go (big z mag b i)))
       where
@@ -179,29 +180,29 @@ module _ (z : Size) (mag : ℕ → ℕ) where
         ≡ cond (alone z mag (suc b) i && not (big z mag (suc b) i)) (suc (ι (big z mag b i))) 0
     unfolding pixel
     pixel-length b i =
-        length-cond (alone z mag (suc b) i && not (big z mag (suc b) i)) (coded z mag neg b i)
-        ∙ cond-cong (alone z mag (suc b) i && not (big z mag (suc b) i)) (length (coded z mag neg b i)) (suc (ι (big z mag b i)))
+        length-cond (alone z mag (suc b) i && not (big z mag (suc b) i)) (coded mag neg b i)
+        ∙ cond-cong (alone z mag (suc b) i && not (big z mag (suc b) i)) (length (coded mag neg b i)) (suc (ι (big z mag b i)))
         (λ t. coded-length b i (and-right (alone z mag (suc b) i) (not (big z mag (suc b) i)) t))
 
-    refine-length : (b i : ℕ) → length (refine z mag neg b i) ≡ cond (big z mag (suc b) i) 1 0
+    refine-length : (b i : ℕ) → length (refine z mag b i) ≡ cond (big z mag (suc b) i) 1 0
     unfolding refine
-    refine-length b i = length-cond (big z mag (suc b) i) (bit z mag neg b i ∷ [])
+    refine-length b i = length-cond (big z mag (suc b) i) (bit (mag i) b ∷ [])
 
     children-length : (b p : ℕ) → 1 ≤ p → p < Q z → length (children z mag neg b p)
         ≡ cond (split-desc z mag b p && not (split-desc z mag (suc b) p)) (sum (4 * p) 4 (λ c. suc (ι (big z mag b c)))) 0
     unfolding children
     children-length b p h k =
-        length-cond (split-desc z mag b p && not (split-desc z mag (suc b) p)) (each (4 * p) 4 (λ c. coded z mag neg b c))
-        ∙ cond-cong (split-desc z mag b p && not (split-desc z mag (suc b) p)) (length (each (4 * p) 4 (λ c. coded z mag neg b c)))
+        length-cond (split-desc z mag b p && not (split-desc z mag (suc b) p)) (each (4 * p) 4 (λ c. coded mag neg b c))
+        ∙ cond-cong (split-desc z mag b p && not (split-desc z mag (suc b) p)) (length (each (4 * p) 4 (λ c. coded mag neg b c)))
         (sum (4 * p) 4 (λ c. suc (ι (big z mag b c))))
-        (λ t. each-length (4 * p) 4 (λ c. coded z mag neg b c)
-        ∙ sum-cong (4 * p) 4 (λ c. length (coded z mag neg b c)) (λ c. suc (ι (big z mag b c)))
+        (λ t. each-length (4 * p) 4 (λ c. coded mag neg b c)
+        ∙ sum-cong (4 * p) 4 (λ c. length (coded mag neg b c)) (λ c. suc (ι (big z mag b c)))
         (λ c u v. coded-length b c
         (not-T (big z mag (suc b) c)
         (λ w. T-not (split-desc z mag (suc b) p) (and-right (split-desc z mag b p) (not (split-desc z mag (suc b) p)) t)
         (child-splits (suc b) p c h k u v w)))))
 
-    test-desc-length : (b p : ℕ) → length (test-desc z mag neg b p)
+    test-desc-length : (b p : ℕ) → length (test-desc z mag b p)
         ≡ ι ((ltb p (D z) || split-grand z mag b (p / 4)) && not (split-desc z mag (suc b) p))
     unfolding test-desc
     test-desc-length b p = go ((ltb p (D z) || split-grand z mag b (p / 4)) && not (split-desc z mag (suc b) p))
@@ -210,7 +211,7 @@ module _ (z : Size) (mag : ℕ → ℕ) where
         go true = refl
         go false = refl
 
-    test-grand-length : (b p : ℕ) → length (test-grand z mag neg b p) ≡ ι (split-desc z mag b p && not (split-grand z mag (suc b) p))
+    test-grand-length : (b p : ℕ) → length (test-grand z mag b p) ≡ ι (split-desc z mag b p && not (split-grand z mag (suc b) p))
     unfolding test-grand
     test-grand-length b p = go (split-desc z mag b p && not (split-grand z mag (suc b) p))
       where
@@ -287,13 +288,13 @@ module _ (z : Size) (mag : ℕ → ℕ) (neg : ℕ → Bool) where
       + (desc-tests b p + cond (fresh b p) (sum (4 * p) 4 (λ c. suc (ι (big z mag b c)))) 0)
   unfolding group grand-tests desc-tests fresh
   group-length b p h k =
-      let whole : length (cond (leb (D z) p && eqb (p % 4) 0) (test-grand z mag neg b (p / 4)) [] ++ (test-desc z mag neg b p ++ children z mag neg b p))
-      ≡ length (cond (leb (D z) p && eqb (p % 4) 0) (test-grand z mag neg b (p / 4)) [])
-      + (length (test-desc z mag neg b p) + length (children z mag neg b p)) =
+      let whole : length (cond (leb (D z) p && eqb (p % 4) 0) (test-grand z mag b (p / 4)) [] ++ (test-desc z mag b p ++ children z mag neg b p))
+      ≡ length (cond (leb (D z) p && eqb (p % 4) 0) (test-grand z mag b (p / 4)) [])
+      + (length (test-desc z mag b p) + length (children z mag neg b p)) =
       rw (length-append, length-append) in
-      let one : length (cond (leb (D z) p && eqb (p % 4) 0) (test-grand z mag neg b (p / 4)) [])
+      let one : length (cond (leb (D z) p && eqb (p % 4) 0) (test-grand z mag b (p / 4)) [])
       ≡ cond (leb (D z) p && eqb (p % 4) 0) (grand-tests b (p / 4)) 0 =
-      length-cond (leb (D z) p && eqb (p % 4) 0) (test-grand z mag neg b (p / 4))
+      length-cond (leb (D z) p && eqb (p % 4) 0) (test-grand z mag b (p / 4))
       ∙ ap (λ (n : ℕ). cond (leb (D z) p && eqb (p % 4) 0) n 0) (test-grand-length z mag neg b (p / 4)) in
       omega (arith, test-desc-length z mag neg b p, children-length z mag neg b p h k)
 
@@ -305,14 +306,14 @@ module _ (z : Size) (mag : ℕ → ℕ) (neg : ℕ → Bool) where
   unfolding plane
   plane-sums b =
       let whole : length (plane z mag neg b) ≡ length (each 0 (I z) (λ i. pixel z mag neg b i))
-      + (length (each (z .e) (Q z - z .e) (λ p. group z mag neg b p)) + length (each 0 (I z) (λ i. refine z mag neg b i))) =
+      + (length (each (z .e) (Q z - z .e) (λ p. group z mag neg b p)) + length (each 0 (I z) (λ i. refine z mag b i))) =
       rw (length-append, length-append) in
       let first : length (each 0 (I z) (λ i. pixel z mag neg b i)) ≡ over-all z (λ i. pixels b i) =
       each-length 0 (I z) (λ i. pixel z mag neg b i)
       ∙ sum-cong 0 (I z) (λ i. length (pixel z mag neg b i)) (λ i. pixels b i) (λ i u v. unfold pixels in pixel-length z mag neg b i) in
-      let last : length (each 0 (I z) (λ i. refine z mag neg b i)) ≡ over-all z (λ i. refines b i) =
-      each-length 0 (I z) (λ i. refine z mag neg b i)
-      ∙ sum-cong 0 (I z) (λ i. length (refine z mag neg b i)) (λ i. refines b i) (λ i u v. unfold refines in refine-length z mag neg b i) in
+      let last : length (each 0 (I z) (λ i. refine z mag b i)) ≡ over-all z (λ i. refines b i) =
+      each-length 0 (I z) (λ i. refine z mag b i)
+      ∙ sum-cong 0 (I z) (λ i. length (refine z mag b i)) (λ i. refines b i) (λ i u v. unfold refines in refine-length z mag neg b i) in
       let sets : length (each (z .e) (Q z - z .e) (λ p. group z mag neg b p))
       ≡ over-desc z (λ p. cond (leb (D z) p && eqb (p % 4) 0) (grand-tests b (p / 4)) 0)
       + (over-desc z (λ p. desc-tests b p) + over-desc z (λ p. cond (fresh b p) (sum (4 * p) 4 (λ c. suc (ι (big z mag b c)))) 0)) =

@@ -4,6 +4,7 @@ use Prim.Native.Nat.{ℕ, zero, suc, _+_, _*_, _-_, _^_, _/_, _%_}
 use mathlib.Core.Bool.{Bool, true, false, not, _&&_, _||_, cond}
 use mathlib.Core.List.{List, [], _∷_, _++_}
 use lib.Dec.{ltb, leb, eqb}
+use Rattle.bits.specs.Bits.{bit}
 use Rattle.nls.proofs.Counting.Sums.{sum, each}
 use Rattle.nls.proofs.Counting.Tree.{Size, D, Q, I, desc, grand}
 
@@ -21,6 +22,10 @@ over-grand z f = sum (z .e) (z .j - z .e) f
 
 abbrev pub over-all : Size → (ℕ → ℕ) → ℕ
 over-all z f = sum 0 (I z) f
+
+-- bit b of a magnitude, and after a 1 the sign
+unfoldable pub coded : (ℕ → ℕ) → (ℕ → Bool) → ℕ → ℕ → List Bool
+coded mag neg b i = bit (mag i) b ∷ cond (bit (mag i) b) (neg i ∷ []) []
 
 module _ (z : Size) (mag : ℕ → ℕ) where
   -- the coefficient at i is at least 2 ^ b
@@ -62,33 +67,26 @@ module _ (z : Size) (mag : ℕ → ℕ) where
   unfoldable pub bigs : ℕ → ℕ
   bigs b = over-all z (λ i. ι (big b i))
 
+  -- refinement pass, at i: found before plane b
+  unfoldable pub refine : ℕ → ℕ → List Bool
+  refine b i = cond (big (suc b) i) (bit (mag i) b ∷ []) []
+
+  -- set pass: a test of GRAND(q) that stands before or in plane b, and one of DESC(p)
+  unfoldable pub test-grand : ℕ → ℕ → List Bool
+  test-grand b q = cond (split-desc b q && not (split-grand (suc b) q)) (split-grand b q ∷ []) []
+
+  unfoldable pub test-desc : ℕ → ℕ → List Bool
+  test-desc b p = cond ((ltb p (D z) || split-grand b (p / 4)) && not (split-desc (suc b) p)) (split-desc b p ∷ []) []
+
   -- The stream. `neg i` is the sign, 1 for negative.
   module _ (neg : ℕ → Bool) where
-    -- bit b of the magnitude
-    unfoldable pub bit : ℕ → ℕ → Bool
-    bit b i = eqb (mag i / 2 ^ b % 2) 1
-
-    -- the bit, and after a 1 the sign
-    unfoldable pub coded : ℕ → ℕ → List Bool
-    coded b i = bit b i ∷ cond (bit b i) (neg i ∷ []) []
-
     -- pixel pass, at i: it stood alone before plane b, and was not found
     unfoldable pub pixel : ℕ → ℕ → List Bool
-    pixel b i = cond (alone (suc b) i && not (big (suc b) i)) (coded b i) []
+    pixel b i = cond (alone (suc b) i && not (big (suc b) i)) (coded mag neg b i) []
 
-    -- refinement pass, at i: found before plane b
-    unfoldable pub refine : ℕ → ℕ → List Bool
-    refine b i = cond (big (suc b) i) (bit b i ∷ []) []
-
-    -- set pass, at place 4 p: GRAND(p / 4) if its place is this; then DESC(p); then the children
-    unfoldable pub test-grand : ℕ → ℕ → List Bool
-    test-grand b q = cond (split-desc b q && not (split-grand (suc b) q)) (split-grand b q ∷ []) []
-
-    unfoldable pub test-desc : ℕ → ℕ → List Bool
-    test-desc b p = cond ((ltb p (D z) || split-grand b (p / 4)) && not (split-desc (suc b) p)) (split-desc b p ∷ []) []
-
+    -- set pass, at place 4 p: the tests of GRAND(p / 4), if its place is this, and of DESC(p), then the children
     unfoldable pub children : ℕ → ℕ → List Bool
-    children b p = cond (split-desc b p && not (split-desc (suc b) p)) (each (4 * p) 4 (λ c. coded b c)) []
+    children b p = cond (split-desc b p && not (split-desc (suc b) p)) (each (4 * p) 4 (λ c. coded mag neg b c)) []
 
     unfoldable pub group : ℕ → ℕ → List Bool
     group b p = cond (leb (D z) p && eqb (p % 4) 0) (test-grand b (p / 4)) [] ++ (test-desc b p ++ children b p)

@@ -93,7 +93,7 @@ module _ (z : Size) (mag : ℕ → ℕ) where
         (rest (suc b)) (halfway (found b) (rest (suc b)) 0) m (λ x u t. rw (le-ltb x 0 (omega arith))) k))
 
     -- REFINEMENT PASS
-    refine-quiet : (k x : ℕ) → x < I z → Cov z (split-desc z mag b) (split-grand z mag b) k (up k x) → refine z mag neg b x ≡ []
+    refine-quiet : (k x : ℕ) → x < I z → Cov z (split-desc z mag b) (split-grand z mag b) k (up k x) → refine z mag b x ≡ []
     unfolding refine
     refine-quiet k x u c =
         let no-one : big z mag (suc b) x ≡ false =
@@ -102,14 +102,14 @@ module _ (z : Size) (mag : ℕ → ℕ) where
         rw no-one
 
     refine-coef : (m : Table) (x : ℕ) → x < I z → Alone z (split-desc z mag b) (split-grand z mag b) x → m x ≡ found b x
-        → ((refine-step z mag neg b m x) .0 ≡ refine z mag neg b x)
+        → ((refine-step z mag neg b m x) .0 ≡ refine z mag b x)
         × ((y : ℕ) → (refine-step z mag neg b m x) .1 y ≡ cond (eqb y x) (rest b x) (m y))
         × ((refine-step z mag neg b m x) .2 ≡ suc x)
     unfolding refine rest found refine-step skip
     refine-coef m x u t h = tell (big z mag (suc b) x) (big z mag b x) refl refl
       where
         tell : (s r : Bool) → big z mag (suc b) x ≡ s → big z mag b x ≡ r
-            → ((refine-step z mag neg b m x) .0 ≡ refine z mag neg b x)
+            → ((refine-step z mag neg b m x) .0 ≡ refine z mag b x)
             × ((y : ℕ) → (refine-step z mag neg b m x) .1 y ≡ cond (eqb y x) (rest b x) (m y))
             × ((refine-step z mag neg b m x) .2 ≡ suc x)
         tell true true e e′ =
@@ -133,12 +133,12 @@ module _ (z : Size) (mag : ℕ → ℕ) where
         rw (h, n, n′) (refl, refl, ap (λ (w : ℕ). x + w) (skip-code s k p q))
 
     pub refine-pass : (m : Table) → Marks z (split-desc z mag b) (split-grand z mag b) (λ x. found b x) m
-        → ((go z (refine-step z mag neg b) (I z) m 0) .0 ≡ each 0 (I z) (λ x. refine z mag neg b x))
+        → ((go z (refine-step z mag neg b) (I z) m 0) .0 ≡ each 0 (I z) (λ x. refine z mag b x))
         × Marks z (split-desc z mag b) (split-grand z mag b) (λ x. rest b x) ((go z (refine-step z mag neg b) (I z) m 0) .1)
     refine-pass m k =
         rw (sub-zero (I z)) at
         (pass z (split-desc z mag b) (split-grand z mag b) (closed1 b) (desc-known z mag b)
-        (refine-step z mag neg b) (found b) (rest b) (λ x. refine z mag neg b x) refine-quiet refine-coef refine-run
+        (refine-step z mag neg b) (found b) (rest b) (λ x. refine z mag b x) refine-quiet refine-coef refine-run
         (I z) 0 m (omega arith)
         (first-spot z (split-desc z mag b) (split-grand z mag b) (closed1 b) (desc-known z mag b))
         (retell z (split-desc z mag b) (split-grand z mag b) (closed1 b) (desc-known z mag b)

@@ -29,7 +29,7 @@ module _ (z : Size) (mag : ℕ → ℕ) (neg : ℕ → Bool) where
   -- the marks at the start, when n of the sets have been pushed
   unfoldable pub start-from : ℕ → Table
   start-from zero = λ x. cond (ltb x (D z)) 1 0
-  start-from (suc n) = pushed z mag neg 0 (start-from n) (4 * (z .e + n))
+  start-from (suc n) = pushed z (start-from n) (4 * (z .e + n))
 
   unfoldable pub start : Table
   start = start-from (3 * z .e)
@@ -71,7 +71,7 @@ module _ (z : Size) (mag : ℕ → ℕ) (neg : ℕ → Bool) where
   start-hit (suc n) c k l p r u = tell (λ v. start-hit n c k (omega arith) v r u) (eqb c n) refl
     where
       tell : (c < n → start-from n (down k (z .e + c)) ≡ code false k) → (t : Bool) → eqb c n ≡ t
-          → pushed z mag neg 0 (start-from n) (4 * (z .e + n)) (down k (z .e + c)) ≡ code false k
+          → pushed z (start-from n) (4 * (z .e + n)) (down k (z .e + c)) ≡ code false k
       tell ih true e = let s : c ≡ n = eqb-true c n e in rw (← s) (pushed-hit z mag neg 0 (start-from c) (z .e + c) k (omega arith) r u)
       tell ih false e =
           let ne : c ≡ n → ⊥ = eqb-false c n e in

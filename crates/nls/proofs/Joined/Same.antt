@@ -39,28 +39,28 @@ module _ (z : Size) (full : I z ≡ 4 ^ z .deep) (mag : ℕ → ℕ) (neg : ℕ 
   abbrev K : ℕ
   K = 4 ^ z .deep
 
-  push-same : (n f w c : ℕ) (m : List ℕ) → 1 ≤ w → K ≤ n + w → K ≤ 4 ^ f * w → pushFrom K n w c m ≡ push-l z mag neg b f c w m
+  push-same : (n f w c : ℕ) (m : List ℕ) → 1 ≤ w → K ≤ n + w → K ≤ 4 ^ f * w → pushFrom K n w c m ≡ push-l z f c w m
   unfolding pushFrom push-l
   push-same zero zero w c m o p q = refl
   push-same zero (suc f) w c m o p q = rw (le-ltb w (I z) (omega (arith, full)))
   push-same (suc n) zero w c m o p q = rw (le-ltb w K (omega arith), pushFrom)
   push-same (suc n) (suc f) w c m o p q =
-      subst (λ (k : ℕ). (elim (ltb w K) as (λ _. List ℕ) [ true ↦ pushFrom K n (4 * w) (c + 1) (set m w c) | false ↦ m ]) ≡ cond (ltb w k) (push-l z mag neg b f (suc c) (4 * w) (set m w c)) m)
+      subst (λ (k : ℕ). (elim (ltb w K) as (λ _. List ℕ) [ true ↦ pushFrom K n (4 * w) (c + 1) (set m w c) | false ↦ m ]) ≡ cond (ltb w k) (push-l z f (suc c) (4 * w) (set m w c)) m)
       (sym full)
       (go (ltb w K)
-      (subst (λ (d : ℕ). pushFrom K n (4 * w) d (set m w c) ≡ push-l z mag neg b f (suc c) (4 * w) (set m w c)) {x = suc c} {y = c + 1} (omega arith)
+      (subst (λ (d : ℕ). pushFrom K n (4 * w) d (set m w c) ≡ push-l z f (suc c) (4 * w) (set m w c)) {x = suc c} {y = c + 1} (omega arith)
       (push-same n f (4 * w) (suc c) (set m w c) (omega arith) (omega arith) (omega (arith, ap (λ (x : ℕ). x * w) (pow-succ' 4 f))))))
     where
-      go : (t : Bool) → pushFrom K n (4 * w) (c + 1) (set m w c) ≡ push-l z mag neg b f (suc c) (4 * w) (set m w c)
-          → (elim t as (λ _. List ℕ) [ true ↦ pushFrom K n (4 * w) (c + 1) (set m w c) | false ↦ m ]) ≡ cond t (push-l z mag neg b f (suc c) (4 * w) (set m w c)) m
+      go : (t : Bool) → pushFrom K n (4 * w) (c + 1) (set m w c) ≡ push-l z f (suc c) (4 * w) (set m w c)
+          → (elim t as (λ _. List ℕ) [ true ↦ pushFrom K n (4 * w) (c + 1) (set m w c) | false ↦ m ]) ≡ cond t (push-l z f (suc c) (4 * w) (set m w c)) m
       go true e = e
       go false e = refl
 
-  pub pushed-same : (l : List ℕ) (i : ℕ) → 1 ≤ i → push K i (set l i 5) ≡ pushed-l z mag neg b l i
+  pub pushed-same : (l : List ℕ) (i : ℕ) → 1 ≤ i → push K i (set l i 5) ≡ pushed-l z l i
   unfolding pushed-l
   pushed-same l i h = push-same K (z .deep) (4 * i) 7 (set l i 5) (omega arith) (omega arith) (le-mul-of-pos-right {m = 4 * i} (4 ^ z .deep) (omega arith))
 
-  pub open-same : (l : List ℕ) (i : ℕ) → splitDesc K i l (ltb (4 * i) K) ≡ open-desc-l z mag neg b l i
+  pub open-same : (l : List ℕ) (i : ℕ) → splitDesc K i l (ltb (4 * i) K) ≡ open-desc-l z l i
   unfolding open-desc-l
   open-same l i = subst (λ (k : ℕ). splitDesc K i l (ltb (4 * i) K) ≡ cond (ltb (4 * i) k) (set (four i 4 l) (4 * i) 6) (four i 4 l)) (sym full) (go (ltb (4 * i) K))
     where
@@ -68,13 +68,13 @@ module _ (z : Size) (full : I z ≡ 4 ^ z .deep) (mag : ℕ → ℕ) (neg : ℕ 
       go true = refl
       go false = refl
 
-  pub grand-same : (l : List ℕ) (i : ℕ) → 1 ≤ i → splitGrand K i l ≡ open-grand-l z mag neg b l i
+  pub grand-same : (l : List ℕ) (i : ℕ) → 1 ≤ i → splitGrand K i l ≡ open-grand-l z l i
   unfolding open-grand-l
   grand-same l i h =
       ap (λ (x : List ℕ). push K (i + 12) (set (push K (i + 8) (set (push K (i + 4) (set x (i + 4) 5)) (i + 8) 5)) (i + 12) 5)) (pushed-same l i h)
-      ∙ ap (λ (x : List ℕ). push K (i + 12) (set (push K (i + 8) (set x (i + 8) 5)) (i + 12) 5)) (pushed-same (pushed-l z mag neg b l i) (i + 4) (omega arith))
-      ∙ ap (λ (x : List ℕ). push K (i + 12) (set x (i + 12) 5)) (pushed-same (pushed-l z mag neg b (pushed-l z mag neg b l i) (i + 4)) (i + 8) (omega arith))
-      ∙ pushed-same (pushed-l z mag neg b (pushed-l z mag neg b (pushed-l z mag neg b l i) (i + 4)) (i + 8)) (i + 12) (omega arith)
+      ∙ ap (λ (x : List ℕ). push K (i + 12) (set (push K (i + 8) (set x (i + 8) 5)) (i + 12) 5)) (pushed-same (pushed-l z l i) (i + 4) (omega arith))
+      ∙ ap (λ (x : List ℕ). push K (i + 12) (set x (i + 12) 5)) (pushed-same (pushed-l z (pushed-l z l i) (i + 4)) (i + 8) (omega arith))
+      ∙ pushed-same (pushed-l z (pushed-l z (pushed-l z l i) (i + 4)) (i + 8)) (i + 12) (omega arith)
 
 -- THE START
 module _ (z : Size) (full : I z ≡ 4 ^ z .deep) (mag : ℕ → ℕ) (neg : ℕ → Bool) where
