@@ -90,25 +90,7 @@ like-cond : (z : Size) (o o′ : LStep) (s s′ : Step) (t : Bool) → Like z o 
 like-cond z o o′ s s′ true p q = p
 like-cond z o o′ s s′ false p q = q
 
-module _ (z : Size) (mag : ℕ → ℕ) (neg : ℕ → Bool) (b : ℕ) where
-  pub like-pixel : (l : List ℕ) (m : Table) (i : ℕ) → i < I z → Rep z l m → Like z (pixel-l z mag neg b l i) (pixel-step z mag neg b m i)
-  unfolding pixel-l pixel-step
-  like-pixel l m i u r =
-      rw (r .same i u)
-      (like-cond z (coded mag neg b i, cond (bit (mag i) b) (set l i 2) l, suc i) ([], l, i + skip (getD l i 0))
-      (coded mag neg b i, cond (bit (mag i) b) (put m i 2) m, suc i) ([], m, i + skip (getD l i 0)) (eqb (getD l i 0) 1)
-      (refl, rep-cond z (set l i 2) l (put m i 2) m (bit (mag i) b) (rep-set z l m i 2 r) r, refl) (refl, r, refl))
-
-  pub like-refine : (l : List ℕ) (m : Table) (i : ℕ) → i < I z → Rep z l m → Like z (refine-l z mag neg b l i) (refine-step z mag neg b m i)
-  unfolding refine-l refine-step
-  like-refine l m i u r =
-      rw (r .same i u)
-      (like-cond z (bit (mag i) b ∷ [], l, suc i) (cond (eqb (getD l i 0) 2) ([], set l i 3, suc i) ([], l, i + skip (getD l i 0)))
-      (bit (mag i) b ∷ [], m, suc i) (cond (eqb (getD l i 0) 2) ([], put m i 3, suc i) ([], m, i + skip (getD l i 0))) (eqb (getD l i 0) 3)
-      (refl, r, refl)
-      (like-cond z ([], set l i 3, suc i) ([], l, i + skip (getD l i 0)) ([], put m i 3, suc i) ([], m, i + skip (getD l i 0)) (eqb (getD l i 0) 2)
-      (refl, rep-set z l m i 3 r, refl) (refl, r, refl)))
-
+module _ (z : Size) where
   rep-push : (f c w : ℕ) (l : List ℕ) (m : Table) → Rep z l m → Rep z (push-l z f c w l) (push z f c w m)
   unfolding push-l push
   rep-push zero c w l m r = r
@@ -135,14 +117,33 @@ module _ (z : Size) (mag : ℕ → ℕ) (neg : ℕ → Bool) (b : ℕ) where
       (rep-set z (set l i 4) (put m i 4) (i + 1) 4 (rep-set z l m i 4 r))) in
       rep-cond z (set l4 (4 * i) 6) l4 (put m4 (4 * i) 6) m4 (ltb (4 * i) (I z)) (rep-set z l4 m4 (4 * i) 6 r4) r4
 
+module _ (z : Size) (mag : ℕ → ℕ) (neg : ℕ → Bool) (b : ℕ) where
+  pub like-pixel : (l : List ℕ) (m : Table) (i : ℕ) → i < I z → Rep z l m → Like z (pixel-l z mag neg b l i) (pixel-step z mag neg b m i)
+  unfolding pixel-l pixel-step
+  like-pixel l m i u r =
+      rw (r .same i u)
+      (like-cond z (coded mag neg b i, cond (bit (mag i) b) (set l i 2) l, suc i) ([], l, i + skip (getD l i 0))
+      (coded mag neg b i, cond (bit (mag i) b) (put m i 2) m, suc i) ([], m, i + skip (getD l i 0)) (eqb (getD l i 0) 1)
+      (refl, rep-cond z (set l i 2) l (put m i 2) m (bit (mag i) b) (rep-set z l m i 2 r) r, refl) (refl, r, refl))
+
+  pub like-refine : (l : List ℕ) (m : Table) (i : ℕ) → i < I z → Rep z l m → Like z (refine-l z mag neg b l i) (refine-step z mag neg b m i)
+  unfolding refine-l refine-step
+  like-refine l m i u r =
+      rw (r .same i u)
+      (like-cond z (bit (mag i) b ∷ [], l, suc i) (cond (eqb (getD l i 0) 2) ([], set l i 3, suc i) ([], l, i + skip (getD l i 0)))
+      (bit (mag i) b ∷ [], m, suc i) (cond (eqb (getD l i 0) 2) ([], put m i 3, suc i) ([], m, i + skip (getD l i 0))) (eqb (getD l i 0) 3)
+      (refl, r, refl)
+      (like-cond z ([], set l i 3, suc i) ([], l, i + skip (getD l i 0)) ([], put m i 3, suc i) ([], m, i + skip (getD l i 0)) (eqb (getD l i 0) 2)
+      (refl, rep-set z l m i 3 r, refl) (refl, r, refl)))
+
   pub like-set : (l : List ℕ) (m : Table) (i : ℕ) → i < I z → Rep z l m → Like z (set-l z mag neg b l i) (set-step z mag neg b m i)
   unfolding set-l set-step
   like-set l m i u r =
       rw (r .same i u)
       (like-cond z _ _ _ _ (eqb (getD l i 0) 5)
-      (refl, rep-cond z (open-desc-l z l i) l (open-desc z m i) m (has-desc z mag b (i / 4)) (rep-open-desc l m i r) r, refl)
+      (refl, rep-cond z (open-desc-l z l i) l (open-desc z m i) m (has-desc z mag b (i / 4)) (rep-open-desc z l m i r) r, refl)
       (like-cond z _ _ _ _ (eqb (getD l i 0) 6)
-      (refl, rep-cond z (open-grand-l z l i) l (open-grand z m i) m (has-grand z mag b (i / 16)) (rep-open-grand l m i r) r, refl)
+      (refl, rep-cond z (open-grand-l z l i) l (open-grand z m i) m (has-grand z mag b (i / 16)) (rep-open-grand z l m i r) r, refl)
       (like-cond z _ _ _ _ (eqb (getD l i 0) 4)
       (refl, rep-set z l m i (cond (bit (mag i) b) 2 1) r, refl) (refl, r, refl))))
 
@@ -165,7 +166,7 @@ like-go z sl s h (suc f) l m i r =
         let q = ih ((s m i) .2) (k .1) in
         rw (e, k .2) (rw (k .0) (ap (λ (o : List Bool). (s m i) .0 ++ o) (q .0)), q .1)
 
-module _ (z : Size) (mag : ℕ → ℕ) (neg : ℕ → Bool) where
+module _ (z : Size) where
   unfoldable pub start-from-l : ℕ → List ℕ
   start-from-l zero = replicate (D z) 1 ++ replicate (I z - D z) 0
   start-from-l (suc n) = pushed-l z (start-from-l n) (4 * (z .e + n))
@@ -173,14 +174,7 @@ module _ (z : Size) (mag : ℕ → ℕ) (neg : ℕ → Bool) where
   unfoldable pub start-l : List ℕ
   start-l = start-from-l (3 * z .e)
 
-  unfoldable pub scan-plane-l : ℕ → List ℕ → (List Bool) × (List ℕ)
-  scan-plane-l b l =
-      let one = go-l z (pixel-l z mag neg b) (I z) l 0 in
-      let two = go-l z (set-l z mag neg b) (z .e + 12 * Q z) (one .1) 0 in
-      let three = go-l z (refine-l z mag neg b) (I z) (two .1) 0 in
-      (one .0 ++ (two .0 ++ three .0), three .1)
-
-  pub rep-start : (n : ℕ) → Rep z (start-from-l n) (start-from z mag neg n)
+  pub rep-start : (n : ℕ) → Rep z (start-from-l n) (start-from z n)
   unfolding start-from-l start-from
   rep-start zero =
       record {
@@ -193,4 +187,12 @@ module _ (z : Size) (mag : ℕ → ℕ) (neg : ℕ → Bool) where
     where
       back : (y : ℕ) → D z ≤ y → y ≡ length {A = ℕ} (replicate (D z) 1) + (y - D z)
       back y l = omega (arith, length-replicate {A = ℕ} (D z) 1)
-  rep-start (suc n) = rep-pushed z mag neg 0 (start-from-l n) (start-from z mag neg n) (4 * (z .e + n)) (rep-start n)
+  rep-start (suc n) = rep-pushed z (start-from-l n) (start-from z n) (4 * (z .e + n)) (rep-start n)
+
+module _ (z : Size) (mag : ℕ → ℕ) (neg : ℕ → Bool) where
+  unfoldable pub scan-plane-l : ℕ → List ℕ → (List Bool) × (List ℕ)
+  scan-plane-l b l =
+      let one = go-l z (pixel-l z mag neg b) (I z) l 0 in
+      let two = go-l z (set-l z mag neg b) (z .e + 12 * Q z) (one .1) 0 in
+      let three = go-l z (refine-l z mag neg b) (I z) (two .1) 0 in
+      (one .0 ++ (two .0 ++ three .0), three .1)

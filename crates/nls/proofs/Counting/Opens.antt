@@ -60,7 +60,7 @@ one-of-four false false true v n h = refl
 one-of-four false false false true n h = refl
 one-of-four false false false false n h = absurd (h refl refl refl refl)
 
-module _ (z : Size) (mag : ℕ → ℕ) (neg : ℕ → Bool) (b : ℕ) where
+module _ (z : Size) where
   push-miss : (f c w : ℕ) (m : Table) (y : ℕ) → ((k : ℕ) → y ≡ down k w → ⊥) → push z f c w m y ≡ m y
   unfolding push
   push-miss zero c w m y h = refl
@@ -154,7 +154,7 @@ abbrev pub flip : ℕ → (ℕ → Bool) → ℕ → Bool
 flip q s y = cond (eqb y q) true (s y)
 
 -- GRAND(q) IS SPLIT
-module _ (z : Size) (mag : ℕ → ℕ) (neg : ℕ → Bool) (b : ℕ) (sd sg : ℕ → Bool)
+module _ (z : Size) (sd sg : ℕ → Bool)
     (c1 : (q : ℕ) → z .e ≤ q → T (sg q) → T (sd q)) (c2 : (p : ℕ) → T (sd p) → T (ltb p (D z) || sg (p / 4))) where
   -- a place below a child of q is covered by GRAND(q)
   by-grand : (q c k x : ℕ) → z .e ≤ q → StandsG z sd sg q → c < 4 → 1 ≤ k → x ≡ down k (4 * q + c) → (up (suc k) x ≡ q) × Cov z sd sg (suc k) (up (suc k) x)
@@ -172,37 +172,37 @@ module _ (z : Size) (mag : ℕ → ℕ) (neg : ℕ → Bool) (b : ℕ) (sd sg : 
 
   pub grand-opens : (cs : ℕ → ℕ) (m : Table) (q : ℕ) → z .e ≤ q → StandsG z sd sg q → Marks z sd sg cs m
       → Marks z sd (flip q sg) cs (open-grand z m (16 * q))
-  grand-opens cs m q h s w = rw (opened z mag neg b m q) (record { coef = coef; desc = desc; grand = grand })
+  grand-opens cs m q h s w = rw (opened z m q) (record { coef = coef; desc = desc; grand = grand })
     where
-      coef : (x : ℕ) → x < I z → Alone z sd (flip q sg) x → kids z mag neg b 4 m q x ≡ cs x
+      coef : (x : ℕ) → x < I z → Alone z sd (flip q sg) x → kids z 4 m q x ≡ cs x
       coef x u t =
-          kids-miss z mag neg b 4 m q x (omega arith) (λ c k l p e. clash z sd sg c1 c2 (suc k) x ((by-grand q c k x h s l p e) .1) t)
+          kids-miss z 4 m q x (omega arith) (λ c k l p e. clash z sd sg c1 c2 (suc k) x ((by-grand q c k x h s l p e) .1) t)
           ∙ w .coef x u t
 
-      grand : (k a : ℕ) → 2 ≤ k → z .e ≤ a → StandsG z sd (flip q sg) a → down k a < I z → kids z mag neg b 4 m q (down k a) ≡ code true k
+      grand : (k a : ℕ) → 2 ≤ k → z .e ≤ a → StandsG z sd (flip q sg) a → down k a < I z → kids z 4 m q (down k a) ≡ code true k
       grand k a p v t u = tell (eqb a q) refl
         where
-          tell : (r : Bool) → eqb a q ≡ r → kids z mag neg b 4 m q (down k a) ≡ code true k
+          tell : (r : Bool) → eqb a q ≡ r → kids z 4 m q (down k a) ≡ code true k
           tell true e = absurd (rw e at (t .1))
           tell false e =
               let st : StandsG z sd sg a = (t .0, rw e at (t .1)) in
               let cv : Cov z sd sg k (up k (down k a)) = rw (up-down k a) (omega arith, v, inr (p, st)) in
-              kids-miss z mag neg b 4 m q (down k a) (omega arith) (λ c k′ l p′ e′. eqb-false a q e (one-set q c k k′ a h s l p′ e′ cv))
+              kids-miss z 4 m q (down k a) (omega arith) (λ c k′ l p′ e′. eqb-false a q e (one-set q c k k′ a h s l p′ e′ cv))
               ∙ w .grand k a p v st u
 
-      desc : (k a : ℕ) → 1 ≤ k → z .e ≤ a → StandsD z sd (flip q sg) a → down k a < I z → kids z mag neg b 4 m q (down k a) ≡ code false k
+      desc : (k a : ℕ) → 1 ≤ k → z .e ≤ a → StandsD z sd (flip q sg) a → down k a < I z → kids z 4 m q (down k a) ≡ code false k
       desc k a p v t u = tell (eqb (a / 4) q) refl
         where
-          tell : (r : Bool) → eqb (a / 4) q ≡ r → kids z mag neg b 4 m q (down k a) ≡ code false k
+          tell : (r : Bool) → eqb (a / 4) q ≡ r → kids z 4 m q (down k a) ≡ code false k
           tell true e =
               let up-is : a / 4 ≡ q = eqb-true (a / 4) q e in
               let back : 4 * q + (a - 4 * q) ≡ a = omega arith in
-              subst (λ (n : ℕ). down k n < I z → kids z mag neg b 4 m q (down k n) ≡ code false k) back
-              (λ o. kids-hit z mag neg b 4 m q (a - 4 * q) k (omega arith) (omega arith) (omega arith) p o) u
+              subst (λ (n : ℕ). down k n < I z → kids z 4 m q (down k n) ≡ code false k) back
+              (λ o. kids-hit z 4 m q (a - 4 * q) k (omega arith) (omega arith) (omega arith) p o) u
           tell false e =
               let st : StandsD z sd sg a = (t .0, rw e at (t .1)) in
               let cv : Cov z sd sg k (up k (down k a)) = rw (up-down k a) (p, v, inl st) in
-              kids-miss z mag neg b 4 m q (down k a) (omega arith)
+              kids-miss z 4 m q (down k a) (omega arith)
               (λ c k′ l p′ e′. T-not (sd a) (t .0) (rw (one-set q c k k′ a h s l p′ e′ cv) (s .0)))
               ∙ w .desc k a p v st u
 

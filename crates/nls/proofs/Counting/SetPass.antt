@@ -383,7 +383,7 @@ module _ (z : Size) (mag : ℕ → ℕ) (neg : ℕ → Bool) (b : ℕ) where
           same-marks z (flip p (sdt p)) (sgt (suc p)) (sdt (suc p)) (sgt (suc p)) (λ k u. flip-d p y k) (λ k u. refl)
           (λ x. cond (eqb (x / 4) p) 4 (cst (4 * p) x)) (λ x. cst (4 * p) x) (open-desc z m (4 * p))
           (λ x u t. fresh x (eqb (x / 4) p) refl)
-          (desc-opens z mag neg b (sdt p) (sgt (suc p)) (closed-1 (suc p) p (le-refl _)) (closed-2 (suc p) p (omega arith)) (λ x. cst (4 * p) x) m p e st w) in
+          (desc-opens z (sdt p) (sgt (suc p)) (closed-1 (suc p) p (le-refl _)) (closed-2 (suc p) p (omega arith)) (λ x. cst (4 * p) x) m p e st w) in
           let r = s2 p (4 * p) 3 (open-desc z m (4 * p)) (omega arith) e l y new (le-refl _) (omega arith) w′ in
           rw (test-desc-is p known new, o, children-yes p y new)
           (res-on f m (open-desc z m (4 * p)) (4 * p) (4 * p) (true ∷ []) (each (4 * p) 4 (λ k. coded mag neg b k) ++ R)
@@ -563,7 +563,7 @@ module _ (z : Size) (mag : ℕ → ℕ) (neg : ℕ → Bool) (b : ℕ) where
             same-marks z (sdt p) (flip a (sgt p)) (sdt p) (sgt (suc p)) (λ k u. refl) (λ k u. flip-g p a d y k)
             (λ x. cst (4 * p) x) (λ x. cst (4 * p) x) (open-grand z m (4 * p)) (λ x u t. refl)
             (rw sixteen
-            (rw sixteen at (grand-opens z mag neg b (sdt p) (sgt p) (closed-1 p p (omega arith)) (closed-2 p p (le-refl p)) (λ x. cst (4 * p) x) m a v st w))) in
+            (rw sixteen at (grand-opens z (sdt p) (sgt p) (closed-1 p p (omega arith)) (closed-2 p p (le-refl p)) (λ x. cst (4 * p) x) m a v st w))) in
             let st′ : StandsD z (sdt p) (sgt (suc p)) p = (
               rw (sdt-out p p (le-refl p)) (old-kid p (omega arith) (omega arith)),
               T-or-right (ltb p (D z)) (sgt (suc p) (p / 4)) (rw (up-is, sgt-in (suc p) a (omega arith)) y),

@@ -164,17 +164,17 @@ module _ (z : Size) (full : I z ≡ 4 ^ z .deep) (A : Arr) where
       )
 
   -- THE START
-  pub start-low : (n : ℕ) → getD (start-from-l z (A .mag) (A .neg) n) 0 0 ≡ 1
+  pub start-low : (n : ℕ) → getD (start-from-l z n) 0 0 ≡ 1
   unfolding start-from-l
   start-low zero =
       List·getD-append (replicate (D z) 1) (replicate (I z - D z) 0) 0 0 (omega (arith, length-replicate {A = ℕ} (D z) 1))
       ∙ getD-replicate (D z) 0 1 0 (omega arith)
-  start-low (suc n) = pushed-miss z (A .mag) (A .neg) 0 (start-from-l z (A .mag) (A .neg) n) (4 * (z .e + n)) 0 (omega arith) ∙ start-low n
+  start-low (suc n) = pushed-miss z (start-from-l z n) (4 * (z .e + n)) 0 (omega arith) ∙ start-low n
 
-  pub start-held : (P : ℕ) → ((i : ℕ) → i < I z → A .mag i < 2 ^ P) → Held z (A .mag) P (start-l z (A .mag) (A .neg))
+  pub start-held : (P : ℕ) → ((i : ℕ) → i < I z → A .mag i < 2 ^ P) → Held z (A .mag) P (start-l z)
   unfolding start-l W.start
   start-held P small =
-      let r = rep-start z (A .mag) (A .neg) (3 * z .e) in
+      let r = rep-start z (3 * z .e) in
       record {
         long = r .long;
         low = omega (arith, start-low (3 * z .e));

@@ -35,7 +35,7 @@ pub sskip-same : (c : ℕ) → (c ≡ 4 → ⊥) → cond (leb c 3) 4 (C.skip c)
 unfolding setSkip
 sskip-same c n = ⊎-elim (λ l. rw (le-leb c 3 l, lt-ltb c 5 (omega arith), setSkip)) (λ l. rw (lt-leb c 3 l, le-ltb c 5 (omega (arith, n)), setSkip) (skip-same c)) (order c 3)
 
-module _ (z : Size) (full : I z ≡ 4 ^ z .deep) (mag : ℕ → ℕ) (neg : ℕ → Bool) (b : ℕ) where
+module _ (z : Size) (full : I z ≡ 4 ^ z .deep) where
   abbrev K : ℕ
   K = 4 ^ z .deep
 
@@ -77,32 +77,32 @@ module _ (z : Size) (full : I z ≡ 4 ^ z .deep) (mag : ℕ → ℕ) (neg : ℕ 
       ∙ pushed-same (pushed-l z (pushed-l z (pushed-l z l i) (i + 4)) (i + 8)) (i + 12) (omega arith)
 
 -- THE START
-module _ (z : Size) (full : I z ≡ 4 ^ z .deep) (mag : ℕ → ℕ) (neg : ℕ → Bool) where
+module _ (z : Size) (full : I z ≡ 4 ^ z .deep) where
   abbrev J : ℕ
   J = 4 ^ z .deep
 
-  roots-more : (n k : ℕ) → pushRoots J n (4 * (z .e + k)) (start-from-l z mag neg k) ≡ start-from-l z mag neg (k + n)
+  roots-more : (n k : ℕ) → pushRoots J n (4 * (z .e + k)) (start-from-l z k) ≡ start-from-l z (k + n)
   unfolding pushRoots
-  roots-more zero k = ap (λ (x : ℕ). start-from-l z mag neg x) {x = k} {y = k + 0} (omega arith)
+  roots-more zero k = ap (λ (x : ℕ). start-from-l z x) {x = k} {y = k + 0} (omega arith)
   roots-more (suc n) k =
-      let here : push J (4 * (z .e + k)) (set (start-from-l z mag neg k) (4 * (z .e + k)) 5) ≡ start-from-l z mag neg (suc k) =
-      unfold start-from-l in pushed-same z full mag neg 0 (start-from-l z mag neg k) (4 * (z .e + k)) (omega arith) in
+      let here : push J (4 * (z .e + k)) (set (start-from-l z k) (4 * (z .e + k)) 5) ≡ start-from-l z (suc k) =
+      unfold start-from-l in pushed-same z full (start-from-l z k) (4 * (z .e + k)) (omega arith) in
       let next : 4 * (z .e + k) + 4 ≡ 4 * (z .e + suc k) = omega arith in
       let count : suc k + n ≡ k + suc n = omega arith in
       ap (λ (x : List ℕ). pushRoots J n (4 * (z .e + k) + 4) x) here
-      ∙ ap (λ (x : ℕ). pushRoots J n x (start-from-l z mag neg (suc k))) next
+      ∙ ap (λ (x : ℕ). pushRoots J n x (start-from-l z (suc k))) next
       ∙ roots-more n (suc k)
-      ∙ ap (λ (x : ℕ). start-from-l z mag neg x) count
+      ∙ ap (λ (x : ℕ). start-from-l z x) count
 
-  pub start-same : pushRoots J (3 * D z / 4) (D z) (replicate (D z) 1 ++ replicate (J - D z) 0) ≡ start-l z mag neg
+  pub start-same : pushRoots J (3 * D z / 4) (D z) (replicate (D z) 1 ++ replicate (J - D z) 0) ≡ start-l z
   unfolding start-l
   start-same =
-      let none : replicate (D z) 1 ++ replicate (J - D z) 0 ≡ start-from-l z mag neg 0 =
+      let none : replicate (D z) 1 ++ replicate (J - D z) 0 ≡ start-from-l z 0 =
       unfold start-from-l in ap (λ (x : ℕ). replicate (D z) 1 ++ replicate (x - D z) 0) (sym full) in
       let many : 3 * D z / 4 ≡ 3 * z .e = omega arith in
       let first : D z ≡ 4 * (z .e + 0) = omega arith in
       ap (λ (x : List ℕ). pushRoots J (3 * D z / 4) (D z) x) none
-      ∙ ap (λ (x : ℕ). pushRoots J x (D z) (start-from-l z mag neg 0)) many
-      ∙ ap (λ (x : ℕ). pushRoots J (3 * z .e) x (start-from-l z mag neg 0)) first
+      ∙ ap (λ (x : ℕ). pushRoots J x (D z) (start-from-l z 0)) many
+      ∙ ap (λ (x : ℕ). pushRoots J (3 * z .e) x (start-from-l z 0)) first
       ∙ roots-more (3 * z .e) 0
-      ∙ ap (λ (x : ℕ). start-from-l z mag neg x) {x = 0 + 3 * z .e} {y = 3 * z .e} (omega arith)
+      ∙ ap (λ (x : ℕ). start-from-l z x) {x = 0 + 3 * z .e} {y = 3 * z .e} (omega arith)

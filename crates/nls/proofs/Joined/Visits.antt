@@ -70,7 +70,7 @@ again-6 : again 6 ≡ 2
 unfolding again
 again-6 = refl
 
-module _ (z : Size) (mag : ℕ → ℕ) (neg : ℕ → Bool) (b : ℕ) where
+module _ (z : Size) where
   push-miss : (f c w : ℕ) (l : List ℕ) (y : ℕ) → y < w → 1 ≤ w → getD (push-l z f c w l) y 0 ≡ getD l y 0
   unfolding push-l
   push-miss zero c w l y h o = refl
@@ -129,8 +129,9 @@ module _ (z : Size) (mag : ℕ → ℕ) (neg : ℕ → Bool) (b : ℕ) where
       go : (t : Bool) → getD (four-l l i) i 0 ≡ 4 → getD (cond t (set (four-l l i) (4 * i) 6) (four-l l i)) i 0 ≡ 4
       go true k = getD-set-other (four-l l i) (4 * i) i 6 0 (λ e. omega (arith, e, h)) ∙ k
       go false k = k
+      -- what is kept: nothing but coefficients at place 0
 
-  -- what is kept: nothing but coefficients at place 0
+module _ (z : Size) (mag : ℕ → ℕ) (neg : ℕ → Bool) (b : ℕ) where
   pub low-pixel : (l : List ℕ) (i : ℕ) → Low l → Low ((pixel-l z mag neg b l i) .1)
   unfolding pixel-l
   low-pixel l i w = go (eqb (getD l i 0) 1) (bit (mag i) b)
@@ -157,9 +158,9 @@ module _ (z : Size) (mag : ℕ → ℕ) (neg : ℕ → Bool) (b : ℕ) where
           → Low ((cond {A = LStep} d (h ∷ [], cond h (open-desc-l z l i) l, cond h i (i + 4))
           (cond g (k ∷ [], cond k (open-grand-l z l i) l, cond k i (i + 16))
           (cond c (coded mag neg b i, set l i (cond t 2 1), suc i) ([], l, i + cond (leb (getD l i 0) 3) 4 (C.skip (getD l i 0)))))) .1)
-      go true e g q c true k t = low-desc l i (low-pos l i w (omega (arith, eqb-true (getD l i 0) 5 e))) w
+      go true e g q c true k t = low-desc z l i (low-pos l i w (omega (arith, eqb-true (getD l i 0) 5 e))) w
       go true e g q c false k t = w
-      go false e true q c h true t = low-grand l i (low-pos l i w (omega (arith, eqb-true (getD l i 0) 6 q))) w
+      go false e true q c h true t = low-grand z l i (low-pos l i w (omega (arith, eqb-true (getD l i 0) 6 q))) w
       go false e true q c h false t = w
       go false e false q true h k true = low-small l i 2 (omega arith) w
       go false e false q true h k false = low-small l i 1 (omega arith) w
@@ -199,12 +200,12 @@ module _ (z : Size) (mag : ℕ → ℕ) (neg : ℕ → Bool) (b : ℕ) where
           → rank ((step d g c h k) .1) ((step d g c h k) .2) < rank l i
       go true e g q c o true k =
           let v : getD l i 0 ≡ 5 = eqb-true (getD l i 0) 5 e in
-          let now : getD (open-desc-l z l i) i 0 ≡ 4 = desc-here l i (low-pos l i w (omega arith)) (in-range l i (omega arith)) in
+          let now : getD (open-desc-l z l i) i 0 ≡ 4 = desc-here z l i (low-pos l i w (omega arith)) (in-range l i (omega arith)) in
           omega (arith, ap again v, again-5, ap again now, again-low 4 (omega arith))
       go true e g q c o false k = omega (arith, again-le (getD l (i + 4) 0))
       go false e true q c o h true =
           let v : getD l i 0 ≡ 6 = eqb-true (getD l i 0) 6 q in
-          let now : getD (open-grand-l z l i) i 0 ≡ 5 = grand-here l i (low-pos l i w (omega arith)) (in-range l i (omega arith)) in
+          let now : getD (open-grand-l z l i) i 0 ≡ 5 = grand-here z l i (low-pos l i w (omega arith)) (in-range l i (omega arith)) in
           omega (arith, ap again v, again-6, ap again now, again-5)
       go false e true q c o h false = omega (arith, again-le (getD l (i + 16) 0))
       go false e false q true o h k = omega (arith, again-le (getD (set l i (cond (bit (mag i) b) 2 1)) (suc i) 0))
@@ -311,7 +312,7 @@ module _ (z : Size) (full : I z ≡ 4 ^ z .deep) (A : Arr) (b : ℕ) where
           part : (h : Bool) → Leads N B (suc b) s (h ∷ []) (tell K s h)
               → Leads N B (suc b) s (h ∷ []) (at (suc b) sets (cond h i (i + 4)) (cond h (open-desc-l z l i) l))
           part true x =
-              leads-at N B (suc b) s (true ∷ []) (suc b) sets i i (splitDesc K i l (ltb (4 * i) K)) (open-desc-l z l i) refl (open-same z full (A .mag) (A .neg) b l i)
+              leads-at N B (suc b) s (true ∷ []) (suc b) sets i i (splitDesc K i l (ltb (4 * i) K)) (open-desc-l z l i) refl (open-same z full l i)
               (rw e at x)
           part false x = rw e at x
       go false e true q c o h eh k ek a ea =
@@ -323,7 +324,7 @@ module _ (z : Size) (full : I z ≡ 4 ^ z .deep) (A : Arr) (b : ℕ) where
               → Leads N B (suc b) s (k ∷ []) (at (suc b) sets (cond k i (i + 16)) (cond k (open-grand-l z l i) l))
           part true x =
               leads-at N B (suc b) s (true ∷ []) (suc b) sets i i (splitGrand K i l) (open-grand-l z l i) refl
-              (grand-same z full (A .mag) (A .neg) b l i (low-pos l i w (omega (arith, eqb-true (getD l i 0) 6 q))))
+              (grand-same z full l i (low-pos l i w (omega (arith, eqb-true (getD l i 0) 6 q))))
               (rw (e, q) at x)
           part false x = rw (e, q) at x
       go false e false q true o h eh k ek true ea =

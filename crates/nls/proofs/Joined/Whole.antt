@@ -40,23 +40,23 @@ module _ (N L : ℕ) (b : 1 ≤ L) (c : L < N) where
   K = 4 ^ N
 
   module _ (P : ℕ) (A : Arr) where
-    begin-is : begin N L P ≡ settle K (at P pixels 0 (start-l z (A .mag) (A .neg)))
+    begin-is : begin N L P ≡ settle K (at P pixels 0 (start-l z))
     unfolding start startMarks
     begin-is =
         ap (λ (d : ℕ). settle K (at P pixels 0 (pushRoots K (3 * d / 4) d (replicate d 1 ++ replicate (K - d) 0)))) (sym (coarsest-is N L b c))
-        ∙ ap (λ (m : List ℕ). settle K (at P pixels 0 m)) (start-same z (all-is N L b c) (A .mag) (A .neg))
+        ∙ ap (λ (m : List ℕ). settle K (at P pixels 0 m)) (start-same z (all-is N L b c))
 
   module _ (P : ℕ) (A : Arr) (below : (i : ℕ) → i < 4 ^ N → A .mag i < 2 ^ P) where
     small : (i : ℕ) → i < I z → A .mag i < 2 ^ P
     small i u = below i (omega (arith, u, all-is N L b c))
 
-    run : (m : List ℕ) × Runs N (bits-of A) (at P pixels 0 (start-l z (A .mag) (A .neg))) (body z (A .mag) (A .neg) P) (at 0 pixels 0 m) × Held z (A .mag) 0 m
-    run = machine-body z (all-is N L b c) A P (start-l z (A .mag) (A .neg)) (start-held z (all-is N L b c) A P small)
+    run : (m : List ℕ) × Runs N (bits-of A) (at P pixels 0 (start-l z)) (body z (A .mag) (A .neg) P) (at 0 pixels 0 m) × Held z (A .mag) 0 m
+    run = machine-body z (all-is N L b c) A P (start-l z) (start-held z (all-is N L b c) A P small)
 
     stream-take : (n : ℕ) → answersOf N (bits-of A) n (begin N L P) ≡ take n (body z (A .mag) (A .neg) P)
     stream-take n =
         rw (begin-is P A)
-        (runs-stream N (bits-of A) (at P pixels 0 (start-l z (A .mag) (A .neg))) (at 0 pixels 0 (run .0)) (body z (A .mag) (A .neg) P) (run .1) refl n)
+        (runs-stream N (bits-of A) (at P pixels 0 (start-l z)) (at 0 pixels 0 (run .0)) (body z (A .mag) (A .neg) P) (run .1) refl n)
 
     -- THE STREAM IS THE BODY that the magnitudes alone give
     pub stream-is-body : (n : ℕ) → bound N L P ≤ n → answersOf N (bits-of A) n (begin N L P) ≡ body z (A .mag) (A .neg) P
@@ -72,7 +72,7 @@ module _ (N L : ℕ) (b : 1 ≤ L) (c : L < N) where
     whole-ends = (
       run .0,
       ap (λ (u : List Bool). reach (4 ^ N) (begin N L P) u) whole-is-body ∙ ap (λ (s : State). reach (4 ^ N) s (body z (A .mag) (A .neg) P)) (begin-is P A)
-          ∙ runs-ends N (bits-of A) (at P pixels 0 (start-l z (A .mag) (A .neg))) (at 0 pixels 0 (run .0)) (body z (A .mag) (A .neg) P) (run .1) refl,
+          ∙ runs-ends N (bits-of A) (at P pixels 0 (start-l z)) (at 0 pixels 0 (run .0)) (body z (A .mag) (A .neg) P) (run .1) refl,
       run .2,
     )
 
@@ -91,7 +91,7 @@ module _ (N L : ℕ) (b : 1 ≤ L) (c : L < N) where
     pub plane-bits : (k : ℕ) → k < P → during N k (begin N L P) (whole N L P A) ≡ plane z (A .mag) (A .neg) k
     plane-bits k h =
         ap (λ (u : List Bool). during N k (begin N L P) u) whole-is-body ∙ ap (λ (s : State). during N k s (body z (A .mag) (A .neg) P)) (begin-is P A)
-        ∙ during-plane z (all-is N L b c) A P k (start-l z (A .mag) (A .neg)) h (start-held z (all-is N L b c) A P small)
+        ∙ during-plane z (all-is N L b c) A P k (start-l z) h (start-held z (all-is N L b c) A P small)
 
     splits-fall : (k : ℕ) → splits z (A .mag) (suc k) ≤ splits z (A .mag) k
     unfolding splits
