@@ -1,3 +1,4 @@
+-- How many bits a scan writes: sums over the tree, the parts that stand, and a scan over a table that writes what the magnitudes say.
 pub mod Sums
 pub mod Tree
 pub mod Parts

@@ -26,7 +26,7 @@ ones zero k y = zeros k y
 ones (suc D) k zero = omega arith
 ones (suc D) k (suc y) = ones D k y
 
--- WHAT SILENT MOVES KEEP, settling keeps
+-- what silent moves keep, settling keeps
 module _ (I : ℕ) (Q : State → Type 0) where
   abbrev pub AfterMove : Look → Type 0
   AfterMove over = Unit {0}
@@ -160,7 +160,7 @@ module _ (D I : ℕ) where
   unfolding next
   kept-next s a k = kept-settle (tell I s a) (kept-tell (s .left) (s .pass) (s .place) (s .pending) (s .marks) a k)
 
-  -- IN ANY RUN
+  -- in any run
   pub kept-reach : (u : List Bool) (s : State) → Kept D I (s .marks) → Kept D I ((reach I s u) .marks)
   unfolding reach
   kept-reach [] s k = k

@@ -430,7 +430,7 @@ module _ (N L P : ℕ) where
   unfolding start settle
   begin-settled t e = quiet-settled I (movesLeft I (scan.at P pixels 0 (startMarks I D))) (scan.at P pixels 0 (startMarks I D)) t (omega arith) e
 
-  -- ON ANY BITS
+  -- on any bits
   pub known-sound : (u : List Bool) → Sound I P (after N L P u) (known N L P u)
   known-sound u = sound-run N P (begin N L P) (nothing N P) u begin-settled sound-begin
 

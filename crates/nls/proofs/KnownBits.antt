@@ -28,7 +28,7 @@ use Rattle.nls.proofs.Machine.Steps.{Good-at, From, preds, from-good}
 use Rattle.nls.proofs.Machine.Start.{good-start}
 use Rattle.nls.proofs.Machine.Start as first
 use Rattle.nls.proofs.Reading.Know.{know, knowO, add, least, know-sgn-has}
-use Rattle.nls.proofs.Reading.Whole.{fam, one-bit, run}
+use Rattle.nls.proofs.Reading.Told.{fam, one-bit, run}
 use Rattle.nls.proofs.Kept.{AfterMove, settle-keeps}
 use Rattle.nls.proofs.Lists.{arrOf}
 use Rattle.nls.proofs.Streams.{begins-iff}
@@ -316,7 +316,7 @@ module _ (N L : ℕ) (size : Sized N L) (P : ℕ) (A : List ℤ) (under : (i : �
       r : Right (after N L P u) (known N L P u) (least N (begin N L P) u first.nothing)
       r = right-run (nothing N P) first.nothing (begin N L P) u (begin-settled N L P) good-begin (sound-begin N L P) right-begin f
 
--- KNOWN BITS: of every array whose stream begins so, the bits down to each coefficient's precision
+-- of every array whose stream begins so, the bits down to each coefficient's precision
 pub known-bits : (N L : ℕ) → Sized N L → (P : ℕ) (A : List ℤ) (u : List Bool) → Begins N L P A u
     → (i : ℕ) → i < allOf N → at (known N L P u .bits) i ≡ highBits (precisionAt N L P u i) (at A i)
 known-bits N L z P A u b = answered-bits N L z P A (b .planes .below) u (begins-iff N L z P A u .0 b .2)

@@ -17,9 +17,9 @@ use Rattle.tree.proofs.Members.{under, desc-find, grand-find, desc-has, grand-h
 use Rattle.tree.proofs.Ors.{desc-bit, grand-bit}
 use Rattle.nls.specs.Scan.{Question, bitOf, signOf, inDesc, inGrand, State, ask, next}
 use Rattle.nls.specs.Stream.{answer, answers, begin, after, worstBody, stream}
+use Rattle.nls.proofs.Machine.Run.{none-asked}
 use Rattle.nls.proofs.Booleans.{same-bool}
 use Rattle.nls.proofs.Arrays.{Arr, bits-of, below, any, inside, ans, answersOf, any-some, any-find}
-use Rattle.nls.proofs.Judging.Final.{none-asked}
 use Rattle.nls.proofs.Joined.Whole.{bound, whole}
 use Rattle.nls.proofs.Kept.{Kept, Rooted, AllRooted, kept-next, kept-reach, kept-start, asks-rooted}
 
@@ -39,7 +39,7 @@ module _ (N L : ℕ) (z : Sized N L) where
   abbrev I : ℕ
   I = allOf N
 
-  -- A SET THAT IS ASKED ABOUT HAS MEMBERS, after any bits
+  -- a set that is asked about has members, after any bits
   pub begin-kept : (P : ℕ) → Kept D I ((begin N L P) .marks)
   begin-kept P = kept-start D I P (omega (arith, coarsest-all N L z))
 
@@ -108,7 +108,7 @@ module _ (N L : ℕ) (z : Sized N L) where
     none-of : (n : ℕ) → answersOf N (bits-of (arrOf A)) n (begin N L 0) ≡ []
     unfolding answersOf
     none-of zero = refl
-    none-of (suc n) = rw (none-asked N L z, answersOf)
+    none-of (suc n) = rw (none-asked (allOf N) (coarsestOf N L), answersOf)
 
     pub stream-same : (P : ℕ) → stream N L P A ≡ whole N L P (arrOf A)
     unfolding stream whole worstBody answers

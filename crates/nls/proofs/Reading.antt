@@ -1,2 +1,3 @@
+-- What a run of answers tells of the arrays that fit it.
 pub mod Know
-pub mod Whole
+pub mod Told

@@ -115,7 +115,7 @@ module _ (N : ℕ) (B : Bits) where
   unfolding ask next
   waits-next s a t = waits-settle (tell I s a) (waits-tell (s .left) (s .pass) (s .place) (s .pending) (s .marks) a t)
 
-  -- AN ARRAY WITH THE SAME BITS, and the same signs where there is a bit, fits the same
+  -- an array with the same bits, and the same signs where there is a bit, fits the same
   module _ (C : Bits) (bits : (i b : ℕ) → B .has i b ≡ C .has i b) (signs : (i b : ℕ) → B .has i b ≡ true → B .neg i ≡ C .neg i) where
     abbrev E : Bits
     E = record { has = C .has; neg = B .neg }
@@ -137,7 +137,7 @@ module _ (N : ℕ) (B : Bits) where
     same-fit s [] h f = tt
     same-fit s (a ∷ u) h f = (same-told (look I s) a ((moves s h) .1) (f .0), same-fit (next I s a) u (waits-next s a (f .0)) (f .1))
 
--- THE LIST of an array that is 0 from n on
+-- the list of an array that is 0 from n on
 abbrev pub listOf : ℕ → Arr → List ℤ
 listOf n A = table n (λ j. signed (A .neg j) (A .mag j))
 
@@ -212,7 +212,7 @@ module _ (N L : ℕ) (z : Sized N L) (P : ℕ) where
             (order P R);
       }
 
-  -- SOME BITS FIT exactly if some list of numbers does
+  -- some bits fit exactly if some list of numbers does
   pub lists-fit : (u : List Bool) → BitsFit N L P u → J.Fits N L P u
   lists-fit u w =
       let r = to-list N (coarsestOf N L) P u w in

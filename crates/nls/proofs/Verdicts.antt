@@ -15,13 +15,13 @@ use Rattle.nls.specs.Marks.{skip, setSkip, pushFrom, pushRoots, startMar
 use Rattle.nls.specs.Scan.{Question, State, silently, settle, ask, next, reach, start}
 use Rattle.nls.specs.Stream.{begin, after, stream}
 use Rattle.nls.specs.Judging.{Fits, Verdict, taken, contradiction, beyond, Contradicts, IsBeyond, Judged}
+use Rattle.nls.proofs.Machine.Run.{none-asked}
 use Rattle.nls.proofs.Tiled.{tiled}
 use Rattle.nls.proofs.Arrays.{Bits, bits-of, told, Fit}
 use Rattle.nls.proofs.Counting.Sums.{order}
 use Rattle.nls.proofs.Judging.Decide.{clash-by, cb-child, cb-grand, cb-desc, cb-root}
-use Rattle.nls.proofs.Judging.Decoder.{decode, Means}
-use Rattle.nls.proofs.Judging.ByCount.{clash-count}
-use Rattle.nls.proofs.Judging.Final.{answer-means, none-asked}
+use Rattle.nls.proofs.Judging.Decoder.{decode, Means, decode-means}
+use Rattle.nls.proofs.Judging.ByCount.{clash-count, right-count}
 use Rattle.nls.proofs.Lists.{arrOf}
 use Rattle.nls.proofs.Streams.{Answered, begins-iff}
 use Rattle.nls.proofs.Signs.{lists-fit, bits-fit}
@@ -137,21 +137,21 @@ module _ (N L : ℕ) (z : Sized N L) where
     judged-some : 1 ≤ P → (u : List Bool) → Judged N L P u (verdict N L P u)
     judged-some h u =
         subst (λ (v : Verdict). Judged N L P u v) (sym (verdict-decoded N L P 0 (begin N L P) u))
-        (meant-judged h u (decoded N L P 0 (begin N L P) u) (answer-means N L z P h u))
+        (meant-judged h u (decoded N L P 0 (begin N L P) u) (decode-means N P (tiled N L z) (λ used s. clash-count (allOf N) (coarsestOf N L) P used s) (right-count N P (tiled N L z)) h u))
 
   judged-none : (u : List Bool) → Judged N L 0 u (verdict N L 0 u)
   unfolding verdictFrom
   judged-none [] = nothing-fits
   judged-none (a ∷ u) =
-      rw (none-asked N L z, verdictFrom)
-      (record { there = omega arith; before = nothing-fits; ended = (unfold reach in none-asked N L z) })
+      rw (none-asked (allOf N) (coarsestOf N L), verdictFrom)
+      (record { there = omega arith; before = nothing-fits; ended = (unfold reach in none-asked (allOf N) (coarsestOf N L)) })
 
-  -- THE VERDICT IS RIGHT, for every number of planes
+  -- the verdict is right, for every number of planes
   pub verdict-judged : (P : ℕ) (u : List Bool) → Judged N L P u (verdict N L P u)
   verdict-judged zero u = judged-none u
   verdict-judged (suc P) u = judged-some (suc P) (omega arith) u
 
-  -- AND THE ONLY ONE
+  -- and the only one
   module _ (P : ℕ) (u : List Bool) where
     -- nothing fits past the bit of a refusal
     past-12 : (n k : ℕ) → Contradicts N L P u n → n < k → Fits N L P (take k u) → ⊥
@@ -185,7 +185,7 @@ module _ (N L : ℕ) (z : Sized N L) where
     judged-only (beyond n) (beyond k) p q =
         ap {B = Verdict} (λ (x : ℕ). beyond x) (same-place n k (λ h. past-13 n k p h (q .before)) (λ h. past-13 k n q h (p .before)))
 
-    -- REFUSED EXACTLY: the bits are taken if and only if some array's stream begins with them
+    -- the bits are taken if and only if some array's stream begins with them
     pub refused-exactly : (verdict N L P u ≡ taken → Fits N L P u) × (Fits N L P u → verdict N L P u ≡ taken)
     refused-exactly = ((λ e. subst (λ (v : Verdict). Judged N L P u v) e (verdict-judged P u)), λ w. judged-only (verdict N L P u) taken (verdict-judged P u) w)
 

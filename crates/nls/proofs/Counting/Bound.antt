@@ -1,5 +1,4 @@
 -- The number of a body's bits; its bound; and an array that reaches it.
--- Assumes nothing.
 use Prim.Native.Nat.{ℕ, suc, _+_, _*_, _-_, _^_, _/_, _≤_, _<_}
 use mathlib.Core.Path.{_≡_, refl, ap, sym, _∙_}
 use mathlib.Core.Bool.{Bool, true, false, _||_}
@@ -48,12 +47,12 @@ module _ (z : Size) (mag : ℕ → ℕ) where
           sum-zero (z .e) (z .j - z .e) (λ i. ι (split-grand z mag n i)) (λ i u v. rw (grand-zero z (λ c. ι (big z mag n c)) none-big i)),
         )
 
-    -- DEMAND 3, the number of bits
+    -- the number of bits
     pub bits-count : (neg : ℕ → Bool) → length (body z mag neg n) ≡ sum 0 n (λ b. parts z mag b) + splits z mag 0 + nonzeros z mag
     unfolding bigs big nonzeros
     bits-count neg = omega (arith, body-count z mag neg n, no-bigs, no-splits)
 
-    -- DEMAND 3, the bound
+    -- the bound
     pub bits-bound : (neg : ℕ → Bool) → length (body z mag neg n) ≤ worst z n
     unfolding worst splits nonzeros
     bits-bound neg =
@@ -105,7 +104,7 @@ module _ (z : Size) (mag : ℕ → ℕ) where
           sum-const (z .e) (z .j - z .e) 1,
         )
 
--- DEMAND 3, the bound is reached where all magnitudes are from 2 ^ (P - 1) to 2 ^ P - 1
+-- the bound is reached where all magnitudes are from 2 ^ (P - 1) to 2 ^ P - 1
 module _ (z : Size) (mag : ℕ → ℕ) (n : ℕ) (small : (i : ℕ) → i < I z → mag i < 2 ^ suc n) (large : (i : ℕ) → i < I z → 2 ^ n ≤ mag i) where
   large-big : (b : ℕ) → b ≤ n → (i : ℕ) → i < I z → T (big z mag b i)
   unfolding big

@@ -1,5 +1,4 @@
 -- The bits of a plane number the parts that stand after it, and what it splits and finds.
--- Assumes nothing.
 use Prim.Native.Nat.{ℕ, zero, suc, _+_, _*_, _-_, _^_, _/_, _%_, _≤_, _<_}
 use mathlib.Core.Path.{_≡_, refl, ap, sym, _∙_}
 use mathlib.Core.Bool.{Bool, true, false, not, _&&_, _||_, cond, and-false}
@@ -350,7 +349,7 @@ module _ (z : Size) (mag : ℕ → ℕ) (neg : ℕ → Bool) where
       sum-two (z .e) (z .j - z .e) (λ p. grand-tests b p) (λ p. ι (split-grand z mag (suc b) p))
       (λ p. ι (stands-grand z mag b p)) (λ p. ι (split-grand z mag b p)) (λ p u v. grand-at z mag b p (omega arith) (omega arith))
 
-  -- THE BITS OF ONE PLANE
+  -- the bits of one plane
   pub plane-count : (b : ℕ) → length (plane z mag neg b) + splits z mag (suc b) + bigs z mag (suc b)
       ≡ parts z mag b + splits z mag b + bigs z mag b
   unfolding parts splits bigs

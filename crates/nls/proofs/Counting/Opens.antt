@@ -1,5 +1,4 @@
 -- What the set pass does to the table where a set is split.
--- Assumes nothing.
 use Prim.Native.Nat.{ℕ, zero, suc, _+_, _*_, _-_, _^_, _/_, _≤_, _<_}
 use mathlib.Core.Path.{_≡_, refl, ap, sym, subst, _∙_}
 use mathlib.Core.Bool.{Bool, true, false, not, _||_, cond}
@@ -153,7 +152,7 @@ module _ (z : Size) where
 abbrev pub flip : ℕ → (ℕ → Bool) → ℕ → Bool
 flip q s y = cond (eqb y q) true (s y)
 
--- GRAND(q) IS SPLIT
+-- GRAND(q) is split, or DESC(p)
 module _ (z : Size) (sd sg : ℕ → Bool)
     (c1 : (q : ℕ) → z .e ≤ q → T (sg q) → T (sd q)) (c2 : (p : ℕ) → T (sd p) → T (ltb p (D z) || sg (p / 4))) where
   -- a place below a child of q is covered by GRAND(q)
@@ -206,7 +205,7 @@ module _ (z : Size) (sd sg : ℕ → Bool)
               (λ c k′ l p′ e′. T-not (sd a) (t .0) (rw (one-set q c k k′ a h s l p′ e′ cv) (s .0)))
               ∙ w .desc k a p v st u
 
-  -- DESC(p) IS SPLIT
+  -- ---- DESC(p) is split
   four : Table → ℕ → Table
   four m p = put (put (put (put m (4 * p) 4) (4 * p + 1) 4) (4 * p + 2) 4) (4 * p + 3) 4
 

@@ -1,5 +1,4 @@
 -- What is split, what stands, and the whole stream, from the magnitudes and signs alone (document 01, "Parts that stand").
--- Assumes nothing.
 use Prim.Native.Nat.{ℕ, zero, suc, _+_, _*_, _-_, _^_, _/_, _%_}
 use mathlib.Core.Bool.{Bool, true, false, not, _&&_, _||_, cond}
 use mathlib.Core.List.{List, [], _∷_, _++_}

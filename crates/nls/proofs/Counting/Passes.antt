@@ -1,5 +1,4 @@
 -- The pixel pass and the refinement pass write what the magnitudes say.
--- Assumes nothing.
 use Prim.Native.Nat.{ℕ, suc, _+_, _^_, _/_, _≤_, _<_}
 use mathlib.Core.Path.{_≡_, refl, ap}
 use mathlib.Core.Bool.{Bool, true, false, _||_, cond}
@@ -42,7 +41,7 @@ module _ (z : Size) (mag : ℕ → ℕ) where
   found b x = cond (big z mag (suc b) x) 3 (cond (big z mag b x) 2 1)
 
   module _ (neg : ℕ → Bool) (b : ℕ) where
-    -- PIXEL PASS
+    -- ---- the pixel pass
     pixel-quiet : (k x : ℕ) → x < I z → Cov z (split-desc z mag (suc b)) (split-grand z mag (suc b)) k (up k x) → pixel z mag neg b x ≡ []
     unfolding pixel alone
     pixel-quiet k x u c =
@@ -92,7 +91,7 @@ module _ (z : Size) (mag : ℕ → ℕ) where
         (retell z (split-desc z mag (suc b)) (split-grand z mag (suc b)) (closed1 (suc b)) (desc-known z mag (suc b))
         (rest (suc b)) (halfway (found b) (rest (suc b)) 0) m (λ x u t. rw (le-ltb x 0 (omega arith))) k))
 
-    -- REFINEMENT PASS
+    -- ---- the refinement pass
     refine-quiet : (k x : ℕ) → x < I z → Cov z (split-desc z mag b) (split-grand z mag b) k (up k x) → refine z mag b x ≡ []
     unfolding refine
     refine-quiet k x u c =

@@ -1,5 +1,4 @@
 -- The set pass writes what the magnitudes say.
--- Assumes nothing.
 use Prim.Native.Nat.{ℕ, zero, suc, _+_, _*_, _-_, _^_, _/_, _%_, _≤_, _<_}
 use mathlib.Core.Path.{_≡_, refl, ap, sym, subst, _∙_}
 use mathlib.Core.Bool.{Bool, true, false, not, _&&_, _||_, cond, and-false, or-true}
@@ -196,7 +195,7 @@ module _ (z : Size) (mag : ℕ → ℕ) (neg : ℕ → Bool) (b : ℕ) where
         T-false (split-desc z mag b p) (T-not (split-desc z mag b p) x),
       )
 
-  -- THE CHILDREN
+  -- ---- the children
   coded-step : (m : Table) (x : ℕ) → m x ≡ 4 → ((set-step z mag neg b m x) .0 ≡ coded mag neg b x)
       × ((y : ℕ) → (set-step z mag neg b m x) .1 y ≡ cond (eqb y x) (cond (bit (mag x) b) 2 1) (m y)) × ((set-step z mag neg b m x) .2 ≡ suc x)
   unfolding set-step
@@ -301,7 +300,7 @@ module _ (z : Size) (mag : ℕ → ℕ) (neg : ℕ → Bool) (b : ℕ) where
       (each (suc c) (suc n) (λ k. coded mag neg b k) ++ each (suc p) (Q z - suc p) (λ k. group z mag neg b k))
       (omega arith) (st .0) refl (st .2) r)
 
-  -- A TEST OF DESC
+  -- ---- a test of DESC
   md-step : (m : Table) (p : ℕ) → m (4 * p) ≡ 5 → T (not (split-desc z mag (suc b) p)) → (t : Bool) → split-desc z mag b p ≡ t
       → ((set-step z mag neg b m (4 * p)) .0 ≡ t ∷ []) × ((set-step z mag neg b m (4 * p)) .1 ≡ cond t (open-desc z m (4 * p)) m)
       × ((set-step z mag neg b m (4 * p)) .2 ≡ cond t (4 * p) (4 * p + 4))
@@ -419,7 +418,7 @@ module _ (z : Size) (mag : ℕ → ℕ) (neg : ℕ → Bool) (b : ℕ) where
   both : (s t : Bool) → T s → T t → s ≡ t
   both s t x y = T-true s x ∙ sym (T-true t y)
 
-  -- A COEFFICIENT THAT STOOD ALONE
+  -- ---- a coefficient that stood alone
   alone0 : (f : ℕ) → S0 f → (p : ℕ) (m : Table) → 6 * (Q z - p) ≤ suc f → z .e ≤ p → p < Q z → Alone z (sdt p) (sgt p) (4 * p) → State p p (4 * p) m
       → Res (suc f) m (4 * p) (each p (Q z - p) (λ k. group z mag neg b k))
   alone0 f s0 p m h e l t w =
@@ -474,7 +473,7 @@ module _ (z : Size) (mag : ℕ → ℕ) (neg : ℕ → Bool) (b : ℕ) where
       let high : D z ≤ y = omega (arith, up-le k (y / 4)) in
       (high, g, not-sd z (split-desc z mag b) (split-grand z mag b) (closed1 z mag b) (desc-known z mag b) y high g)
 
-  -- A TEST OF GRAND
+  -- ---- a test of GRAND
   mg-step : (m : Table) (p a : ℕ) → m (4 * p) ≡ 6 → p ≡ 4 * a → T (not (split-grand z mag (suc b) a)) → (t : Bool) → split-grand z mag b a ≡ t
       → ((set-step z mag neg b m (4 * p)) .0 ≡ t ∷ []) × ((set-step z mag neg b m (4 * p)) .1 ≡ cond t (open-grand z m (4 * p)) m)
       × ((set-step z mag neg b m (4 * p)) .2 ≡ cond t (4 * p) (4 * p + 16))
@@ -509,7 +508,7 @@ module _ (z : Size) (mag : ℕ → ℕ) (neg : ℕ → Bool) (b : ℕ) where
       let even : p % 4 ≡ 0 = omega arith in
       rw (le-leb (D z) p (omega arith), even, up-is, T-true (split-desc z mag b a) y, T-false (split-grand z mag (suc b) a) (T-not (split-grand z mag (suc b) a) n))
 
-  -- A RUN
+  -- ---- a run
   module _ (f : ℕ) (s0 : S0 f) (s1 : S1 f) (s1′ : S1 (suc f)) (p : ℕ) (m : Table) (h : 6 * (Q z - p) ≤ suc f) (e : z .e ≤ p) (l : p < Q z) (w : State p p (4 * p) m) where
     -- DESC(p), to be tested
     md0 : StandsD z (sdt p) (sgt p) p → Res (suc f) m (4 * p) (each p (Q z - p) (λ k. group z mag neg b k))
@@ -733,7 +732,7 @@ module _ (z : Size) (mag : ℕ → ℕ) (neg : ℕ → Bool) (b : ℕ) where
       let st = coef-step m (4 * p) (found z mag b (4 * p)) (w .coef (4 * p) (omega arith) lone) (found-le (4 * p)) in
       rw e (res-on (n + f) m m (4 * p) (4 * suc p) [] o (omega arith) (st .0) (st .1) (st .2 ∙ next) (before n (suc p) f m o (omega arith) w r))
 
-  -- SET PASS
+  -- the set pass
   pub set-pass : (m : Table) → Marks z (split-desc z mag (suc b)) (split-grand z mag (suc b)) (λ x. found z mag b x) m
       → ((go z (set-step z mag neg b) (z .e + 12 * Q z) m 0) .0 ≡ each (z .e) (Q z - z .e) (λ p. group z mag neg b p))
       × Marks z (split-desc z mag b) (split-grand z mag b) (λ x. found z mag b x) ((go z (set-step z mag neg b) (z .e + 12 * Q z) m 0) .1)

@@ -1,5 +1,4 @@
 -- The sizes of the parts that stand add up to I; so there are at most I of them.
--- Assumes nothing.
 use Prim.Native.Nat.{ℕ, _+_, _*_, _-_, _/_, _≤_, _<_}
 use mathlib.Core.Path.{_≡_, refl, ap, sym, _∙_}
 use mathlib.Core.Bool.{Bool, true, false, not, _&&_, _||_, cond}
@@ -163,7 +162,7 @@ module _ (z : Size) where
               (λ i u v. let t : ltb i (D z) ≡ false = le-ltb i (D z) (omega arith) in rw t),
         )
 
-    -- THE SIZES OF THE PARTS ADD UP TO I
+    -- the sizes of the parts add up to I
     pub sizes-all : sizes z mag b ≡ I z
     unfolding sizes
     sizes-all = omega (arith, alones, descs, grands, known, roots)

@@ -1,5 +1,4 @@
 -- The summaries: the bitwise OR of the magnitudes over DESC(i) and GRAND(i). They tell what is split.
--- Assumes nothing.
 use Prim.Native.Nat.{ℕ, zero, suc, _+_, _*_, _^_, _/_, _%_}
 use mathlib.Core.Path.{_≡_, refl, sym, _∙_}
 use mathlib.Core.Bool.{Bool, true, false, _||_, cond}
@@ -87,7 +86,7 @@ top-bit b x h = tell (leb (2 ^ b) x) refl
         rw (e, one)
     tell false e = let none : x / 2 ^ b ≡ 0 = div-eq-of-lt (leb-false (2 ^ b) x e) in rw (e, none)
 
--- THE BIT THAT A TEST WRITES
+-- the bit that a test writes
 module _ (z : Size) (mag : ℕ → ℕ) where
   unfoldable pub has-desc : ℕ → ℕ → Bool
   has-desc b i = eqb (or-desc z mag i / 2 ^ b % 2) 1

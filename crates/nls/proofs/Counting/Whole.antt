@@ -1,5 +1,4 @@
--- The whole scan, from the marks at the start to the end of plane 0, writes the body; so demand 3 holds of it.
--- Assumes nothing.
+-- The marks at the start, and one plane of the scan over a table: it writes what the magnitudes say.
 use Prim.Native.Nat.{ℕ, zero, suc, _+_, _*_, _-_, _^_, _/_, _≤_, _<_}
 use mathlib.Core.Path.{_≡_, refl, sym, subst, _∙_}
 use mathlib.Core.Bool.{Bool, true, false, _||_, cond}
@@ -34,7 +33,7 @@ module _ (z : Size) where
   unfoldable pub start : Table
   start = start-from (3 * z .e)
 
-  -- THE START
+  -- ---- the marks at the start
   roots-apart : (k k′ a a′ : ℕ) → z .e ≤ a → a < 4 * z .e → z .e ≤ a′ → a′ < 4 * z .e → down k a ≡ down k′ a′ → a ≡ a′
   unfolding down
   roots-apart zero zero a a′ p r p′ r′ e = e

@@ -1,5 +1,4 @@
 -- The codes of marks in any run: at most N + 4 (MNk for k below N), and none of a set at the places 0 to 3. What skips and pushes in code rest on.
--- Assumes nothing.
 use Prim.Native.Nat.{ℕ, zero, suc, _+_, _*_, _-_, _^_, _≤_, _<_}
 use mathlib.Core.Path.{_≡_, refl, ap, sym, subst}
 use mathlib.Core.Bool.{Bool, true, false}

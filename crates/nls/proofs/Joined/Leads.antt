@@ -1,5 +1,4 @@
 -- One state leads to another, by the bits that an array answers on the way.
--- Assumes nothing.
 use Prim.Native.Nat.{ℕ, zero, suc, _^_}
 use mathlib.Core.Path.{_≡_, refl, ap, sym, subst, _∙_}
 use mathlib.Core.Bool.{Bool}

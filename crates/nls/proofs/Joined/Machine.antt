@@ -1,5 +1,4 @@
 -- The machine's passes, planes and whole run write what the magnitudes say.
--- Assumes nothing.
 use Prim.Native.Nat.{ℕ, zero, suc, _+_, _*_, _-_, _^_, _≤_, _<_}
 use mathlib.Core.Path.{_≡_, refl, sym, subst, _∙_}
 use mathlib.Core.Bool.{Bool, false}
@@ -94,7 +93,7 @@ module _ (z : Size) (full : I z ≡ 4 ^ z .deep) (A : Arr) (b : ℕ) where
       (λ l i u w. falls-refine z (A .mag) (A .neg) b l i u) (I z) l 0 (omega arith) w in
       (leads-hushed N B (suc b) (at (suc b) refining 0 l) (at (suc b) refining (r .to) (o .1)) (at b pixels 0 (o .1)) (o .0) (r .leads) (rw (past-end (r .to) (r .past))), r .low)
 
-  -- ONE PLANE of the machine is one plane over a list
+  -- one plane of the machine is one plane over a list
   pub plane-leads : (l : List ℕ) → Low l
       → Leads N B (suc b) (at (suc b) pixels 0 l) ((scan-plane-l z (A .mag) (A .neg) b l) .0) (at b pixels 0 ((scan-plane-l z (A .mag) (A .neg) b l) .1))
       × Low ((scan-plane-l z (A .mag) (A .neg) b l) .1)
@@ -139,7 +138,7 @@ plane-list z mag neg b l h =
     (rw (one .0, two .0, three .0) (w .0), (three .1) .long, marks-rep z (split-desc z mag b) (split-grand z mag b) (λ x. rest z mag b x) _ _ (three .1) (w .1))
 
 module _ (z : Size) (full : I z ≡ 4 ^ z .deep) (A : Arr) where
-  -- ONE PLANE OF THE MACHINE, from the magnitudes
+  -- one plane of the machine, from the magnitudes
   pub machine-plane : (b : ℕ) (l : List ℕ) → Held z (A .mag) (suc b) l
       → (m : List ℕ) × Leads (z .deep) (bits-of A) (suc b) (at (suc b) pixels 0 l) (plane z (A .mag) (A .neg) b) (at b pixels 0 m) × Held z (A .mag) b m
   machine-plane b l h =
@@ -150,7 +149,7 @@ module _ (z : Size) (full : I z ≡ 4 ^ z .deep) (A : Arr) where
         record { long = q .1; low = r .1; marks = q .2 },
       )
 
-  -- ALL PLANES
+  -- all planes
   pub machine-body : (n : ℕ) (l : List ℕ) → Held z (A .mag) n l
       → (m : List ℕ) × Runs (z .deep) (bits-of A) (at n pixels 0 l) (body z (A .mag) (A .neg) n) (at 0 pixels 0 m) × Held z (A .mag) 0 m
   unfolding body
@@ -163,7 +162,7 @@ module _ (z : Size) (full : I z ≡ 4 ^ z .deep) (A : Arr) where
         q .2,
       )
 
-  -- THE START
+  -- ---- the start
   pub start-low : (n : ℕ) → getD (start-from-l z n) 0 0 ≡ 1
   unfolding start-from-l
   start-low zero =

@@ -1,5 +1,4 @@
 -- The bits that a run takes in one plane.
--- Assumes nothing.
 use Prim.Native.Nat.{ℕ, zero, suc, _^_, _≤_, _<_}
 use mathlib.Core.Path.{_≡_, refl, ap, subst, _∙_}
 use mathlib.Core.Bool.{Bool, true, false, cond}
@@ -69,7 +68,7 @@ module _ (z : Size) (full : I z ≡ 4 ^ z .deep) (A : Arr) where
       ∙ ap (λ (r : List Bool). r ++ during N b (from c (p .0)) (body z (A .mag) (A .neg) c)) one
       ∙ during-none c b (p .0) (omega arith) (p .2)
 
-  -- WHAT THE MACHINE WRITES IN PLANE b IS PLANE b OF THE MAGNITUDES
+  -- what the machine writes in plane b is plane b of the magnitudes
   pub during-plane : (n b : ℕ) (l : List ℕ) → b < n → Held z (A .mag) n l → during N b (from n l) (body z (A .mag) (A .neg) n) ≡ plane z (A .mag) (A .neg) b
   unfolding body
   during-plane zero b l h w = absurd (omega arith)

@@ -1,5 +1,4 @@
 -- The two ways to write a table are one: skips, pushes, splits and the start.
--- Assumes nothing.
 use Prim.Native.Nat.{ℕ, zero, suc, _+_, _*_, _-_, _^_, _/_, _≤_}
 use mathlib.Core.Path.{_≡_, refl, ap, sym, subst, _∙_}
 use mathlib.Core.Bool.{Bool, true, false, cond}
@@ -76,7 +75,7 @@ module _ (z : Size) (full : I z ≡ 4 ^ z .deep) where
       ∙ ap (λ (x : List ℕ). push K (i + 12) (set x (i + 12) 5)) (pushed-same (pushed-l z (pushed-l z l i) (i + 4)) (i + 8) (omega arith))
       ∙ pushed-same (pushed-l z (pushed-l z (pushed-l z l i) (i + 4)) (i + 8)) (i + 12) (omega arith)
 
--- THE START
+-- ---- the start
 module _ (z : Size) (full : I z ≡ 4 ^ z .deep) where
   abbrev J : ℕ
   J = 4 ^ z .deep

@@ -1,5 +1,4 @@
 -- One visit of a place: the machine asks its questions there one at a time, and writes what the step over a list writes.
--- Assumes nothing.
 use Prim.Native.Nat.{ℕ, zero, suc, _+_, _*_, _-_, _^_, _/_, _≤_, _<_}
 use mathlib.Core.Path.{_≡_, refl, ap, sym, subst, _∙_}
 use mathlib.Core.Bool.{Bool, true, false, cond}
@@ -217,7 +216,7 @@ module _ (z : Size) (mag : ℕ → ℕ) (neg : ℕ → Bool) (b : ℕ) where
             sskip-pos (getD l i 0),
           )
 
--- THE VISITS
+-- ---- the visits
 pub leads-at : (N : ℕ) (A : Bits) (k : ℕ) (s : State) (o : List Bool) (l : ℕ) (p : Pass) (i i′ : ℕ) (m m′ : List ℕ) → i ≡ i′ → m ≡ m′ → Leads N A k s o (at l p i m) → Leads N A k s o (at l p i′ m′)
 leads-at N A k s o l p i i′ m m′ e f x =
     subst (λ (n : List ℕ). Leads N A k s o (at l p i′ n)) f (subst (λ (n : ℕ). Leads N A k s o (at l p n m)) e x)

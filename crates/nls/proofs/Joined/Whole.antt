@@ -1,5 +1,4 @@
--- DEMANDS 2 (what a whole stream is, and a cut one) AND 3, of the one-bit machine's stream, for side 2 ^ N and L levels.
--- Assumes nothing.
+-- The whole stream of an array of bits, for side 2^N and L levels: what it is, that it ends, and how many bits it has.
 use Prim.Native.Nat.{ℕ, suc, _+_, _*_, _-_, _^_, _/_, _≤_, _<_}
 use mathlib.Core.Path.{_≡_, refl, ap, sym, _∙_}
 use mathlib.Core.Bool.{Bool}
@@ -58,7 +57,7 @@ module _ (N L : ℕ) (b : 1 ≤ L) (c : L < N) where
         rw (begin-is P A)
         (runs-stream N (bits-of A) (at P pixels 0 (start-l z)) (at 0 pixels 0 (run .0)) (body z (A .mag) (A .neg) P) (run .1) refl n)
 
-    -- THE STREAM IS THE BODY that the magnitudes alone give
+    -- the stream is the body that the magnitudes alone give
     pub stream-is-body : (n : ℕ) → bound N L P ≤ n → answersOf N (bits-of A) n (begin N L P) ≡ body z (A .mag) (A .neg) P
     stream-is-body n h =
         stream-take n ∙ take-all n (body z (A .mag) (A .neg) P) (omega (arith, h, bits-bound z (A .mag) P small (A .neg), worst-is N L P b c))
@@ -67,7 +66,7 @@ module _ (N L : ℕ) (b : 1 ≤ L) (c : L < N) where
     unfolding whole
     whole-is-body = stream-is-body (bound N L P) (le-refl _)
 
-    -- IT ENDS: after it the machine is over, and its marks are those of the parts that stand
+    -- it ends: after it the machine is over, and its marks are those of the parts that stand
     pub whole-ends : (m : List ℕ) × (reach (4 ^ N) (begin N L P) (whole N L P A) ≡ at 0 pixels 0 m) × Held z (A .mag) 0 m
     whole-ends = (
       run .0,
@@ -76,11 +75,11 @@ module _ (N L : ℕ) (b : 1 ≤ L) (c : L < N) where
       run .2,
     )
 
-    -- UNDER A BUDGET: its first n bits, the smaller of n and all
+    -- under a budget: its first n bits, the smaller of n and all
     pub budget-bits : (n : ℕ) → answersOf N (bits-of A) n (begin N L P) ≡ take n (whole N L P A)
     budget-bits n = stream-take n ∙ ap (λ (u : List Bool). take n u) (sym whole-is-body)
 
-    -- DEMAND 3
+    -- the number of bits
     pub count : length (whole N L P A) ≡ sum 0 P (λ k. parts z (A .mag) k) + splits z (A .mag) 0 + nonzeros z (A .mag)
     count = ap (λ (u : List Bool). length u) whole-is-body ∙ bits-count z (A .mag) P small (A .neg)
 
@@ -117,7 +116,7 @@ module _ (N L : ℕ) (b : 1 ≤ L) (c : L < N) where
     plane-by-plane k h =
         omega (arith, ap (λ (u : List Bool). length u) (plane-bits k h), plane-count z (A .mag) (A .neg) k, splits-fall k, bigs-fall k)
 
-  -- THE BOUND IS REACHED, for each P of at least 1: every magnitude 2 ^ (P - 1)
+  -- the bound is reached, for each P of at least 1: every magnitude 2 ^ (P - 1)
   pub reached : (n : ℕ) (A : Arr) → ((i : ℕ) → i < 4 ^ N → A .mag i ≡ 2 ^ n) → length (whole N L (suc n) A) ≡ bound N L (suc n)
   reached n A all =
       let lower : (i : ℕ) → i < 4 ^ N → A .mag i < 2 ^ suc n = λ i u. rw (all i u) (pow-lt (le-refl _)) in

@@ -1,4 +1,4 @@
--- THE COUNT: at the last root of the first plane D + 3D/4 - 1 bits were used exactly if no 1 was read. So the decoder needs the count and no flag.
+-- The clash at the last root by a count: there D + 3D/4 - 1 bits were used in the first plane exactly if no 1 was read.
 use mathlib.Core.Path.{_≡_, refl, sym, ap, subst, _∙_}
 use mathlib.Core.Bool.{Bool, true, false, not, _||_, true≢false, false≢true, or-true, or-false, or-assoc}
 use mathlib.Core.Logic.{_⊎_, inl, inr}
@@ -342,7 +342,7 @@ module _ (N : ℕ) {D : ℕ} (P : ℕ) (sz : Tiled D (4 ^ N)) where
       ((reach (4 ^ N) S u) .left) ((reach (4 ^ N) S u) .pass) ((reach (4 ^ N) S u) .place) ((reach (4 ^ N) S u) .pending) ((reach (4 ^ N) S u) .marks)
       (z N P sz (w .0) u (w .2)) (g1 N P sz (w .0) u (w .2)) (tally N P sz (w .0) (w .1) u (w .2))
 
-  -- THE COUNT DECIDES: the test with the number of bits used is the clash
+  -- the test with the number of bits used is the clash
   pub right-count : Right N P sz (λ used s. clash-count II D P used s)
   unfolding clash-count
   right-count = record { to = λ u w e. (both-of u w) .0 e; of = λ u w e. (both-of u w) .1 e }

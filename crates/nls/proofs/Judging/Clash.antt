@@ -1,4 +1,4 @@
--- REFUSAL 12, one half: where the marks say so, every array that fits answers 1, so a 0 fits none.
+-- Refusal 12, one half: where the marks say so, every array that fits answers 1, so a 0 fits none.
 use mathlib.Core.Path.{_≡_, refl, sym, subst, _∙_}
 use mathlib.Core.Bool.{Bool, true, false, true≢false}
 use mathlib.Core.List.{List}
@@ -14,7 +14,7 @@ use Rattle.nls.proofs.Arrays.{Bits, inside, ans, below, member}
 use Rattle.nls.proofs.Machine.Table.{Cfg, alone, stands, Ok, alone-no, no-alone, stands-no, no-dg, low}
 use Rattle.nls.proofs.Machine.Cover.{Under, kid, far, Core, Sets, is-alone, is-D, is-G}
 use Rattle.nls.proofs.Machine.Steps.{preds, From}
-use Rattle.nls.proofs.Reading.Whole.{fam, Known, under-below, under-ge}
+use Rattle.nls.proofs.Reading.Told.{fam, Known, under-below, under-ge}
 
 -- An array of P planes: no bit from P on, and one in plane P - 1
 pub record Valid (I P : ℕ) (A : Bits) : Type 0 where

@@ -1,4 +1,4 @@
--- DEMAND 2 (iii): a decoder that stops at the clash accepts a list of bits exactly if some array of P planes has a stream that begins so; refusals 12 and 13.
+-- A decoder that stops at the clash: its verdict on a list of bits is the one that document 01 means, over arrays of bits.
 use mathlib.Core.Path.{_≡_, refl, sym, subst, _∙_}
 use mathlib.Core.Bool.{Bool, true, false, not, _&&_, true≢false, false≢true}
 use mathlib.Core.Option.{Option, none, some}
@@ -15,7 +15,7 @@ use Rattle.nls.proofs.Arrays.{Bits, told, Fit}
 use Rattle.nls.proofs.Machine.Run.{fit-prefix, reach-append}
 use Rattle.nls.proofs.Reading.Know.{least}
 use Rattle.nls.proofs.Machine.Steps.{Good-at}
-use Rattle.nls.proofs.Reading.Whole.{fam, run}
+use Rattle.nls.proofs.Reading.Told.{fam, run}
 use Rattle.nls.proofs.Judging.Clash.{Valid, Clash, last-child, last-grand, last-desc, last-root, clash-child, clash-grand, clash-desc, clash-root}
 use Rattle.nls.proofs.Machine.Start.{nothing, good-start}
 use Rattle.nls.proofs.Judging.Refuse.{Clash-at, Clashes, accepts}
@@ -50,7 +50,7 @@ module _ (N : ℕ) {D : ℕ} (P : ℕ) (sz : Tiled D (4 ^ N)) where
   fit-split A s [] v f = f
   fit-split A s (a ∷ u) v f = fit-split A (next I s a) u v (f .1)
 
-  -- SOUND: at a clash every array that fits answers 1
+  -- at a clash every array that fits answers 1
   module _ (A k : Bits) (va : Valid I P A) where
     sound-sets : (b i : ℕ) (m : List ℕ) (x d g c : Bool) → ltb i I ≡ x → eqb (getD m i 0) 5 ≡ d → eqb (getD m i 0) 6 ≡ g → eqb (getD m i 0) 4 ≡ c
         → Good-at sz P (fam N A k) (suc b) sets i false m → Clash D I P b i m → told N A (asked I (lookSets b i m x d g c)) false → ⊥

@@ -1,4 +1,4 @@
--- REFUSAL 12, the other half: where there is no clash, clearing the question leaves every set that was answered 1 a member.
+-- Refusal 12, the other half: where there is no clash, clearing the question leaves every set that was answered 1 a member.
 use mathlib.Core.Path.{_≡_, refl, sym, ap, subst, _∙_}
 use mathlib.Core.Bool.{Bool, true, false, true≢false}
 use mathlib.Core.List.{List}
@@ -12,7 +12,7 @@ use Rattle.nls.proofs.Arrays.{Bits}
 use Rattle.nls.proofs.Machine.Table.{Cfg, alone, stands, Ok, alone-no, no-alone}
 use Rattle.nls.proofs.Machine.Cover.{Under, kid, far, is-alone, is-D, is-G}
 use Rattle.nls.proofs.Machine.Steps.{preds, From}
-use Rattle.nls.proofs.Reading.Whole.{fam, under-ge}
+use Rattle.nls.proofs.Reading.Told.{fam, under-ge}
 use Rattle.nls.proofs.Judging.Clash.{Clash, dead-D, dead-G, via}
 use Rattle.nls.proofs.Judging.Apart.{Cmp, same, over, below, cmp, grand-of}
 use Rattle.nls.proofs.Judging.Room.{Fresh, fresh-of, Spare, now, past, room-child, room-desc, room-grand, room-root}

@@ -1,4 +1,4 @@
--- THE WHOLE ARRAY: at the last root of the first plane, "nothing was found significant" is "no 1 was read". So the decoder needs one flag and no walk.
+-- At the last root of the first plane nothing was found significant exactly if no 1 was read.
 use mathlib.Core.Path.{_≡_, refl, sym, ap, subst, _∙_}
 use mathlib.Core.Bool.{Bool, true, false, not, true≢false, false≢true, _||_}
 use mathlib.Core.Logic.{_⊎_, inl, inr}

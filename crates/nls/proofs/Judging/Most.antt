@@ -1,4 +1,4 @@
--- The greatest array that a run of answers allows. Nothing here looks at marks: it holds of any machine that asks.
+-- The greatest array that a run of answers allows.
 use mathlib.Core.Path.{_≡_, refl, sym, ap, subst, _∙_}
 use mathlib.Core.Bool.{Bool, true, false, not, _&&_, true≢false, false≢true}
 use mathlib.Core.Option.{Option, none, some}
@@ -132,7 +132,7 @@ module _ (N : ℕ) where
   negO A w none a t i h = h
   negO A w (some q) a t i h = after-neg A w q a t i h
 
-  -- SOUND: every array that fits lies below
+  -- every array that fits lies below
   pub most-keeps : (A : Bits) (s : State) (u : List Bool) (w : Bits) → Fit N A s u → A ⊑ w → A ⊑ most s u w
   most-keeps A s [] w f l = l
   most-keeps A s (a ∷ u) w f l = most-keeps A (next (4 ^ N) s a) u (afterO (ask (4 ^ N) s) a w) (f .1) (keepsO A w (ask (4 ^ N) s) a (f .0) l)
@@ -145,7 +145,7 @@ module _ (N : ℕ) where
   answersO A w v none a t l k n = t
   answersO A w v (some q) a t l k n = answers A w v q a t l k n
 
-  -- COMPLETE: if any array fits, the greatest does
+  -- if any array fits, the greatest does
   pub most-fits : (A : Bits) (s : State) (u : List Bool) (w : Bits) → Fit N A s u → A ⊑ w → Fit N (most s u w) s u
   most-fits A s [] w f l = tt
   most-fits A s (a ∷ u) w f l =

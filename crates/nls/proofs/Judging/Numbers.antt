@@ -1,4 +1,4 @@
--- MAGNITUDES AS NUMBERS: arrays of numbers below 2^P and arrays of bits are the same, so what is proved of bits holds of numbers.
+-- Magnitudes as numbers: arrays of numbers below 2^P and arrays of bits are the same, so what is proved of bits holds of numbers.
 use mathlib.Core.Path.{_≡_, sym, subst, _∙_}
 use mathlib.Core.Bool.{Bool, true, true≢false}
 use mathlib.Core.Option.{Option, none, some}

@@ -1,4 +1,4 @@
--- ONLY PLACES BELOW I ARE ASKED: an array may be taken to be 0 from I on, so it is a list of I numbers.
+-- Only places below I are asked: an array may be taken to be 0 from I on, so it is a list of I numbers.
 use mathlib.Core.Path.{_≡_, refl, sym, _∙_, ap}
 use mathlib.Core.Bool.{Bool, true, false, _&&_, true≢false, false≢true}
 use mathlib.Core.List.{List, [], _∷_}
@@ -94,7 +94,7 @@ module _ (N : ℕ) where
     top = (v .top .0, v .top .1, v .top .2, v .top .3, both (lt-ltb (v .top .0) (4 ^ N) (v .top .2)) (v .top .4));
   }
 
-  -- SOME ARRAY OF BITS IS SOME LIST OF NUMBERS: 0 from I on
+  -- some array of bits is some array of numbers that is 0 from I on
   pub to-list : (D P : ℕ) (u : List Bool) → (B : Bits) × Valid (4 ^ N) P B × Fit N B (start (4 ^ N) D P) u
       → (A : Arr) × Planes (4 ^ N) P A × Fit N (bits-of A) (start (4 ^ N) D P) u × ((j : ℕ) → 4 ^ N ≤ j → A .mag j ≡ 0)
   to-list D P u w = (

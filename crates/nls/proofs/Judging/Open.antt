@@ -1,4 +1,4 @@
--- THE INVARIANT FOR REFUSALS, along a run that W fits: the cover, what is open, what is owed, all with one choice of the split sets.
+-- The invariant for refusals, along a run that W fits: the cover, what is open, what is owed, all with one choice of the split sets.
 use mathlib.Core.Path.{_≡_, refl, sym, ap, subst, _∙_}
 use mathlib.Core.Bool.{Bool, true, false, _&&_, _||_, true≢false, false≢true}
 use mathlib.Core.Logic.{_⊎_, inl, inr}
@@ -22,7 +22,7 @@ use Rattle.nls.proofs.Machine.Cover.{Under, Preds, hide, is-alone, Pix,
 use Rattle.nls.proofs.Machine.Steps.{Fam, preds, From, more-Z, pix-Z, sets-Z, fine-Z}
 use Rattle.nls.proofs.Judging.Most.{afterO, after, clear, stays, most}
 use Rattle.nls.proofs.Reading.Know.{know, knowO, know-grows, know-one, know-sgn-has, know-neg, add, least}
-use Rattle.nls.proofs.Reading.Whole.{fam, Known, Zof, learned, below-under}
+use Rattle.nls.proofs.Reading.Told.{fam, Known, Zof, learned, below-under}
 use Rattle.nls.proofs.Judging.Clash.{dead-D, dead-G}
 use Rattle.nls.proofs.Judging.Fresh.{PixFr, SetFr, FineFr, frp-hush, frp-one, frp-end, frs-end, frf-hush, frf-np, frs-C, frp-zero, frs-hush, frs-D0, frs-G0, frs-D1, frs-G1, frf-end}
 use Rattle.nls.proofs.Judging.Debt.{Hold, Debt, hold-w, hold-z, hold-A, hold-D, hold-G, hold-down, debt-c, debt-down, debt-O, debt-one, debt-D, debt-G}
@@ -112,7 +112,7 @@ module _ (N : ℕ) {D : ℕ} (P : ℕ) (sz : Tiled D (4 ^ N)) (W : Bits) (vv : B
   abbrev pub All : Bits → Bits → (Question → Type 0) → State → Type 0
   All k w O s = All-at k w O (s .left) (s .pass) (s .place) (s .pending) (s .marks)
 
-  -- SILENT MOVES
+  -- ---- silent moves
   module _ (k w : Bits) (O : Question → Type 0) where
     abbrev pub All-look : Look → Type 0
     All-look over = Unit {0}
@@ -284,7 +284,7 @@ module _ (N : ℕ) {D : ℕ} (P : ℕ) (sz : Tiled D (4 ^ N)) (W : Bits) (vv : B
     unfolding settle
     all-settle s z = all-quiet (movesLeft I s) s z
 
-  -- ANSWERS
+  -- ---- answers
   pixfr : (S S′ R R′ : ℕ → ℕ → Type 0) (b t : ℕ) (m : List ℕ) → ((j : ℕ) → S b j → S′ b j) → ((e j : ℕ) → R e j → R′ e j) → PixFr sz S R b t m → PixFr sz S′ R′ b t m
   pixfr S S′ R R′ b t m f g p = record { todo = λ j h n. f j (p .todo j h n); m2 = λ j h e. g b j (p .m2 j h e); m3 = λ j h e. (let r : (x : ℕ) × (b < x) × R x j = p .m3 j h e in (r .0, r .1, g (r .0) j (r .2))) }
 
@@ -801,7 +801,7 @@ module _ (N : ℕ) {D : ℕ} (P : ℕ) (sz : Tiled D (4 ^ N)) (W : Bits) (vv : B
   Owing s [] O = O
   Owing s (a ∷ u) O = Owing (next I s a) u (λ p. O p ⊎ ((a ≡ true) × (ask I s ≡ some p)))
 
-  -- ALONG A RUN
+  -- ---- along a run
   pub all-run : (k w : Bits) (O : Question → Type 0) (s : State) (u : List Bool) → All k w O s → Fit N W s u
       → All (least N s u k) (most N s u w) (Owing s u O) (reach (4 ^ N) s u)
   unfolding reach

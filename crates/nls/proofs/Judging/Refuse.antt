@@ -1,4 +1,4 @@
--- REFUSAL 12: after bits that some array of P planes fits, a next bit fits none exactly if it is a 0 at a clash.
+-- Refusal 12: after bits that some array of P planes fits, a next bit fits none exactly if it is a 0 at a clash.
 use mathlib.Core.Path.{_≡_, refl, sym, ap, subst, _∙_}
 use mathlib.Core.Bool.{Bool, true, false, not, _&&_, true≢false, false≢true}
 use mathlib.Core.Logic.{_⊎_, inl, inr}
@@ -21,7 +21,7 @@ use Rattle.nls.proofs.Reading.Know.{least, least-below}
 use Rattle.nls.proofs.Judging.Owed.{Owed, owed-true, change}
 use Rattle.nls.proofs.Machine.Cover.{Under, is-alone, is-D, is-G}
 use Rattle.nls.proofs.Machine.Table.{alone, stands}
-use Rattle.nls.proofs.Reading.Whole.{under-below, below-under}
+use Rattle.nls.proofs.Reading.Told.{under-below, below-under}
 use Rattle.nls.proofs.Judging.Clash.{Valid, Clash}
 use Rattle.nls.proofs.Machine.Start.{nothing}
 use Rattle.nls.proofs.Judging.Open.{All, All-at, Owing, all-run, all-start, clear-out}
@@ -183,7 +183,7 @@ module _ (N : ℕ) {D : ℕ} (P : ℕ) (sz : Tiled D (4 ^ N)) where
             let t : (j : ℕ) × (j < I) × (W .has j b ≡ true) × (In j → ⊥) = en .eT e in
             (t .0, b, t .1, e, out (t .0) b (λ y w. t .3 y) (t .2))
 
-  -- WHAT THE QUESTION ALLOWS
+  -- ---- what the question allows
   module _ (W k : Bits) (vv : Bool) (O : Question → Type 0) (k⊑W : (j e : ℕ) → k .has j e ≡ true → W .has j e ≡ true) (cap : (j e : ℕ) → W .has j e ≡ true → e < P) where
     abbrev Can : Question → Type 0
     Can (signOf i) = W .neg i ≡ vv
@@ -283,7 +283,7 @@ module _ (N : ℕ) {D : ℕ} (P : ℕ) (sz : Tiled D (4 ^ N)) where
   abbrev pub all-of : Bool → Bits
   all-of v = record { has = λ i b. ltb b P; neg = λ i. v }
 
-  -- COMPLETE: a next bit that is no 0 at a clash begins the stream of some array of P planes
+  -- a next bit that is no 0 at a clash begins the stream of some array of P planes
   pub accepts : (A : Bits) → Valid I P A → (u : List Bool) → Begins A u → (q : Question) → ask I (reach (4 ^ N) S0 u) ≡ some q → (a : Bool) → (a ≡ false → Clashes (reach (4 ^ N) S0 u) → ⊥)
       → (B : Bits) × Valid I P B × Begins B (u ++ (a ∷ []))
   unfolding _⊑_ ask

@@ -1,4 +1,4 @@
--- REFUSAL 12, the other half, in place: where there is no clash, the set around the question has a member elsewhere.
+-- Refusal 12, the other half, place by place: where there is no clash, the set around the question has a member elsewhere.
 use mathlib.Core.Path.{_≡_, refl, sym, ap, subst, _∙_}
 use mathlib.Core.Bool.{Bool, true, false, _||_, true≢false}
 use mathlib.Core.Logic.{_⊎_, inl, inr}
@@ -15,7 +15,7 @@ use Rattle.nls.proofs.Arrays.{Bits}
 use Rattle.nls.proofs.Machine.Table.{Cfg, alone, stands, alone-no, no-alone, stands-no, no-stands}
 use Rattle.nls.proofs.Machine.Cover.{Under, kid, far, Core, Sets, is-alone, is-D, is-G, mark-D, mark-G}
 use Rattle.nls.proofs.Machine.Steps.{preds, From}
-use Rattle.nls.proofs.Reading.Whole.{fam, Known, under-ge}
+use Rattle.nls.proofs.Reading.Told.{fam, Known, under-ge}
 use Rattle.nls.proofs.Judging.Apart.{Cmp, same, over, below, cmp}
 use Rattle.nls.proofs.Judging.Fresh.{SetFr}
 use Rattle.nls.proofs.Judging.Clash.{Clash, last-child, last-grand, last-desc, last-root}

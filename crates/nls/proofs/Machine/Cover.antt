@@ -1,4 +1,4 @@
--- COVER: in each plane every coefficient is asked for, or lies in a set that was answered 0.
+-- The cover: in each plane every coefficient is asked for, or lies in a set that was answered 0.
 -- X b i: "bit b of coefficient i is settled", for any X that grows with the answers.
 use mathlib.Core.Path.{_≡_, refl, sym, ap, subst, _∙_}
 use mathlib.Core.Bool.{Bool, true, false, true≢false}
@@ -192,7 +192,7 @@ module _ {D I : ℕ} (sz : Tiled D I) where
       zs′ : (j : ℕ) → (alone D I c j ≡ true) × (2 ≤ c .al j) × (c .al j ≤ 3) → (alone D I (withG q c) j ≡ true) × (2 ≤ (withG q c) .al j) × ((withG q c) .al j ≤ 3)
       zs′ j r = (alone-G D I q c j ∙ r .0, omega (arith, al-G q c j), omega (arith, al-G q c j))
 
-  -- THE PIXEL PASS at place t
+  -- the pixel pass at place t
   pub record Pix (R : Preds) (X : ℕ → Type 0) (t : ℕ) (c : Cfg) (l : List ℕ) : Type 0 where
     pub core : Core c l
     pub more : More R c
@@ -200,7 +200,7 @@ module _ {D I : ℕ} (sz : Tiled D I) where
     pub no4 : (j : ℕ) → j < I → alone D I c j ≡ true → c .al j ≡ 4 → ⊥
     pub done : (j : ℕ) → j < I → alone D I c j ≡ true → j < t → (c .al j ≡ 3 → ⊥) → X j
 
-  -- THE REFINEMENT PASS at place t
+  -- the refinement pass at place t
   pub record Fine (R : Preds) (X : ℕ → Type 0) (t : ℕ) (c : Cfg) (l : List ℕ) : Type 0 where
     pub core : Core c l
     pub more : More R c
@@ -404,7 +404,7 @@ module _ {D I : ℕ} (sz : Tiled D I) where
     record { core = p .core; more = p .more; two = λ j hj a e. absurd (omega (arith, p .two j hj a e)); no4 = p .no4; done = λ j hj a b e. absurd (omega arith) },
   )
 
-  -- THE SET PASS at place t
+  -- the set pass at place t
   pub record Sets (R : Preds) (X : ℕ → Type 0) (t : ℕ) (c : Cfg) (l : List ℕ) : Type 0 where
     pub core : Core c l
     pub more : More R c
@@ -427,7 +427,7 @@ module _ {D I : ℕ} (sz : Tiled D I) where
       (subst (λ (x : ℕ). stands D I c x ≡ false) {x = 4 * q} {y = 16 * q / 4} (omega arith) st) (omega arith)
       (subst (λ (x : ℕ). c .sD x ≡ true) {x = q} {y = 16 * q / 4 / 4} (omega arith) s)
 
-  -- EVERY PLACE THAT IS NOT ALONE LIES IN A SET THAT STANDS
+  -- every place that is not alone lies in a set that stands
   pub data Home (c : Cfg) (j : ℕ) : Type 0 where
     in-D : (h : ℕ) → D ≤ 4 * h → 4 * h < I → stands D I c h ≡ true → c .sD h ≡ false → Under h j → Home c j
     in-G : (q : ℕ) → D ≤ 4 * q → 16 * q < I → c .sD q ≡ true → c .sG q ≡ false → Under q (j / 4) → Home c j

@@ -9,8 +9,8 @@ use native.Mathlib.Nat.{one-le-pow}
 use lib.ListN.{length, getD, take}
 use lib.Dec.{ltb, eqb, lit<, lit≤}
 use borrow.Author.Tests.{ltb-true}
-use Rattle.nls.specs.Marks.{skip, setSkip}
-use Rattle.nls.specs.Scan.{State, Look, over, silent, asks, Question, Pass, pixels, sets, refining, at, look, lookAt, lookPixels, lookSets, lookRefining, movesLeft, silently, settle, ask, next, reach}
+use Rattle.nls.specs.Marks.{skip, setSkip, startMarks}
+use Rattle.nls.specs.Scan.{State, Look, over, silent, asks, Question, Pass, pixels, sets, refining, at, look, lookAt, lookPixels, lookSets, lookRefining, movesLeft, silently, settle, ask, next, reach, start, asked}
 use Rattle.nls.proofs.Arrays.{answersOf, Bits, ans, told, Fit}
 
 pub skip-pos : (m : ℕ) → 1 ≤ skip m
@@ -88,7 +88,7 @@ module _ (I : ℕ) where
       go (silent t) f ih = ih t (omega (arith, f, h1)) (omega (arith, f, h2))
       go (asks q) f ih = refl
 
-  -- THE RULES FOR ONE VISIT: a silent move leads to the same settled state; a state that asks, or is over, is settled
+  -- one visit: a silent move leads to the same settled state; a state that asks, or is over, is settled
   quiet-hush : (n : ℕ) (s t : State) → look I s ≡ silent t → movesLeft I s ≤ n → silently I n s ≡ settle I t
   unfolding silently settle
   quiet-hush zero s t e h = absurd (omega (arith, h, subst (λ (L : Look). Falls (movesLeft I s) L) e (falls s)))
@@ -116,6 +116,11 @@ module _ (I : ℕ) where
   unfolding settle
   settle-over s e = quiet-over (movesLeft I s) s e
 
+  -- of no planes nothing is asked
+  pub none-asked : (D : ℕ) → ask I (start I D 0) ≡ none
+  unfolding start ask
+  none-asked D = ap (λ (s : State). asked I (look I s)) (settle-over (at 0 pixels 0 (startMarks I D)) refl)
+
   -- what is settled is never about to move in silence
   pub quiet-settled : (n : ℕ) (s t : State) → movesLeft I s ≤ n → look I (silently I n s) ≡ silent t → ⊥
   unfolding silently
@@ -128,7 +133,7 @@ module _ (I : ℕ) where
       go (silent r) q f ih z = ih r t (omega (arith, f, h)) z
       go (asks a) q f ih z = let bad : _≡_ {A = ℕ} 0 1 = cc in omega arith
 
--- IN STEP. Encoder and decoder are one machine: feeding a stream's bits back leads through the same states.
+-- bits that an array answers, and its stream
 module _ (N : ℕ) where
   abbrev I : ℕ
   I = 4 ^ N

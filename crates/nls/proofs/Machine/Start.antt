@@ -1,4 +1,4 @@
--- The table at the start, and demand 2 for a whole stream from there.
+-- The table at the start, and that the invariant of the scan holds there.
 use mathlib.Core.Path.{_≡_, refl, sym, ap, subst, _∙_}
 use mathlib.Core.Bool.{Bool, true, false, _||_, false≢true}
 use mathlib.Core.Logic.{_⊎_, inl, inr}

@@ -147,7 +147,7 @@ module _ {D I : ℕ} (sz : Tiled D I) where
           last (yes x) (no y) u l = t .side k k3 (l .1) (l .0) y
           last (yes x) (yes y) u l = t .deep k k3 (l .1) x (l .0) y ((no-alone D I c (k / 4) (u .0)) .1) ∙ ap up (u .1) ∙ up-low 0 (lit< tt)
 
-  -- NO MARK INSIDE A SKIP: all that the scan jumps over, past a mark of a set or of a row, is 0
+  -- no mark inside a skip: all that the scan jumps over, past a mark of a set or of a row, is 0
   gap-fuel : (n : ℕ) (c : Cfg) (m : ℕ → ℕ) → Ok D I c → Table D I c m → (j : ℕ) → j ≤ n → j < I → alone D I c j ≡ false → 5 ≤ m j → Gap c m j
   gap-fuel zero c m o t j jn ji a big = absurd (omega (arith, (no-alone D I c j a) .0))
   gap-fuel (suc n) c m o t j jn ji a big = split (ℕ-discrete (j % 4) 0) (stands D I c (j / 4)) refl (ℕ-discrete (j / 4 % 4) 0) (c .sD (j / 4 / 4)) refl (gap-fuel n c m o t (j / 4))

@@ -1,4 +1,4 @@
--- DEMAND 2, a whole stream: what is known at the end is the array.
+-- What a run of answers tells of every array that fits it: the invariant of Machine/Steps with the known bits in it.
 use mathlib.Core.Path.{_≡_, sym, _∙_}
 use mathlib.Core.Bool.{Bool, true, false, _&&_, true≢false, false≢true}
 use mathlib.Core.Logic.{_⊎_, inl, inr}
