@@ -284,7 +284,7 @@ module _ (N L : ℕ) (s : Sized N L) where
 
     pub founds-is : (b : ℕ) → founds N L A b ≡ counting.bigs sizeOf (mags A) b
     unfolding founds counting.bigs found big
-    founds-is b = all-run (λ i. digit (found N L A b i)) (λ i. ι (big sizeOf (mags A) b i)) (λ i. refl)
+    founds-is b = all-run (λ i. digit (found N L A b i)) (λ i. ι (big (mags A) b i)) (λ i. refl)
 
     pub nonzeros-is : nonzeros N L A ≡ bounds.nonzeros sizeOf (mags A)
     unfolding nonzeros bounds.nonzeros

@@ -30,21 +30,21 @@ worst z P = I z * (P + 1) + (I z - D z) / 4 + (I z - 4 * D z) / 16
 module _ (z : Size) (mag : ℕ → ℕ) where
   -- from a plane on nothing is big, so nothing is split
   module _ (n : ℕ) (small : (i : ℕ) → i < I z → mag i < 2 ^ n) where
-    pub none-big : (i : ℕ) → i < I z → ι (big z mag n i) ≡ 0
+    pub none-big : (i : ℕ) → i < I z → ι (big mag n i) ≡ 0
     unfolding big
     none-big i u = let t : leb (2 ^ n) (mag i) ≡ false = lt-leb (2 ^ n) (mag i) (small i u) in rw t
 
     no-bigs : bigs z mag n ≡ 0
     unfolding bigs
-    no-bigs = sum-zero 0 (I z) (λ i. ι (big z mag n i)) (λ i u v. none-big i (omega arith))
+    no-bigs = sum-zero 0 (I z) (λ i. ι (big mag n i)) (λ i u v. none-big i (omega arith))
 
     no-splits : splits z mag n ≡ 0
     unfolding splits split-desc split-grand
     no-splits =
         omega (
           arith,
-          sum-zero (z .e) (Q z - z .e) (λ i. ι (split-desc z mag n i)) (λ i u v. rw (desc-zero z (λ c. ι (big z mag n c)) none-big i)),
-          sum-zero (z .e) (z .j - z .e) (λ i. ι (split-grand z mag n i)) (λ i u v. rw (grand-zero z (λ c. ι (big z mag n c)) none-big i)),
+          sum-zero (z .e) (Q z - z .e) (λ i. ι (split-desc z mag n i)) (λ i u v. rw (desc-zero z (λ c. ι (big mag n c)) none-big i)),
+          sum-zero (z .e) (z .j - z .e) (λ i. ι (split-grand z mag n i)) (λ i u v. rw (grand-zero z (λ c. ι (big mag n c)) none-big i)),
         )
 
     -- the number of bits
@@ -70,7 +70,7 @@ module _ (z : Size) (mag : ℕ → ℕ) where
         )
 
   -- where all is big, all is split and every part is a coefficient
-  module _ (b : ℕ) (all : (i : ℕ) → i < I z → T (big z mag b i)) where
+  module _ (b : ℕ) (all : (i : ℕ) → i < I z → T (big mag b i)) where
     desc-split : (i : ℕ) → z .e ≤ i → i < Q z → split-desc z mag b i ≡ true
     desc-split i u v =
         T-true (split-desc z mag b i) (child-splits z mag b i (4 * i) (omega arith) v (omega arith) (omega arith) (all (4 * i) (omega arith)))
@@ -106,7 +106,7 @@ module _ (z : Size) (mag : ℕ → ℕ) where
 
 -- the bound is reached where all magnitudes are from 2 ^ (P - 1) to 2 ^ P - 1
 module _ (z : Size) (mag : ℕ → ℕ) (n : ℕ) (small : (i : ℕ) → i < I z → mag i < 2 ^ suc n) (large : (i : ℕ) → i < I z → 2 ^ n ≤ mag i) where
-  large-big : (b : ℕ) → b ≤ n → (i : ℕ) → i < I z → T (big z mag b i)
+  large-big : (b : ℕ) → b ≤ n → (i : ℕ) → i < I z → T (big mag b i)
   unfolding big
   large-big b h i u = le→leb (2 ^ b) (mag i) (le-trans (pow-mono h) (large i u))
 

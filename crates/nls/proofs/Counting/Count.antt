@@ -75,48 +75,48 @@ and-right true t h = h
 and-right false t h = absurd h
 
 module _ (z : Size) (mag : ℕ → ℕ) where
-  pub big-mono : (b i : ℕ) → T (big z mag (suc b) i) → T (big z mag b i)
+  pub big-mono : (b i : ℕ) → T (big mag (suc b) i) → T (big mag b i)
   unfolding big
   big-mono b i t = le→leb (2 ^ b) (mag i) (omega (arith, leb→le (2 ^ suc b) (mag i) t, pow-succ' 2 b))
 
-  counted-mono : (b i : ℕ) → ι (big z mag (suc b) i) ≤ ι (big z mag b i)
-  counted-mono b i = ι-mono (big z mag (suc b) i) (big z mag b i) (big-mono b i)
+  counted-mono : (b i : ℕ) → ι (big mag (suc b) i) ≤ ι (big mag b i)
+  counted-mono b i = ι-mono (big mag (suc b) i) (big mag b i) (big-mono b i)
 
   pub desc-shrinks : (b i : ℕ) → T (split-desc z mag (suc b) i) → T (split-desc z mag b i)
   unfolding split-desc
   desc-shrinks b i t =
-      lt→ltb 0 (desc z (λ c. ι (big z mag b c)) i)
-      (le-trans (ltb→lt 0 (desc z (λ c. ι (big z mag (suc b) c)) i) t)
-      (desc-mono z (λ c. ι (big z mag (suc b) c)) (λ c. ι (big z mag b c)) (counted-mono b) i))
+      lt→ltb 0 (desc z (λ c. ι (big mag b c)) i)
+      (le-trans (ltb→lt 0 (desc z (λ c. ι (big mag (suc b) c)) i) t)
+      (desc-mono z (λ c. ι (big mag (suc b) c)) (λ c. ι (big mag b c)) (counted-mono b) i))
 
   pub grand-shrinks : (b i : ℕ) → T (split-grand z mag (suc b) i) → T (split-grand z mag b i)
   unfolding split-grand
   grand-shrinks b i t =
-      lt→ltb 0 (grand z (λ c. ι (big z mag b c)) i)
-      (le-trans (ltb→lt 0 (grand z (λ c. ι (big z mag (suc b) c)) i) t)
-      (grand-mono z (λ c. ι (big z mag (suc b) c)) (λ c. ι (big z mag b c)) (counted-mono b) i))
+      lt→ltb 0 (grand z (λ c. ι (big mag b c)) i)
+      (le-trans (ltb→lt 0 (grand z (λ c. ι (big mag (suc b) c)) i) t)
+      (grand-mono z (λ c. ι (big mag (suc b) c)) (λ c. ι (big mag b c)) (counted-mono b) i))
 
   -- a child that is big splits DESC, a child's DESC that is split splits GRAND, and GRAND splits DESC
-  pub child-splits : (b i c : ℕ) → 1 ≤ i → i < Q z → 4 * i ≤ c → c < 4 * i + 4 → T (big z mag b c) → T (split-desc z mag b i)
+  pub child-splits : (b i c : ℕ) → 1 ≤ i → i < Q z → 4 * i ≤ c → c < 4 * i + 4 → T (big mag b c) → T (split-desc z mag b i)
   unfolding split-desc
   child-splits b i c p q r s t =
-      lt→ltb 0 (desc z (λ k. ι (big z mag b k)) i)
-      (le-trans (T→1 (big z mag b c) t) (child-le z (λ k. ι (big z mag b k)) i c p q r s))
+      lt→ltb 0 (desc z (λ k. ι (big mag b k)) i)
+      (le-trans (T→1 (big mag b c) t) (child-le z (λ k. ι (big mag b k)) i c p q r s))
 
   pub desc-splits : (b i c : ℕ) → 4 * i ≤ c → c < 4 * i + 4 → T (split-desc z mag b c) → T (split-grand z mag b i)
   unfolding split-desc split-grand
   desc-splits b i c r s t =
-      lt→ltb 0 (grand z (λ k. ι (big z mag b k)) i)
-      (le-trans (ltb→lt 0 (desc z (λ k. ι (big z mag b k)) c) t) (desc-le z (λ k. ι (big z mag b k)) i c r s))
+      lt→ltb 0 (grand z (λ k. ι (big mag b k)) i)
+      (le-trans (ltb→lt 0 (desc z (λ k. ι (big mag b k)) c) t) (desc-le z (λ k. ι (big mag b k)) i c r s))
 
   pub grand-splits : (b i : ℕ) → 1 ≤ i → i < Q z → T (split-grand z mag b i) → T (split-desc z mag b i)
   unfolding split-desc split-grand
   grand-splits b i p q t =
-      lt→ltb 0 (desc z (λ k. ι (big z mag b k)) i)
-      (le-trans (ltb→lt 0 (grand z (λ k. ι (big z mag b k)) i) t) (grand-le z (λ k. ι (big z mag b k)) i p q))
+      lt→ltb 0 (desc z (λ k. ι (big mag b k)) i)
+      (le-trans (ltb→lt 0 (grand z (λ k. ι (big mag b k)) i) t) (grand-le z (λ k. ι (big mag b k)) i p q))
 
   -- what is big stands alone, and a set that is split has been a part
-  pub big-alone : (b i : ℕ) → i < I z → T (big z mag b i) → T (ltb i (D z) || split-desc z mag b (i / 4))
+  pub big-alone : (b i : ℕ) → i < I z → T (big mag b i) → T (ltb i (D z) || split-desc z mag b (i / 4))
   big-alone b i h t =
       or-intro (ltb i (D z)) (split-desc z mag b (i / 4))
       (λ n. let m : D z ≤ i = nltb→le i (D z) n in child-splits b (i / 4) i (omega arith) (omega arith) (omega arith) (omega arith) t)
@@ -127,14 +127,14 @@ module _ (z : Size) (mag : ℕ → ℕ) where
 
   -- one coefficient, one DESC, one GRAND
   coef-at : (b i : ℕ) → i < I z
-      → cond (alone z mag (suc b) i && not (big z mag (suc b) i)) (suc (ι (big z mag b i))) 0
-      + cond (big z mag (suc b) i) 1 0
-      + cond (not (ltb i (D z)) && (split-desc z mag b (i / 4) && not (split-desc z mag (suc b) (i / 4)))) (suc (ι (big z mag b i))) 0
-      + ι (big z mag (suc b) i)
-      ≡ ι (alone z mag b i) + ι (big z mag b i)
+      → cond (alone z mag (suc b) i && not (big mag (suc b) i)) (suc (ι (big mag b i))) 0
+      + cond (big mag (suc b) i) 1 0
+      + cond (not (ltb i (D z)) && (split-desc z mag b (i / 4) && not (split-desc z mag (suc b) (i / 4)))) (suc (ι (big mag b i))) 0
+      + ι (big mag (suc b) i)
+      ≡ ι (alone z mag b i) + ι (big mag b i)
   unfolding alone
   coef-at b i h =
-      coef-law (ltb i (D z)) (split-desc z mag b (i / 4)) (split-desc z mag (suc b) (i / 4)) (big z mag b i) (big z mag (suc b) i)
+      coef-law (ltb i (D z)) (split-desc z mag b (i / 4)) (split-desc z mag (suc b) (i / 4)) (big mag b i) (big mag (suc b) i)
       (big-mono b i) (desc-shrinks b (i / 4)) (big-alone b i h) (big-alone (suc b) i h)
 
   desc-at : (b i : ℕ)
@@ -153,7 +153,7 @@ module _ (z : Size) (mag : ℕ → ℕ) where
 
   -- below 2 ^ (b + 1), bit b says whether a magnitude is at least 2 ^ b
   module _ (neg : ℕ → Bool) where
-    pub bit-big : (b i : ℕ) → T (not (big z mag (suc b) i)) → bit (mag i) b ≡ big z mag b i
+    pub bit-big : (b i : ℕ) → T (not (big mag (suc b) i)) → bit (mag i) b ≡ big mag b i
     unfolding big bit
     bit-big b i t =
         let less : mag i < 2 ^ suc b = nleb→lt (2 ^ suc b) (mag i) t in
@@ -167,37 +167,37 @@ module _ (z : Size) (mag : ℕ → ℕ) where
             let none : mag i / 2 ^ b ≡ 0 = div-eq-of-lt (leb-false (2 ^ b) (mag i) e) in
             rw (e, none)
 
-    coded-length : (b i : ℕ) → T (not (big z mag (suc b) i)) → length (coded mag neg b i) ≡ suc (ι (big z mag b i))
+    coded-length : (b i : ℕ) → T (not (big mag (suc b) i)) → length (coded mag neg b i) ≡ suc (ι (big mag b i))
     unfolding coded
-    coded-length b i t = rw (bit-big b i t) (ap suc (go (big z mag b i)))
+    coded-length b i t = rw (bit-big b i t) (ap suc (go (big mag b i)))
       where
         go : (s : Bool) → length (cond s (neg i ∷ []) []) ≡ ι s
         go true = refl
         go false = refl
 
     pixel-length : (b i : ℕ) → length (pixel z mag neg b i)
-        ≡ cond (alone z mag (suc b) i && not (big z mag (suc b) i)) (suc (ι (big z mag b i))) 0
+        ≡ cond (alone z mag (suc b) i && not (big mag (suc b) i)) (suc (ι (big mag b i))) 0
     unfolding pixel
     pixel-length b i =
-        length-cond (alone z mag (suc b) i && not (big z mag (suc b) i)) (coded mag neg b i)
-        ∙ cond-cong (alone z mag (suc b) i && not (big z mag (suc b) i)) (length (coded mag neg b i)) (suc (ι (big z mag b i)))
-        (λ t. coded-length b i (and-right (alone z mag (suc b) i) (not (big z mag (suc b) i)) t))
+        length-cond (alone z mag (suc b) i && not (big mag (suc b) i)) (coded mag neg b i)
+        ∙ cond-cong (alone z mag (suc b) i && not (big mag (suc b) i)) (length (coded mag neg b i)) (suc (ι (big mag b i)))
+        (λ t. coded-length b i (and-right (alone z mag (suc b) i) (not (big mag (suc b) i)) t))
 
-    refine-length : (b i : ℕ) → length (refine z mag b i) ≡ cond (big z mag (suc b) i) 1 0
+    refine-length : (b i : ℕ) → length (refine mag b i) ≡ cond (big mag (suc b) i) 1 0
     unfolding refine
-    refine-length b i = length-cond (big z mag (suc b) i) (bit (mag i) b ∷ [])
+    refine-length b i = length-cond (big mag (suc b) i) (bit (mag i) b ∷ [])
 
     children-length : (b p : ℕ) → 1 ≤ p → p < Q z → length (children z mag neg b p)
-        ≡ cond (split-desc z mag b p && not (split-desc z mag (suc b) p)) (sum (4 * p) 4 (λ c. suc (ι (big z mag b c)))) 0
+        ≡ cond (split-desc z mag b p && not (split-desc z mag (suc b) p)) (sum (4 * p) 4 (λ c. suc (ι (big mag b c)))) 0
     unfolding children
     children-length b p h k =
         length-cond (split-desc z mag b p && not (split-desc z mag (suc b) p)) (each (4 * p) 4 (λ c. coded mag neg b c))
         ∙ cond-cong (split-desc z mag b p && not (split-desc z mag (suc b) p)) (length (each (4 * p) 4 (λ c. coded mag neg b c)))
-        (sum (4 * p) 4 (λ c. suc (ι (big z mag b c))))
+        (sum (4 * p) 4 (λ c. suc (ι (big mag b c))))
         (λ t. each-length (4 * p) 4 (λ c. coded mag neg b c)
-        ∙ sum-cong (4 * p) 4 (λ c. length (coded mag neg b c)) (λ c. suc (ι (big z mag b c)))
+        ∙ sum-cong (4 * p) 4 (λ c. length (coded mag neg b c)) (λ c. suc (ι (big mag b c)))
         (λ c u v. coded-length b c
-        (not-T (big z mag (suc b) c)
+        (not-T (big mag (suc b) c)
         (λ w. T-not (split-desc z mag (suc b) p) (and-right (split-desc z mag b p) (not (split-desc z mag (suc b) p)) t)
         (child-splits (suc b) p c h k u v w)))))
 
@@ -268,10 +268,10 @@ by-first z g =
 module _ (z : Size) (mag : ℕ → ℕ) (neg : ℕ → Bool) where
   -- what plane b writes at a coefficient, and at a set
   pixels : ℕ → ℕ → ℕ
-  pixels b i = cond (alone z mag (suc b) i && not (big z mag (suc b) i)) (suc (ι (big z mag b i))) 0
+  pixels b i = cond (alone z mag (suc b) i && not (big mag (suc b) i)) (suc (ι (big mag b i))) 0
 
   refines : ℕ → ℕ → ℕ
-  refines b i = cond (big z mag (suc b) i) 1 0
+  refines b i = cond (big mag (suc b) i) 1 0
 
   fresh : ℕ → ℕ → Bool
   fresh b p = split-desc z mag b p && not (split-desc z mag (suc b) p)
@@ -284,7 +284,7 @@ module _ (z : Size) (mag : ℕ → ℕ) (neg : ℕ → Bool) where
 
   group-length : (b p : ℕ) → 1 ≤ p → p < Q z → length (group z mag neg b p)
       ≡ cond (leb (D z) p && eqb (p % 4) 0) (grand-tests b (p / 4)) 0
-      + (desc-tests b p + cond (fresh b p) (sum (4 * p) 4 (λ c. suc (ι (big z mag b c)))) 0)
+      + (desc-tests b p + cond (fresh b p) (sum (4 * p) 4 (λ c. suc (ι (big mag b c)))) 0)
   unfolding group grand-tests desc-tests fresh
   group-length b p h k =
       let whole : length (cond (leb (D z) p && eqb (p % 4) 0) (test-grand z mag b (p / 4)) [] ++ (test-desc z mag b p ++ children z mag neg b p))
@@ -300,40 +300,40 @@ module _ (z : Size) (mag : ℕ → ℕ) (neg : ℕ → Bool) where
   plane-sums : (b : ℕ) → length (plane z mag neg b)
       ≡ over-all z (λ i. pixels b i)
       + (over-grand z (λ q. grand-tests b q)
-      + (over-desc z (λ p. desc-tests b p) + over-all z (λ i. cond (not (ltb i (D z)) && fresh b (i / 4)) (suc (ι (big z mag b i))) 0))
+      + (over-desc z (λ p. desc-tests b p) + over-all z (λ i. cond (not (ltb i (D z)) && fresh b (i / 4)) (suc (ι (big mag b i))) 0))
       + over-all z (λ i. refines b i))
   unfolding plane
   plane-sums b =
       let whole : length (plane z mag neg b) ≡ length (each 0 (I z) (λ i. pixel z mag neg b i))
-      + (length (each (z .e) (Q z - z .e) (λ p. group z mag neg b p)) + length (each 0 (I z) (λ i. refine z mag b i))) =
+      + (length (each (z .e) (Q z - z .e) (λ p. group z mag neg b p)) + length (each 0 (I z) (λ i. refine mag b i))) =
       rw (length-append, length-append) in
       let first : length (each 0 (I z) (λ i. pixel z mag neg b i)) ≡ over-all z (λ i. pixels b i) =
       each-length 0 (I z) (λ i. pixel z mag neg b i)
       ∙ sum-cong 0 (I z) (λ i. length (pixel z mag neg b i)) (λ i. pixels b i) (λ i u v. unfold pixels in pixel-length z mag neg b i) in
-      let last : length (each 0 (I z) (λ i. refine z mag b i)) ≡ over-all z (λ i. refines b i) =
-      each-length 0 (I z) (λ i. refine z mag b i)
-      ∙ sum-cong 0 (I z) (λ i. length (refine z mag b i)) (λ i. refines b i) (λ i u v. unfold refines in refine-length z mag neg b i) in
+      let last : length (each 0 (I z) (λ i. refine mag b i)) ≡ over-all z (λ i. refines b i) =
+      each-length 0 (I z) (λ i. refine mag b i)
+      ∙ sum-cong 0 (I z) (λ i. length (refine mag b i)) (λ i. refines b i) (λ i u v. unfold refines in refine-length z mag neg b i) in
       let sets : length (each (z .e) (Q z - z .e) (λ p. group z mag neg b p))
       ≡ over-desc z (λ p. cond (leb (D z) p && eqb (p % 4) 0) (grand-tests b (p / 4)) 0)
-      + (over-desc z (λ p. desc-tests b p) + over-desc z (λ p. cond (fresh b p) (sum (4 * p) 4 (λ c. suc (ι (big z mag b c)))) 0)) =
+      + (over-desc z (λ p. desc-tests b p) + over-desc z (λ p. cond (fresh b p) (sum (4 * p) 4 (λ c. suc (ι (big mag b c)))) 0)) =
       each-length (z .e) (Q z - z .e) (λ p. group z mag neg b p)
       ∙ sum-cong (z .e) (Q z - z .e) (λ p. length (group z mag neg b p))
       (λ p. cond (leb (D z) p && eqb (p % 4) 0) (grand-tests b (p / 4)) 0
-      + (desc-tests b p + cond (fresh b p) (sum (4 * p) 4 (λ c. suc (ι (big z mag b c)))) 0))
+      + (desc-tests b p + cond (fresh b p) (sum (4 * p) 4 (λ c. suc (ι (big mag b c)))) 0))
       (λ p u v. group-length b p (omega arith) (omega arith))
       ∙ sum-add (z .e) (Q z - z .e) (λ p. cond (leb (D z) p && eqb (p % 4) 0) (grand-tests b (p / 4)) 0)
-      (λ p. desc-tests b p + cond (fresh b p) (sum (4 * p) 4 (λ c. suc (ι (big z mag b c)))) 0)
-      ∙ rw (sum-add (z .e) (Q z - z .e) (λ p. desc-tests b p) (λ p. cond (fresh b p) (sum (4 * p) 4 (λ c. suc (ι (big z mag b c)))) 0)) in
-      omega (arith, by-first z (λ q. grand-tests b q), by-parent z (λ p. fresh b p) (λ c. suc (ι (big z mag b c))))
+      (λ p. desc-tests b p + cond (fresh b p) (sum (4 * p) 4 (λ c. suc (ι (big mag b c)))) 0)
+      ∙ rw (sum-add (z .e) (Q z - z .e) (λ p. desc-tests b p) (λ p. cond (fresh b p) (sum (4 * p) 4 (λ c. suc (ι (big mag b c)))) 0)) in
+      omega (arith, by-first z (λ q. grand-tests b q), by-parent z (λ p. fresh b p) (λ c. suc (ι (big mag b c))))
 
   coefs : (b : ℕ) → over-all z (λ i. pixels b i) + over-all z (λ i. refines b i)
-      + over-all z (λ i. cond (not (ltb i (D z)) && fresh b (i / 4)) (suc (ι (big z mag b i))) 0) + over-all z (λ i. ι (big z mag (suc b) i))
-      ≡ over-all z (λ i. ι (alone z mag b i)) + over-all z (λ i. ι (big z mag b i))
+      + over-all z (λ i. cond (not (ltb i (D z)) && fresh b (i / 4)) (suc (ι (big mag b i))) 0) + over-all z (λ i. ι (big mag (suc b) i))
+      ≡ over-all z (λ i. ι (alone z mag b i)) + over-all z (λ i. ι (big mag b i))
   unfolding pixels refines fresh
   coefs b =
       sum-four-two 0 (I z) (λ i. pixels b i) (λ i. refines b i)
-      (λ i. cond (not (ltb i (D z)) && fresh b (i / 4)) (suc (ι (big z mag b i))) 0) (λ i. ι (big z mag (suc b) i))
-      (λ i. ι (alone z mag b i)) (λ i. ι (big z mag b i)) (λ i u v. coef-at z mag b i (omega arith))
+      (λ i. cond (not (ltb i (D z)) && fresh b (i / 4)) (suc (ι (big mag b i))) 0) (λ i. ι (big mag (suc b) i))
+      (λ i. ι (alone z mag b i)) (λ i. ι (big mag b i)) (λ i u v. coef-at z mag b i (omega arith))
 
   descs : (b : ℕ) → over-desc z (λ p. desc-tests b p) + over-desc z (λ p. ι (split-desc z mag (suc b) p))
       ≡ over-desc z (λ p. ι (stands-desc z mag b p)) + over-desc z (λ p. ι (split-desc z mag b p))

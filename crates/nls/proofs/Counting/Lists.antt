@@ -44,16 +44,16 @@ module _ (z : Size) where
   unfoldable pub open-grand-l : List ℕ → ℕ → List ℕ
   open-grand-l l i = pushed-l (pushed-l (pushed-l (pushed-l l i) (i + 4)) (i + 8)) (i + 12)
 
+unfoldable pub pixel-l : (ℕ → ℕ) → (ℕ → Bool) → ℕ → List ℕ → ℕ → LStep
+pixel-l mag neg b l i =
+    cond (eqb (getD l i 0) 1) (coded mag neg b i, cond (bit (mag i) b) (set l i 2) l, suc i) ([], l, i + skip (getD l i 0))
+
+unfoldable pub refine-l : (ℕ → ℕ) → ℕ → List ℕ → ℕ → LStep
+refine-l mag b l i =
+    cond (eqb (getD l i 0) 3) (bit (mag i) b ∷ [], l, suc i)
+    (cond (eqb (getD l i 0) 2) ([], set l i 3, suc i) ([], l, i + skip (getD l i 0)))
+
 module _ (z : Size) (mag : ℕ → ℕ) (neg : ℕ → Bool) (b : ℕ) where
-  unfoldable pub pixel-l : List ℕ → ℕ → LStep
-  pixel-l l i =
-      cond (eqb (getD l i 0) 1) (coded mag neg b i, cond (bit (mag i) b) (set l i 2) l, suc i) ([], l, i + skip (getD l i 0))
-
-  unfoldable pub refine-l : List ℕ → ℕ → LStep
-  refine-l l i =
-      cond (eqb (getD l i 0) 3) (bit (mag i) b ∷ [], l, suc i)
-      (cond (eqb (getD l i 0) 2) ([], set l i 3, suc i) ([], l, i + skip (getD l i 0)))
-
   unfoldable pub set-l : List ℕ → ℕ → LStep
   set-l l i =
       cond (eqb (getD l i 0) 5)
@@ -117,7 +117,7 @@ module _ (z : Size) where
       rep-cond z (set l4 (4 * i) 6) l4 (put m4 (4 * i) 6) m4 (ltb (4 * i) (I z)) (rep-set z l4 m4 (4 * i) 6 r4) r4
 
 module _ (z : Size) (mag : ℕ → ℕ) (neg : ℕ → Bool) (b : ℕ) where
-  pub like-pixel : (l : List ℕ) (m : Table) (i : ℕ) → i < I z → Rep z l m → Like z (pixel-l z mag neg b l i) (pixel-step z mag neg b m i)
+  pub like-pixel : (l : List ℕ) (m : Table) (i : ℕ) → i < I z → Rep z l m → Like z (pixel-l mag neg b l i) (pixel-step mag neg b m i)
   unfolding pixel-l pixel-step
   like-pixel l m i u r =
       rw (r .same i u)
@@ -125,7 +125,7 @@ module _ (z : Size) (mag : ℕ → ℕ) (neg : ℕ → Bool) (b : ℕ) where
       (coded mag neg b i, cond (bit (mag i) b) (put m i 2) m, suc i) ([], m, i + skip (getD l i 0)) (eqb (getD l i 0) 1)
       (refl, rep-cond z (set l i 2) l (put m i 2) m (bit (mag i) b) (rep-set z l m i 2 r) r, refl) (refl, r, refl))
 
-  pub like-refine : (l : List ℕ) (m : Table) (i : ℕ) → i < I z → Rep z l m → Like z (refine-l z mag neg b l i) (refine-step z mag neg b m i)
+  pub like-refine : (l : List ℕ) (m : Table) (i : ℕ) → i < I z → Rep z l m → Like z (refine-l mag b l i) (refine-step mag b m i)
   unfolding refine-l refine-step
   like-refine l m i u r =
       rw (r .same i u)
@@ -191,7 +191,7 @@ module _ (z : Size) where
 module _ (z : Size) (mag : ℕ → ℕ) (neg : ℕ → Bool) where
   unfoldable pub scan-plane-l : ℕ → List ℕ → (List Bool) × (List ℕ)
   scan-plane-l b l =
-      let one = go-l z (pixel-l z mag neg b) (I z) l 0 in
+      let one = go-l z (pixel-l mag neg b) (I z) l 0 in
       let two = go-l z (set-l z mag neg b) (z .e + 12 * Q z) (one .1) 0 in
-      let three = go-l z (refine-l z mag neg b) (I z) (two .1) 0 in
+      let three = go-l z (refine-l mag b) (I z) (two .1) 0 in
       (one .0 ++ (two .0 ++ three .0), three .1)

@@ -26,17 +26,21 @@ over-all z f = sum 0 (I z) f
 unfoldable pub coded : (ℕ → ℕ) → (ℕ → Bool) → ℕ → ℕ → List Bool
 coded mag neg b i = bit (mag i) b ∷ cond (bit (mag i) b) (neg i ∷ []) []
 
-module _ (z : Size) (mag : ℕ → ℕ) where
-  -- the coefficient at i is at least 2 ^ b
-  unfoldable pub big : ℕ → ℕ → Bool
-  big b i = leb (2 ^ b) (mag i)
+-- the coefficient at i is at least 2 ^ b
+unfoldable pub big : (ℕ → ℕ) → ℕ → ℕ → Bool
+big mag b i = leb (2 ^ b) (mag i)
 
+-- refinement pass, at i: found before plane b
+unfoldable pub refine : (ℕ → ℕ) → ℕ → ℕ → List Bool
+refine mag b i = cond (big mag (suc b) i) (bit (mag i) b ∷ []) []
+
+module _ (z : Size) (mag : ℕ → ℕ) where
   -- DESC(i), GRAND(i) has a member of at least 2 ^ b
   unfoldable pub split-desc : ℕ → ℕ → Bool
-  split-desc b i = ltb 0 (desc z (λ c. ι (big b c)) i)
+  split-desc b i = ltb 0 (desc z (λ c. ι (big mag b c)) i)
 
   unfoldable pub split-grand : ℕ → ℕ → Bool
-  split-grand b i = ltb 0 (grand z (λ c. ι (big b c)) i)
+  split-grand b i = ltb 0 (grand z (λ c. ι (big mag b c)) i)
 
   -- after plane b
   unfoldable pub alone : ℕ → ℕ → Bool
@@ -64,11 +68,7 @@ module _ (z : Size) (mag : ℕ → ℕ) where
   splits b = over-desc z (λ i. ι (split-desc b i)) + over-grand z (λ i. ι (split-grand b i))
 
   unfoldable pub bigs : ℕ → ℕ
-  bigs b = over-all z (λ i. ι (big b i))
-
-  -- refinement pass, at i: found before plane b
-  unfoldable pub refine : ℕ → ℕ → List Bool
-  refine b i = cond (big (suc b) i) (bit (mag i) b ∷ []) []
+  bigs b = over-all z (λ i. ι (big mag b i))
 
   -- set pass: a test of GRAND(q) that stands before or in plane b, and one of DESC(p)
   unfoldable pub test-grand : ℕ → ℕ → List Bool
@@ -81,7 +81,7 @@ module _ (z : Size) (mag : ℕ → ℕ) where
   module _ (neg : ℕ → Bool) where
     -- pixel pass, at i: it stood alone before plane b, and was not found
     unfoldable pub pixel : ℕ → ℕ → List Bool
-    pixel b i = cond (alone (suc b) i && not (big (suc b) i)) (coded mag neg b i) []
+    pixel b i = cond (alone (suc b) i && not (big mag (suc b) i)) (coded mag neg b i) []
 
     -- set pass, at place 4 p: the tests of GRAND(p / 4), if its place is this, and of DESC(p), then the children
     unfoldable pub children : ℕ → ℕ → List Bool
@@ -91,7 +91,7 @@ module _ (z : Size) (mag : ℕ → ℕ) where
     group b p = cond (leb (D z) p && eqb (p % 4) 0) (test-grand b (p / 4)) [] ++ (test-desc b p ++ children b p)
 
     unfoldable pub plane : ℕ → List Bool
-    plane b = each 0 (I z) (λ i. pixel b i) ++ (each (z .e) (Q z - z .e) (λ p. group b p) ++ each 0 (I z) (λ i. refine b i))
+    plane b = each 0 (I z) (λ i. pixel b i) ++ (each (z .e) (Q z - z .e) (λ p. group b p) ++ each 0 (I z) (λ i. refine mag b i))
 
     -- planes n - 1 down to 0
     unfoldable pub body : ℕ → List Bool

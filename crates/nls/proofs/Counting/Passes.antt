@@ -31,14 +31,14 @@ marked m x v false y = same-mark m x 1 y v
 module _ (z : Size) (mag : ℕ → ℕ) where
   pub closed1 : (b q : ℕ) → z .e ≤ q → T (split-grand z mag b q) → T (split-desc z mag b q)
   unfolding split-grand
-  closed1 b q h t = ⊎-elim (λ l. absurd (rw (grand-none z (λ c. ι (big z mag b c)) q (omega arith)) at t)) (λ l. grand-splits z mag b q (omega arith) l t) (order (Q z) q)
+  closed1 b q h t = ⊎-elim (λ l. absurd (rw (grand-none z (λ c. ι (big mag b c)) q (omega arith)) at t)) (λ l. grand-splits z mag b q (omega arith) l t) (order (Q z) q)
 
   -- the marks of coefficients between planes, and after the pixel pass and the set pass
   unfoldable pub rest : ℕ → ℕ → ℕ
-  rest b x = cond (big z mag b x) 3 1
+  rest b x = cond (big mag b x) 3 1
 
   unfoldable pub found : ℕ → ℕ → ℕ
-  found b x = cond (big z mag (suc b) x) 3 (cond (big z mag b x) 2 1)
+  found b x = cond (big mag (suc b) x) 3 (cond (big mag b x) 2 1)
 
   module _ (neg : ℕ → Bool) (b : ℕ) where
     -- ---- the pixel pass
@@ -51,28 +51,28 @@ module _ (z : Size) (mag : ℕ → ℕ) where
         rw no-one
 
     pixel-coef : (m : Table) (x : ℕ) → x < I z → Alone z (split-desc z mag (suc b)) (split-grand z mag (suc b)) x → m x ≡ rest (suc b) x
-        → ((pixel-step z mag neg b m x) .0 ≡ pixel z mag neg b x)
-        × ((y : ℕ) → (pixel-step z mag neg b m x) .1 y ≡ cond (eqb y x) (found b x) (m y))
-        × ((pixel-step z mag neg b m x) .2 ≡ suc x)
+        → ((pixel-step mag neg b m x) .0 ≡ pixel z mag neg b x)
+        × ((y : ℕ) → (pixel-step mag neg b m x) .1 y ≡ cond (eqb y x) (found b x) (m y))
+        × ((pixel-step mag neg b m x) .2 ≡ suc x)
     unfolding pixel alone rest found pixel-step skip
-    pixel-coef m x u t h = tell (big z mag (suc b) x) refl
+    pixel-coef m x u t h = tell (big mag (suc b) x) refl
       where
         here : (ltb x (D z) || split-desc z mag (suc b) (x / 4)) ≡ true
         here = T-true (ltb x (D z) || split-desc z mag (suc b) (x / 4)) t
 
-        tell : (s : Bool) → big z mag (suc b) x ≡ s
-            → ((pixel-step z mag neg b m x) .0 ≡ pixel z mag neg b x)
-            × ((y : ℕ) → (pixel-step z mag neg b m x) .1 y ≡ cond (eqb y x) (found b x) (m y))
-            × ((pixel-step z mag neg b m x) .2 ≡ suc x)
+        tell : (s : Bool) → big mag (suc b) x ≡ s
+            → ((pixel-step mag neg b m x) .0 ≡ pixel z mag neg b x)
+            × ((y : ℕ) → (pixel-step mag neg b m x) .1 y ≡ cond (eqb y x) (found b x) (m y))
+            × ((pixel-step mag neg b m x) .2 ≡ suc x)
         tell true e =
             let v : m x ≡ 3 = rw e at h in
             rw (v, e, here) (refl, λ y. same-mark m x 3 y v, add-one x)
         tell false e =
             let v : m x ≡ 1 = rw e at h in
-            rw (v, e, here, bit-big z mag neg b x (of-false (big z mag (suc b) x) e)) (refl, λ y. marked m x v (big z mag b x) y, refl)
+            rw (v, e, here, bit-big z mag neg b x (of-false (big mag (suc b) x) e)) (refl, λ y. marked m x v (big mag b x) y, refl)
 
     pixel-run : (m : Table) (x : ℕ) (s : Bool) (k : ℕ) → 1 ≤ k → (T s → 2 ≤ k) → m x ≡ code s k
-        → ((pixel-step z mag neg b m x) .0 ≡ []) × ((pixel-step z mag neg b m x) .1 ≡ m) × ((pixel-step z mag neg b m x) .2 ≡ x + 4 ^ k)
+        → ((pixel-step mag neg b m x) .0 ≡ []) × ((pixel-step mag neg b m x) .1 ≡ m) × ((pixel-step mag neg b m x) .2 ≡ x + 4 ^ k)
     unfolding pixel-step
     pixel-run m x s k p q h =
         let hi : 5 ≤ code s k = code-high s k p in
@@ -80,41 +80,41 @@ module _ (z : Size) (mag : ℕ → ℕ) where
         rw (h, n) (refl, refl, ap (λ (w : ℕ). x + w) (skip-code s k p q))
 
     pub pixel-pass : (m : Table) → Marks z (split-desc z mag (suc b)) (split-grand z mag (suc b)) (rest (suc b)) m
-        → ((go z (pixel-step z mag neg b) (I z) m 0) .0 ≡ each 0 (I z) (λ x. pixel z mag neg b x))
-        × Marks z (split-desc z mag (suc b)) (split-grand z mag (suc b)) (λ x. found b x) ((go z (pixel-step z mag neg b) (I z) m 0) .1)
+        → ((go z (pixel-step mag neg b) (I z) m 0) .0 ≡ each 0 (I z) (λ x. pixel z mag neg b x))
+        × Marks z (split-desc z mag (suc b)) (split-grand z mag (suc b)) (λ x. found b x) ((go z (pixel-step mag neg b) (I z) m 0) .1)
     pixel-pass m k =
         rw (sub-zero (I z)) at
         (pass z (split-desc z mag (suc b)) (split-grand z mag (suc b)) (closed1 (suc b)) (desc-known z mag (suc b))
-        (pixel-step z mag neg b) (rest (suc b)) (found b) (λ x. pixel z mag neg b x) pixel-quiet pixel-coef pixel-run
+        (pixel-step mag neg b) (rest (suc b)) (found b) (λ x. pixel z mag neg b x) pixel-quiet pixel-coef pixel-run
         (I z) 0 m (omega arith)
         (first-spot z (split-desc z mag (suc b)) (split-grand z mag (suc b)) (closed1 (suc b)) (desc-known z mag (suc b)))
         (retell z (split-desc z mag (suc b)) (split-grand z mag (suc b)) (closed1 (suc b)) (desc-known z mag (suc b))
         (rest (suc b)) (halfway (found b) (rest (suc b)) 0) m (λ x u t. rw (le-ltb x 0 (omega arith))) k))
 
     -- ---- the refinement pass
-    refine-quiet : (k x : ℕ) → x < I z → Cov z (split-desc z mag b) (split-grand z mag b) k (up k x) → refine z mag b x ≡ []
+    refine-quiet : (k x : ℕ) → x < I z → Cov z (split-desc z mag b) (split-grand z mag b) k (up k x) → refine mag b x ≡ []
     unfolding refine
     refine-quiet k x u c =
-        let no-one : big z mag (suc b) x ≡ false =
-        T-false (big z mag (suc b) x)
+        let no-one : big mag (suc b) x ≡ false =
+        T-false (big mag (suc b) x)
         (λ t. clash z (split-desc z mag b) (split-grand z mag b) (closed1 b) (desc-known z mag b) k x c (big-alone z mag b x u (big-mono z mag b x t))) in
         rw no-one
 
     refine-coef : (m : Table) (x : ℕ) → x < I z → Alone z (split-desc z mag b) (split-grand z mag b) x → m x ≡ found b x
-        → ((refine-step z mag neg b m x) .0 ≡ refine z mag b x)
-        × ((y : ℕ) → (refine-step z mag neg b m x) .1 y ≡ cond (eqb y x) (rest b x) (m y))
-        × ((refine-step z mag neg b m x) .2 ≡ suc x)
+        → ((refine-step mag b m x) .0 ≡ refine mag b x)
+        × ((y : ℕ) → (refine-step mag b m x) .1 y ≡ cond (eqb y x) (rest b x) (m y))
+        × ((refine-step mag b m x) .2 ≡ suc x)
     unfolding refine rest found refine-step skip
-    refine-coef m x u t h = tell (big z mag (suc b) x) (big z mag b x) refl refl
+    refine-coef m x u t h = tell (big mag (suc b) x) (big mag b x) refl refl
       where
-        tell : (s r : Bool) → big z mag (suc b) x ≡ s → big z mag b x ≡ r
-            → ((refine-step z mag neg b m x) .0 ≡ refine z mag b x)
-            × ((y : ℕ) → (refine-step z mag neg b m x) .1 y ≡ cond (eqb y x) (rest b x) (m y))
-            × ((refine-step z mag neg b m x) .2 ≡ suc x)
+        tell : (s r : Bool) → big mag (suc b) x ≡ s → big mag b x ≡ r
+            → ((refine-step mag b m x) .0 ≡ refine mag b x)
+            × ((y : ℕ) → (refine-step mag b m x) .1 y ≡ cond (eqb y x) (rest b x) (m y))
+            × ((refine-step mag b m x) .2 ≡ suc x)
         tell true true e e′ =
             let v : m x ≡ 3 = rw e at h in
             rw (v, e, e′) (refl, λ y. same-mark m x 3 y v, refl)
-        tell true false e e′ = absurd (T-not (big z mag b x) (of-false (big z mag b x) e′) (big-mono z mag b x (of-true (big z mag (suc b) x) e)))
+        tell true false e e′ = absurd (T-not (big mag b x) (of-false (big mag b x) e′) (big-mono z mag b x (of-true (big mag (suc b) x) e)))
         tell false true e e′ =
             let v : m x ≡ 2 = rw (e, e′) at h in
             rw (v, e, e′) (refl, λ y. refl, refl)
@@ -123,7 +123,7 @@ module _ (z : Size) (mag : ℕ → ℕ) where
             rw (v, e, e′) (refl, λ y. same-mark m x 1 y v, add-one x)
 
     refine-run : (m : Table) (x : ℕ) (s : Bool) (k : ℕ) → 1 ≤ k → (T s → 2 ≤ k) → m x ≡ code s k
-        → ((refine-step z mag neg b m x) .0 ≡ []) × ((refine-step z mag neg b m x) .1 ≡ m) × ((refine-step z mag neg b m x) .2 ≡ x + 4 ^ k)
+        → ((refine-step mag b m x) .0 ≡ []) × ((refine-step mag b m x) .1 ≡ m) × ((refine-step mag b m x) .2 ≡ x + 4 ^ k)
     unfolding refine-step
     refine-run m x s k p q h =
         let hi : 5 ≤ code s k = code-high s k p in
@@ -132,12 +132,12 @@ module _ (z : Size) (mag : ℕ → ℕ) where
         rw (h, n, n′) (refl, refl, ap (λ (w : ℕ). x + w) (skip-code s k p q))
 
     pub refine-pass : (m : Table) → Marks z (split-desc z mag b) (split-grand z mag b) (λ x. found b x) m
-        → ((go z (refine-step z mag neg b) (I z) m 0) .0 ≡ each 0 (I z) (λ x. refine z mag b x))
-        × Marks z (split-desc z mag b) (split-grand z mag b) (λ x. rest b x) ((go z (refine-step z mag neg b) (I z) m 0) .1)
+        → ((go z (refine-step mag b) (I z) m 0) .0 ≡ each 0 (I z) (λ x. refine mag b x))
+        × Marks z (split-desc z mag b) (split-grand z mag b) (λ x. rest b x) ((go z (refine-step mag b) (I z) m 0) .1)
     refine-pass m k =
         rw (sub-zero (I z)) at
         (pass z (split-desc z mag b) (split-grand z mag b) (closed1 b) (desc-known z mag b)
-        (refine-step z mag neg b) (found b) (rest b) (λ x. refine z mag b x) refine-quiet refine-coef refine-run
+        (refine-step mag b) (found b) (rest b) (λ x. refine mag b x) refine-quiet refine-coef refine-run
         (I z) 0 m (omega arith)
         (first-spot z (split-desc z mag b) (split-grand z mag b) (closed1 b) (desc-known z mag b))
         (retell z (split-desc z mag b) (split-grand z mag b) (closed1 b) (desc-known z mag b)

@@ -116,11 +116,11 @@ module _ (z : Size) (mag : ℕ → ℕ) (neg : ℕ → Bool) (b : ℕ) where
 
   empty-desc : (n y : ℕ) → Q z ≤ y → split-desc z mag n y ≡ false
   unfolding split-desc
-  empty-desc n y h = rw (desc-none z (λ c. ι (big z mag n c)) y h)
+  empty-desc n y h = rw (desc-none z (λ c. ι (big mag n c)) y h)
 
   empty-grand : (n y : ℕ) → z .j ≤ y → split-grand z mag n y ≡ false
   unfolding split-grand
-  empty-grand n y h = rw (grand-none z (λ c. ι (big z mag n c)) y h)
+  empty-grand n y h = rw (grand-none z (λ c. ι (big mag n c)) y h)
 
   cst-past : (c x : ℕ) → x < c → cst c x ≡ found z mag b x
   unfolding cst
@@ -211,16 +211,16 @@ module _ (z : Size) (mag : ℕ → ℕ) (neg : ℕ → Bool) (b : ℕ) where
 
   found-le : (x : ℕ) → found z mag b x ≤ 3
   unfolding found
-  found-le x = tell (big z mag (suc b) x) (big z mag b x)
+  found-le x = tell (big mag (suc b) x) (big mag b x)
     where
       tell : (s t : Bool) → cond s 3 (cond t 2 1) ≤ 3
       tell true t = omega arith
       tell false true = omega arith
       tell false false = omega arith
 
-  found-new : (x : ℕ) → T (not (big z mag (suc b) x)) → cond (bit (mag x) b) 2 1 ≡ found z mag b x
+  found-new : (x : ℕ) → T (not (big mag (suc b) x)) → cond (bit (mag x) b) 2 1 ≡ found z mag b x
   unfolding found
-  found-new x n = rw (bit-big z mag neg b x n, T-false (big z mag (suc b) x) (T-not (big z mag (suc b) x) n))
+  found-new x n = rw (bit-big z mag neg b x n, T-false (big mag (suc b) x) (T-not (big mag (suc b) x) n))
 
   -- the three statements that are proved together, by the fuel
   abbrev S0 : ℕ → Type 0
@@ -262,8 +262,8 @@ module _ (z : Size) (mag : ℕ → ℕ) (neg : ℕ → Bool) (b : ℕ) where
       (λ x. cst c x) m ((set-step z mag neg b m c) .1) c (cond (bit (mag c) b) 2 1) (now-alone p c (suc p) g k y)
       ((coded-step m c (kid-mark p c m e l y y′ g k w)) .1) w)
     where
-      small : T (not (big z mag (suc b) c))
-      small = not-T (big z mag (suc b) c) (λ t. T-not (split-desc z mag (suc b) p) y′ (child-splits z mag (suc b) p c (omega arith) l g k t))
+      small : T (not (big mag (suc b) c))
+      small = not-T (big mag (suc b) c) (λ t. T-not (split-desc z mag (suc b) p) y′ (child-splits z mag (suc b) p c (omega arith) l g k t))
 
       value : cond (bit (mag c) b) 2 1 ≡ found z mag b c
       value = found-new c small

@@ -54,16 +54,16 @@ module _ (z : Size) where
   unfoldable pub open-grand : Table → ℕ → Table
   open-grand m i = pushed (pushed (pushed (pushed m i) (i + 4)) (i + 8)) (i + 12)
 
+unfoldable pub pixel-step : (ℕ → ℕ) → (ℕ → Bool) → ℕ → Table → ℕ → Step
+pixel-step mag neg b m i =
+    cond (eqb (m i) 1) (coded mag neg b i, cond (bit (mag i) b) (put m i 2) m, suc i) ([], m, i + skip (m i))
+
+unfoldable pub refine-step : (ℕ → ℕ) → ℕ → Table → ℕ → Step
+refine-step mag b m i =
+    cond (eqb (m i) 3) (bit (mag i) b ∷ [], m, suc i)
+    (cond (eqb (m i) 2) ([], put m i 3, suc i) ([], m, i + skip (m i)))
+
 module _ (z : Size) (mag : ℕ → ℕ) (neg : ℕ → Bool) (b : ℕ) where
-  unfoldable pub pixel-step : Table → ℕ → Step
-  pixel-step m i =
-      cond (eqb (m i) 1) (coded mag neg b i, cond (bit (mag i) b) (put m i 2) m, suc i) ([], m, i + skip (m i))
-
-  unfoldable pub refine-step : Table → ℕ → Step
-  refine-step m i =
-      cond (eqb (m i) 3) (bit (mag i) b ∷ [], m, suc i)
-      (cond (eqb (m i) 2) ([], put m i 3, suc i) ([], m, i + skip (m i)))
-
   unfoldable pub set-step : Table → ℕ → Step
   set-step m i =
       cond (eqb (m i) 5)

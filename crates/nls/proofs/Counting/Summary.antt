@@ -59,7 +59,7 @@ tree-big n (suc d) g h e i =
     (λ c. or-big n (g c) (or-tree d g c) ∙ rw (e c, tree-big n d g h e c) (sym (pos-add (h c) (tree d h c))))
 
 module _ (z : Size) (mag : ℕ → ℕ) where
-  within-big : (n c : ℕ) → leb (2 ^ n) (within z mag c) ≡ ltb 0 (within z (λ k. ι (big z mag n k)) c)
+  within-big : (n c : ℕ) → leb (2 ^ n) (within z mag c) ≡ ltb 0 (within z (λ k. ι (big mag n k)) c)
   unfolding within big
   within-big n c = tell (ltb c (I z)) (leb (2 ^ n) (mag c)) refl
     where
@@ -70,11 +70,11 @@ module _ (z : Size) (mag : ℕ → ℕ) where
 
   pub desc-summary : (n i : ℕ) → leb (2 ^ n) (or-desc z mag i) ≡ split-desc z mag n i
   unfolding or-desc split-desc desc
-  desc-summary n i = tree-big n (z .deep) (within z mag) (within z (λ k. ι (big z mag n k))) (within-big n) i
+  desc-summary n i = tree-big n (z .deep) (within z mag) (within z (λ k. ι (big mag n k))) (within-big n) i
 
   pub grand-summary : (n i : ℕ) → leb (2 ^ n) (or-grand z mag i) ≡ split-grand z mag n i
   unfolding or-grand split-desc split-grand grand
-  grand-summary n i = join-big n (4 * i) 4 (λ c. or-desc z mag c) (λ c. desc z (λ k. ι (big z mag n k)) c) (λ c. desc-summary n c)
+  grand-summary n i = join-big n (4 * i) 4 (λ c. or-desc z mag c) (λ c. desc z (λ k. ι (big mag n k)) c) (λ c. desc-summary n c)
 
 -- below 2 ^ (b + 1), bit b of a number says whether it is at least 2 ^ b
 pub top-bit : (b x : ℕ) → leb (2 ^ suc b) x ≡ false → eqb (x / 2 ^ b % 2) 1 ≡ leb (2 ^ b) x

@@ -65,9 +65,9 @@ module _ (z : Size) (mag : ℕ → ℕ) (neg : ℕ → Bool) where
   -- one plane: the three passes
   unfoldable pub scan-plane : ℕ → Table → (List Bool) × Table
   scan-plane b m =
-      let one = go z (pixel-step z mag neg b) (I z) m 0 in
+      let one = go z (pixel-step mag neg b) (I z) m 0 in
       let two = go z (set-step z mag neg b) (z .e + 12 * Q z) (one .1) 0 in
-      let three = go z (refine-step z mag neg b) (I z) (two .1) 0 in
+      let three = go z (refine-step mag b) (I z) (two .1) 0 in
       (one .0 ++ (two .0 ++ three .0), three .1)
 
   pub plane-scan : (b : ℕ) (m : Table) → Marks z (split-desc z mag (suc b)) (split-grand z mag (suc b)) (λ x. rest z mag (suc b) x) m
@@ -75,22 +75,22 @@ module _ (z : Size) (mag : ℕ → ℕ) (neg : ℕ → Bool) where
   unfolding scan-plane plane
   plane-scan b m w =
       let p1 = pixel-pass z mag neg b m w in
-      let p2 = set-pass z mag neg b ((go z (pixel-step z mag neg b) (I z) m 0) .1) (p1 .1) in
-      let p3 = refine-pass z mag neg b ((go z (set-step z mag neg b) (z .e + 12 * Q z) ((go z (pixel-step z mag neg b) (I z) m 0) .1) 0) .1) (p2 .1) in
+      let p2 = set-pass z mag neg b ((go z (pixel-step mag neg b) (I z) m 0) .1) (p1 .1) in
+      let p3 = refine-pass z mag neg b ((go z (set-step z mag neg b) (z .e + 12 * Q z) ((go z (pixel-step mag neg b) (I z) m 0) .1) 0) .1) (p2 .1) in
       (rw (p1 .0, p2 .0, p3 .0), p3 .1)
 
   module _ (n : ℕ) (small : (i : ℕ) → i < I z → mag i < 2 ^ n) where
-    no-big : (x : ℕ) → x < I z → big z mag n x ≡ false
+    no-big : (x : ℕ) → x < I z → big mag n x ≡ false
     unfolding big
     no-big x u = lt-leb (2 ^ n) (mag x) (small x u)
 
     no-desc : (y : ℕ) → split-desc z mag n y ≡ false
     unfolding split-desc
-    no-desc y = rw (desc-zero z (λ c. ι (big z mag n c)) (none-big z mag n small) y)
+    no-desc y = rw (desc-zero z (λ c. ι (big mag n c)) (none-big z mag n small) y)
 
     no-grand : (y : ℕ) → split-grand z mag n y ≡ false
     unfolding split-grand
-    no-grand y = rw (grand-zero z (λ c. ι (big z mag n c)) (none-big z mag n small) y)
+    no-grand y = rw (grand-zero z (λ c. ι (big mag n c)) (none-big z mag n small) y)
 
     low : (x : ℕ) (t : Bool) → t ≡ false → T (ltb x (D z) || t) → x < D z
     low x t e h = ltb→lt x (D z) (or-no (ltb x (D z)) t e h)

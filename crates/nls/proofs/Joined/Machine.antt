@@ -64,12 +64,12 @@ module _ (z : Size) (full : I z ≡ 4 ^ z .deep) (A : Arr) (b : ℕ) where
   past-end i h = le-ltb i K (omega (arith, h, full))
 
   pixels-lead : (l : List ℕ) → Low l
-      → Leads N B (suc b) (at (suc b) pixels 0 l) ((go-l z (pixel-l z (A .mag) (A .neg) b) (I z) l 0) .0) (at (suc b) sets 0 ((go-l z (pixel-l z (A .mag) (A .neg) b) (I z) l 0) .1))
-      × Low ((go-l z (pixel-l z (A .mag) (A .neg) b) (I z) l 0) .1)
+      → Leads N B (suc b) (at (suc b) pixels 0 l) ((go-l z (pixel-l (A .mag) (A .neg) b) (I z) l 0) .0) (at (suc b) sets 0 ((go-l z (pixel-l (A .mag) (A .neg) b) (I z) l 0) .1))
+      × Low ((go-l z (pixel-l (A .mag) (A .neg) b) (I z) l 0) .1)
   pixels-lead l w =
-      let o : (List Bool) × (List ℕ) = go-l z (pixel-l z (A .mag) (A .neg) b) (I z) l 0 in
+      let o : (List Bool) × (List ℕ) = go-l z (pixel-l (A .mag) (A .neg) b) (I z) l 0 in
       let r : Went z A b pixels (at (suc b) pixels 0 l) o =
-      pass-leads pixels (pixel-l z (A .mag) (A .neg) b) (λ l i. I z - i) (λ l i u w. visit-pixel z full A b l i u) (low-pixel z (A .mag) (A .neg) b)
+      pass-leads pixels (pixel-l (A .mag) (A .neg) b) (λ l i. I z - i) (λ l i u w. visit-pixel z full A b l i u) (low-pixel z (A .mag) (A .neg) b)
       (λ l i u w. falls-pixel z (A .mag) (A .neg) b l i u) (I z) l 0 (omega arith) w in
       (leads-hushed N B (suc b) (at (suc b) pixels 0 l) (at (suc b) pixels (r .to) (o .1)) (at (suc b) sets 0 (o .1)) (o .0) (r .leads) (rw (past-end (r .to) (r .past))), r .low)
 
@@ -84,12 +84,12 @@ module _ (z : Size) (full : I z ≡ 4 ^ z .deep) (A : Arr) (b : ℕ) where
       (leads-hushed N B (suc b) (at (suc b) sets 0 l) (at (suc b) sets (r .to) (o .1)) (at (suc b) refining 0 (o .1)) (o .0) (r .leads) (rw (past-end (r .to) (r .past))), r .low)
 
   fines-lead : (l : List ℕ) → Low l
-      → Leads N B (suc b) (at (suc b) refining 0 l) ((go-l z (refine-l z (A .mag) (A .neg) b) (I z) l 0) .0) (at b pixels 0 ((go-l z (refine-l z (A .mag) (A .neg) b) (I z) l 0) .1))
-      × Low ((go-l z (refine-l z (A .mag) (A .neg) b) (I z) l 0) .1)
+      → Leads N B (suc b) (at (suc b) refining 0 l) ((go-l z (refine-l (A .mag) b) (I z) l 0) .0) (at b pixels 0 ((go-l z (refine-l (A .mag) b) (I z) l 0) .1))
+      × Low ((go-l z (refine-l (A .mag) b) (I z) l 0) .1)
   fines-lead l w =
-      let o : (List Bool) × (List ℕ) = go-l z (refine-l z (A .mag) (A .neg) b) (I z) l 0 in
+      let o : (List Bool) × (List ℕ) = go-l z (refine-l (A .mag) b) (I z) l 0 in
       let r : Went z A b refining (at (suc b) refining 0 l) o =
-      pass-leads refining (refine-l z (A .mag) (A .neg) b) (λ l i. I z - i) (λ l i u w. visit-refine z full A b l i u) (low-refine z (A .mag) (A .neg) b)
+      pass-leads refining (refine-l (A .mag) b) (λ l i. I z - i) (λ l i u w. visit-refine z full A b l i u) (low-refine z (A .mag) (A .neg) b)
       (λ l i u w. falls-refine z (A .mag) (A .neg) b l i u) (I z) l 0 (omega arith) w in
       (leads-hushed N B (suc b) (at (suc b) refining 0 l) (at (suc b) refining (r .to) (o .1)) (at b pixels 0 (o .1)) (o .0) (r .leads) (rw (past-end (r .to) (r .past))), r .low)
 
@@ -99,9 +99,9 @@ module _ (z : Size) (full : I z ≡ 4 ^ z .deep) (A : Arr) (b : ℕ) where
       × Low ((scan-plane-l z (A .mag) (A .neg) b l) .1)
   unfolding scan-plane-l
   plane-leads l w =
-      let o1 : (List Bool) × (List ℕ) = go-l z (pixel-l z (A .mag) (A .neg) b) (I z) l 0 in
+      let o1 : (List Bool) × (List ℕ) = go-l z (pixel-l (A .mag) (A .neg) b) (I z) l 0 in
       let o2 : (List Bool) × (List ℕ) = go-l z (set-l z (A .mag) (A .neg) b) (z .e + 12 * Q z) (o1 .1) 0 in
-      let o3 : (List Bool) × (List ℕ) = go-l z (refine-l z (A .mag) (A .neg) b) (I z) (o2 .1) 0 in
+      let o3 : (List Bool) × (List ℕ) = go-l z (refine-l (A .mag) b) (I z) (o2 .1) 0 in
       let r1 = pixels-lead l w in
       let r2 = sets-lead (o1 .1) (r1 .1) in
       let r3 = fines-lead (o2 .1) (r2 .1) in (
@@ -131,9 +131,9 @@ unfolding scan-plane-l W.scan-plane
 plane-list z mag neg b l h =
     let m : Table = λ y. getD l y 0 in
     let r : Rep z l m = record { long = h .long; same = λ y u. refl } in
-    let one = like-go z (pixel-l z mag neg b) (C.pixel-step z mag neg b) (like-pixel z mag neg b) (I z) l m 0 r in
+    let one = like-go z (pixel-l mag neg b) (C.pixel-step mag neg b) (like-pixel z mag neg b) (I z) l m 0 r in
     let two = like-go z (set-l z mag neg b) (C.set-step z mag neg b) (like-set z mag neg b) (z .e + 12 * Q z) _ _ 0 (one .1) in
-    let three = like-go z (refine-l z mag neg b) (C.refine-step z mag neg b) (like-refine z mag neg b) (I z) _ _ 0 (two .1) in
+    let three = like-go z (refine-l mag b) (C.refine-step mag b) (like-refine z mag neg b) (I z) _ _ 0 (two .1) in
     let w = W.plane-scan z mag neg b m (h .marks) in
     (rw (one .0, two .0, three .0) (w .0), (three .1) .long, marks-rep z (split-desc z mag b) (split-grand z mag b) (λ x. rest z mag b x) _ _ (three .1) (w .1))
 

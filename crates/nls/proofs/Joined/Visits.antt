@@ -131,7 +131,7 @@ module _ (z : Size) where
       -- what is kept: nothing but coefficients at place 0
 
 module _ (z : Size) (mag : ℕ → ℕ) (neg : ℕ → Bool) (b : ℕ) where
-  pub low-pixel : (l : List ℕ) (i : ℕ) → Low l → Low ((pixel-l z mag neg b l i) .1)
+  pub low-pixel : (l : List ℕ) (i : ℕ) → Low l → Low ((pixel-l mag neg b l i) .1)
   unfolding pixel-l
   low-pixel l i w = go (eqb (getD l i 0) 1) (bit (mag i) b)
     where
@@ -140,7 +140,7 @@ module _ (z : Size) (mag : ℕ → ℕ) (neg : ℕ → Bool) (b : ℕ) where
       go true false = w
       go false t = w
 
-  pub low-refine : (l : List ℕ) (i : ℕ) → Low l → Low ((refine-l z mag neg b l i) .1)
+  pub low-refine : (l : List ℕ) (i : ℕ) → Low l → Low ((refine-l mag b l i) .1)
   unfolding refine-l
   low-refine l i w = go (eqb (getD l i 0) 3) (eqb (getD l i 0) 2)
     where
@@ -166,7 +166,7 @@ module _ (z : Size) (mag : ℕ → ℕ) (neg : ℕ → Bool) (b : ℕ) where
       go false e false q false h k t = w
 
   -- what falls
-  pub falls-pixel : (l : List ℕ) (i : ℕ) → i < I z → I z - (pixel-l z mag neg b l i) .2 < I z - i
+  pub falls-pixel : (l : List ℕ) (i : ℕ) → i < I z → I z - (pixel-l mag neg b l i) .2 < I z - i
   unfolding pixel-l
   falls-pixel l i h = go (eqb (getD l i 0) 1)
     where
@@ -174,7 +174,7 @@ module _ (z : Size) (mag : ℕ → ℕ) (neg : ℕ → Bool) (b : ℕ) where
       go true = omega arith
       go false = omega (arith, skip-same (getD l i 0), skip-pos (getD l i 0))
 
-  pub falls-refine : (l : List ℕ) (i : ℕ) → i < I z → I z - (refine-l z mag neg b l i) .2 < I z - i
+  pub falls-refine : (l : List ℕ) (i : ℕ) → i < I z → I z - (refine-l mag b l i) .2 < I z - i
   unfolding refine-l
   falls-refine l i h = go (eqb (getD l i 0) 3) (eqb (getD l i 0) 2)
     where
@@ -249,7 +249,7 @@ module _ (z : Size) (full : I z ≡ 4 ^ z .deep) (A : Arr) (b : ℕ) where
   abbrev pub Visit : Pass → List ℕ → ℕ → LStep → Type 0
   Visit p l i o = Leads N B (suc b) (at (suc b) p i l) (o .0) (at (suc b) p (o .2) (o .1))
 
-  pub visit-pixel : (l : List ℕ) (i : ℕ) → i < I z → Visit pixels l i (pixel-l z (A .mag) (A .neg) b l i)
+  pub visit-pixel : (l : List ℕ) (i : ℕ) → i < I z → Visit pixels l i (pixel-l (A .mag) (A .neg) b l i)
   unfolding pixel-l coded
   visit-pixel l i h = go (eqb (getD l i 0) 1) refl (bit (A .mag i) b) refl
     where
@@ -267,7 +267,7 @@ module _ (z : Size) (full : I z ≡ 4 ^ z .deep) (A : Arr) (b : ℕ) where
           leads-at N B (suc b) (at (suc b) pixels i l) [] (suc b) pixels (i + skip (getD l i 0)) (i + C.skip (getD l i 0)) l l (ap (λ (x : ℕ). i + x) (sym (skip-same (getD l i 0)))) refl
           (leads-hush N B (suc b) (at (suc b) pixels i l) (at (suc b) pixels (i + skip (getD l i 0)) l) lk)
 
-  pub visit-refine : (l : List ℕ) (i : ℕ) → i < I z → Visit refining l i (refine-l z (A .mag) (A .neg) b l i)
+  pub visit-refine : (l : List ℕ) (i : ℕ) → i < I z → Visit refining l i (refine-l (A .mag) b l i)
   unfolding refine-l
   visit-refine l i h = go (eqb (getD l i 0) 3) refl (eqb (getD l i 0) 2) refl
     where

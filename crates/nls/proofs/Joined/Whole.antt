@@ -106,8 +106,8 @@ module _ (N L : ℕ) (b : 1 ≤ L) (c : L < N) where
     bigs-fall : (k : ℕ) → bigs z (A .mag) (suc k) ≤ bigs z (A .mag) k
     unfolding bigs
     bigs-fall k =
-        sum-le 0 (I z) (λ i. ι (big z (A .mag) (suc k) i)) (λ i. ι (big z (A .mag) k i))
-        (λ i u v. ι-mono (big z (A .mag) (suc k) i) (big z (A .mag) k i) (big-mono z (A .mag) k i))
+        sum-le 0 (I z) (λ i. ι (big (A .mag) (suc k) i)) (λ i. ι (big (A .mag) k i))
+        (λ i u v. ι-mono (big (A .mag) (suc k) i) (big (A .mag) k i) (big-mono z (A .mag) k i))
 
     -- the parts after it, the sets split in it, the coefficients found in it
     pub plane-by-plane : (k : ℕ) → k < P
