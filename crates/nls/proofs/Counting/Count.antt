@@ -3,15 +3,16 @@ use Prim.Native.Nat.{ℕ, zero, suc, _+_, _*_, _-_, _^_, _/_, _%_, _≤_, _<_}
 use mathlib.Core.Path.{_≡_, refl, ap, sym, _∙_}
 use mathlib.Core.Bool.{Bool, true, false, not, _&&_, _||_, cond, and-false}
 use mathlib.Core.List.{List, [], _∷_, _++_}
-use native.Mathlib.Nat.{le-trans, zero-add, pow-succ', div-eq-of-lt, div-eq-of-lt-le}
+use native.Mathlib.Nat.{le-trans, zero-add, pow-succ'}
 use native.Mathlib.Omega.{arith}
-use borrow.Author.Tests.{lt-ltb, le-ltb, leb-true, leb-false, le-leb, lt-leb, ne-eqb}
-use lib.Dec.{T, ltb, leb, eqb, leb→le, le→leb, ltb→lt, lt→ltb, nleb→lt, nltb→le, T-not, not-T}
+use borrow.Author.Tests.{lt-ltb, le-ltb, le-leb, lt-leb, ne-eqb}
+use lib.Dec.{T, ltb, leb, eqb, leb→le, le→leb, ltb→lt, lt→ltb, nltb→le, T-not, not-T}
 use lib.ListN.{length, length-append}
 use Rattle.bits.specs.Bits.{bit}
+use Rattle.nls.proofs.Booleans.{T-false}
 use Rattle.nls.proofs.Counting.Sums.{sum, each, each-length, sum-cong, sum-add, sum-at, sum-four, sum-last, sum-tail, sum-first, sum-two, sum-four-two, by-four}
 use Rattle.nls.proofs.Counting.Tree.{Size, D, Q, I, desc, grand, child-le, desc-le, grand-le, desc-mono, grand-mono}
-use Rattle.nls.proofs.Counting.Parts.{ι, over-desc, over-grand, over-all, big, split-desc, split-grand, alone, stands-desc, stands-grand, parts, splits, bigs, coded, pixel, refine, test-grand, test-desc, children, group, plane, body}
+use Rattle.nls.proofs.Counting.Parts.{ι, over-desc, over-grand, over-all, big, split-desc, split-grand, alone, stands-desc, stands-grand, parts, splits, bigs, coded, pixel, refine, test-grand, test-desc, children, group, plane, body, top-bit}
 
 -- tests and numbers
 T→1 : (t : Bool) → T t → 1 ≤ ι t
@@ -73,6 +74,11 @@ cond-cong false m n h = refl
 pub and-right : (s t : Bool) → T (s && t) → T t
 and-right true t h = h
 and-right false t h = absurd h
+
+-- below 2 ^ (b + 1), bit b says whether a magnitude is at least 2 ^ b
+pub bit-big : (mag : ℕ → ℕ) (b i : ℕ) → T (not (big mag (suc b) i)) → bit (mag i) b ≡ big mag b i
+unfolding big
+bit-big mag b i t = top-bit b (mag i) (T-false (leb (2 ^ suc b) (mag i)) (T-not (leb (2 ^ suc b) (mag i)) t))
 
 module _ (z : Size) (mag : ℕ → ℕ) where
   pub big-mono : (b i : ℕ) → T (big mag (suc b) i) → T (big mag b i)
@@ -151,25 +157,11 @@ module _ (z : Size) (mag : ℕ → ℕ) where
   grand-at b i p q =
       test-law (split-desc z mag b i) (split-grand z mag b i) (split-grand z mag (suc b) i) (grand-shrinks b i) (grand-splits b i p q)
 
-  -- below 2 ^ (b + 1), bit b says whether a magnitude is at least 2 ^ b
+  -- the numbers of bits
   module _ (neg : ℕ → Bool) where
-    pub bit-big : (b i : ℕ) → T (not (big mag (suc b) i)) → bit (mag i) b ≡ big mag b i
-    unfolding big bit
-    bit-big b i t =
-        let less : mag i < 2 ^ suc b = nleb→lt (2 ^ suc b) (mag i) t in
-        go less (leb (2 ^ b) (mag i)) refl
-      where
-        go : mag i < 2 ^ suc b → (s : Bool) → leb (2 ^ b) (mag i) ≡ s → eqb (mag i / 2 ^ b % 2) 1 ≡ leb (2 ^ b) (mag i)
-        go less true e =
-            let one : mag i / 2 ^ b ≡ 1 = div-eq-of-lt-le (2 ^ b) (omega (arith, leb-true (2 ^ b) (mag i) e)) (omega (arith, pow-succ' 2 b)) in
-            rw (e, one)
-        go less false e =
-            let none : mag i / 2 ^ b ≡ 0 = div-eq-of-lt (leb-false (2 ^ b) (mag i) e) in
-            rw (e, none)
-
     coded-length : (b i : ℕ) → T (not (big mag (suc b) i)) → length (coded mag neg b i) ≡ suc (ι (big mag b i))
     unfolding coded
-    coded-length b i t = rw (bit-big b i t) (ap suc (go (big mag b i)))
+    coded-length b i t = rw (bit-big mag b i t) (ap suc (go (big mag b i)))
       where
         go : (s : Bool) → length (cond s (neg i ∷ []) []) ≡ ι s
         go true = refl

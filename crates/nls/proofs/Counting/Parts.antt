@@ -4,6 +4,10 @@ use mathlib.Core.Bool.{Bool, true, false, not, _&&_, _||_, cond}
 use mathlib.Core.List.{List, [], _∷_, _++_}
 use lib.Dec.{ltb, leb, eqb}
 use Rattle.bits.specs.Bits.{bit}
+use mathlib.Core.Path.{_≡_, refl}
+use native.Mathlib.Nat.{pow-succ', div-eq-of-lt, div-eq-of-lt-le}
+use native.Mathlib.Omega.{arith}
+use borrow.Author.Tests.{leb-true, leb-false}
 use Rattle.nls.proofs.Counting.Sums.{sum, each}
 use Rattle.nls.proofs.Counting.Tree.{Size, D, Q, I, desc, grand}
 
@@ -21,6 +25,17 @@ over-grand z f = sum (z .e) (z .j - z .e) f
 
 abbrev pub over-all : Size → (ℕ → ℕ) → ℕ
 over-all z f = sum 0 (I z) f
+
+-- below 2 ^ (b + 1), bit b of a number says whether it is at least 2 ^ b
+pub top-bit : (b x : ℕ) → leb (2 ^ suc b) x ≡ false → bit x b ≡ leb (2 ^ b) x
+unfolding bit
+top-bit b x h = tell (leb (2 ^ b) x) refl
+  where
+    tell : (s : Bool) → leb (2 ^ b) x ≡ s → eqb (x / 2 ^ b % 2) 1 ≡ leb (2 ^ b) x
+    tell true e =
+        let one : x / 2 ^ b ≡ 1 = div-eq-of-lt-le (2 ^ b) (omega (arith, leb-true (2 ^ b) x e)) (omega (arith, leb-false (2 ^ suc b) x h, pow-succ' 2 b)) in
+        rw (e, one)
+    tell false e = let none : x / 2 ^ b ≡ 0 = div-eq-of-lt (leb-false (2 ^ b) x e) in rw (e, none)
 
 -- bit b of a magnitude, and after a 1 the sign
 unfoldable pub coded : (ℕ → ℕ) → (ℕ → Bool) → ℕ → ℕ → List Bool

@@ -69,7 +69,7 @@ module _ (z : Size) (mag : ℕ → ℕ) where
             rw (v, e, here) (refl, λ y. same-mark m x 3 y v, add-one x)
         tell false e =
             let v : m x ≡ 1 = rw e at h in
-            rw (v, e, here, bit-big z mag neg b x (of-false (big mag (suc b) x) e)) (refl, λ y. marked m x v (big mag b x) y, refl)
+            rw (v, e, here, bit-big mag b x (of-false (big mag (suc b) x) e)) (refl, λ y. marked m x v (big mag b x) y, refl)
 
     pixel-run : (m : Table) (x : ℕ) (s : Bool) (k : ℕ) → 1 ≤ k → (T s → 2 ≤ k) → m x ≡ code s k
         → ((pixel-step mag neg b m x) .0 ≡ []) × ((pixel-step mag neg b m x) .1 ≡ m) × ((pixel-step mag neg b m x) .2 ≡ x + 4 ^ k)

@@ -220,7 +220,7 @@ module _ (z : Size) (mag : ℕ → ℕ) (neg : ℕ → Bool) (b : ℕ) where
 
   found-new : (x : ℕ) → T (not (big mag (suc b) x)) → cond (bit (mag x) b) 2 1 ≡ found z mag b x
   unfolding found
-  found-new x n = rw (bit-big z mag neg b x n, T-false (big mag (suc b) x) (T-not (big mag (suc b) x) n))
+  found-new x n = rw (bit-big mag b x n, T-false (big mag (suc b) x) (T-not (big mag (suc b) x) n))
 
   -- the three statements that are proved together, by the fuel
   abbrev S0 : ℕ → Type 0

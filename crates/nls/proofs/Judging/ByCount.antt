@@ -312,7 +312,7 @@ module _ (N : ℕ) {D : ℕ} (P : ℕ) (sz : Tiled D (4 ^ N)) where
   counts n i hit te (inl t) = ((λ e. t .0), λ e. eq-eqb n (D + 3 * D / 4 - 1) (omega (arith, t .1)))
   counts n i hit te (inr t) = ((λ e. absurd (omega (arith, t .1, eqb-true n (D + 3 * D / 4 - 1) e))), λ e. absurd (true≢false (sym e ∙ ap not (t .0))))
 
-  module _ (A : Bits) (va : Valid II P A) (u : List Bool) (f : Fit N A (start II D P) u) (k w : Bits) (O : Question → Type 0) (nb : lit u ≡ false → Blank N P sz k)
+  module _ (A : Bits) (va : Valid II P A) (u : List Bool) (f : Fit N A (start II D P) u) (k w : Bits) (O : Question → Type 0) (nb : lit u ≡ false → Blank k)
       (ow : (p : Question) → Owed N (start II D P) u p → O p) where
     ok : (b i : ℕ) (m : List ℕ) → All-at N P sz A false k w O (suc b) sets i false m → Good-at sz P (F1 (Fl u ⊥)) (suc b) sets i false m → J-at N P sz (length u) (lit u) (suc b) sets i false m
         → getD m i 0 ≡ 5 → i + 4 ≡ 4 * D → suc b ≡ P → eqb (length u) (D + 3 * D / 4 - 1) ≡ true → None D i m
@@ -337,8 +337,8 @@ module _ (N : ℕ) {D : ℕ} (P : ℕ) (sz : Tiled D (4 ^ N)) where
 
   both-of : (u : List Bool) → (w : Some N P sz u) → (count-st II D P (length u) ((reach (4 ^ N) S u) .left) ((reach (4 ^ N) S u) .pass) ((reach (4 ^ N) S u) .place) ((reach (4 ^ N) S u) .pending) ((reach (4 ^ N) S u) .marks) ≡ true → Clashes N P sz (reach (4 ^ N) S u))
       × (Clashes N P sz (reach (4 ^ N) S u) → count-st II D P (length u) ((reach (4 ^ N) S u) .left) ((reach (4 ^ N) S u) .pass) ((reach (4 ^ N) S u) .place) ((reach (4 ^ N) S u) .pending) ((reach (4 ^ N) S u) .marks) ≡ true)
-  both-of u w = both-at (w .0) (w .1) u (w .2) (least N S u nothing) (most N S u (record { has = λ i b. ltb b P; neg = λ i. false })) (Owing N P sz (w .0) false S u (λ p. ⊥))
-      (λ h. blank-run N P sz S u nothing h (λ j e y. false≢true y)) (λ p o. owing N P sz (w .0) false S u (λ p. ⊥) p o)
+  both-of u w = both-at (w .0) (w .1) u (w .2) (least N S u nothing) (most N S u (record { has = λ i b. ltb b P; neg = λ i. false })) (Owing N S u (λ p. ⊥))
+      (λ h. blank-run N S u nothing h (λ j e y. false≢true y)) (λ p o. owing N P sz (w .0) false S u (λ p. ⊥) p o)
       ((reach (4 ^ N) S u) .left) ((reach (4 ^ N) S u) .pass) ((reach (4 ^ N) S u) .place) ((reach (4 ^ N) S u) .pending) ((reach (4 ^ N) S u) .marks)
       (z N P sz (w .0) u (w .2)) (g1 N P sz (w .0) u (w .2)) (tally N P sz (w .0) (w .1) u (w .2))
 

@@ -20,12 +20,6 @@ module _ (D I P : ℕ) where
     pub op : (j : ℕ) → alone D I c j ≡ true → c .al j ≡ 3 → z ≤ j → w .has j b ≡ true
     pub ng : (j : ℕ) → (alone D I c j ≡ true → 2 ≤ c .al j → c .al j ≤ 3 → ⊥) → w .neg j ≡ v
 
-  -- O, what was answered 1: sets are split since, in plane lo or before; none of their bits was known then
-  pub record Debt (O : Question → Type 0) (k : Bits) (b lo z : ℕ) (c : Cfg) : Type 0 where
-    pub oD : (h e : ℕ) → O (inDesc h e) → (c .sD h ≡ true) × (lo ≤ e) × ((j x : ℕ) → j < I → Under h j → k .has j x ≡ true → x ≤ e)
-    pub oG : (q e : ℕ) → O (inGrand q e) → (c .sG q ≡ true) × (lo ≤ e) × ((j x : ℕ) → j < I → Under q (j / 4) → k .has j x ≡ true → x ≤ e)
-    pub oO : (j e : ℕ) → O (bitOf j e) → (k .has j e ≡ true) × (b ≤ e) × (e ≡ b → c .al j ≡ 3 → j < z) × (j < I)
-
   -- w, z change, the split sets do not
   pub hold-w : (w w′ : Bits) (v : Bool) (b z z′ : ℕ) (c : Cfg) → Hold w v b z c → z ≤ z′ → ((j e : ℕ) → e < b → w .has j e ≡ true → w′ .has j e ≡ true)
       → ((j : ℕ) → alone D I c j ≡ true → c .al j ≡ 3 → z′ ≤ j → w .has j b ≡ true → w′ .has j b ≡ true) → ((j : ℕ) → w′ .neg j ≡ w .neg j) → Hold w′ v b z′ c
@@ -89,6 +83,13 @@ module _ (D I P : ℕ) where
     op = λ j a x h. p .low j b₀ (omega arith);
     ng = p .ng;
   }
+
+module _ (I : ℕ) where
+  -- O, what was answered 1: sets are split since, in plane lo or before; none of their bits was known then
+  pub record Debt (O : Question → Type 0) (k : Bits) (b lo z : ℕ) (c : Cfg) : Type 0 where
+    pub oD : (h e : ℕ) → O (inDesc h e) → (c .sD h ≡ true) × (lo ≤ e) × ((j x : ℕ) → j < I → Under h j → k .has j x ≡ true → x ≤ e)
+    pub oG : (q e : ℕ) → O (inGrand q e) → (c .sG q ≡ true) × (lo ≤ e) × ((j x : ℕ) → j < I → Under q (j / 4) → k .has j x ≡ true → x ≤ e)
+    pub oO : (j e : ℕ) → O (bitOf j e) → (k .has j e ≡ true) × (b ≤ e) × (e ≡ b → c .al j ≡ 3 → j < z) × (j < I)
 
   pub debt-c : (O : Question → Type 0) (k : Bits) (b lo lo′ z z′ : ℕ) (c c′ : Cfg) → Debt O k b lo z c → lo′ ≤ lo → ((h : ℕ) → c .sD h ≡ true → c′ .sD h ≡ true) → ((h : ℕ) → c .sG h ≡ true → c′ .sG h ≡ true)
       → ((j : ℕ) → c′ .al j ≡ 3 → (c .al j ≡ 3 → j < z) → j < z′) → Debt O k b lo′ z′ c′

@@ -31,6 +31,10 @@ sibling : (h g g′ : ℕ) → g′ / 4 ≡ g / 4 → Under h g → Under h g′
 sibling h g g′ e (kid z) = kid (e ∙ z)
 sibling h g g′ e (far u) = far (subst (λ (x : ℕ). Under h x) (sym e) u)
 
+-- Some place of the question is open
+abbrev pub Open1 : ℕ → Bits → ℕ → (ℕ → Type 0) → Type 0
+Open1 N W b In = (j : ℕ) × (j < 4 ^ N) × In j × (W .has j b ≡ true)
+
 module _ (N : ℕ) {D : ℕ} (P : ℕ) (sz : Tiled D (4 ^ N)) where
   abbrev I : ℕ
   I = 4 ^ N
@@ -41,10 +45,6 @@ module _ (N : ℕ) {D : ℕ} (P : ℕ) (sz : Tiled D (4 ^ N)) where
     pub eD : (h x : ℕ) → O (inDesc h b) → Under h x → In x → (j : ℕ) × (j < I) × Under h j × (W .has j b ≡ true) × (In j → ⊥) × (1 ≤ h)
     pub eG : (h x : ℕ) → O (inGrand h b) → Under h (x / 4) → In x → (j : ℕ) × (j < I) × Under h (j / 4) × (W .has j b ≡ true) × (In j → ⊥) × (1 ≤ h)
     pub eT : suc b ≡ P → (j : ℕ) × (j < I) × (W .has j b ≡ true) × (In j → ⊥)
-
-  -- Some place of the question is open
-  abbrev pub Open1 : Bits → ℕ → (ℕ → Type 0) → Type 0
-  Open1 W b In = (j : ℕ) × (j < I) × In j × (W .has j b ≡ true)
 
   -- what is inside a set that stands is not split
   module _ (c : Cfg) (o : Ok D I c) where
@@ -74,7 +74,7 @@ module _ (N : ℕ) {D : ℕ} (P : ℕ) (sz : Tiled D (4 ^ N)) where
           low : suc b ≡ P → D ≡ t → (x : Bool) → alone D I c t ≡ x → ⊥
           low e q x z = true≢false (sym (it-p .0) ∙ alone-no D I c t (omega arith) (p .np e (t / 4)))
 
-      pub open-pix : Open1 W b (λ j. j ≡ t)
+      pub open-pix : Open1 N W b (λ j. j ≡ t)
       open-pix = (t, ti, refl, p .fr .todo t ti (λ l u z. omega arith))
 
     -- the refinement pass
@@ -93,7 +93,7 @@ module _ (N : ℕ) {D : ℕ} (P : ℕ) (sz : Tiled D (4 ^ N)) where
         eT = λ e. absurd (omega (arith, was .1, cap t (was .0) (k⊑W t (was .0) (was .2))));
       }
 
-      pub open-fine : Open1 W b (λ j. j ≡ t)
+      pub open-fine : Open1 N W b (λ j. j ≡ t)
       open-fine = (t, ti, refl, p .ho .op t (it-f .0) (it-f .1 ∙ mk) (omega arith))
 
     -- the set pass
@@ -137,7 +137,7 @@ module _ (N : ℕ) {D : ℕ} (P : ℕ) (sz : Tiled D (4 ^ N)) where
             inD h j (kid z) v = subst (λ (y : ℕ). Under y j) z v
             inD h j (far u) v = under-trans h (t / 4) j u v
 
-        pub open-C : Open1 W b (λ j. j ≡ t)
+        pub open-C : Open1 N W b (λ j. j ≡ t)
         open-C = (t, ti, refl, p .fr .f4 t ti mk)
 
       -- MD
@@ -202,7 +202,7 @@ module _ (N : ℕ) {D : ℕ} (P : ℕ) (sz : Tiled D (4 ^ N)) where
             doT e (yes z) = room-root N P sz W k k⊑W cap b t m c ti above (p .g) fs mk z e n
             doT e (no z) = useT SpD (λ j. Under (t / 4) j) (sp (omega arith)) (out-d (omega arith)) e
 
-        pub open-D : Open1 W b (λ j. Under (t / 4) j)
+        pub open-D : Open1 N W b (λ j. Under (t / 4) j)
         open-D = (t, ti, kid refl, p .fr .fD t ti (omega arith) mk t ti (kid refl))
 
       -- MG
@@ -244,5 +244,5 @@ module _ (N : ℕ) {D : ℕ} (P : ℕ) (sz : Tiled D (4 ^ N)) where
             doG h x o (over w) = useG SpG (λ j. Under (t / 16) (j / 4)) sp out-g h o (λ j s. subst (λ (y : ℕ). Under h y) (sym s) w)
             doG h x o (below w) = absurd (whole-G c (p .g .core .ok) (t / 16) h (is-g .3) (is-g .2) w (p .g .core .ok .gd h ((p .de .oG h b o) .0)))
 
-        pub open-G : Open1 W b (λ j. Under (t / 16) (j / 4))
+        pub open-G : Open1 N W b (λ j. Under (t / 16) (j / 4))
         open-G = (t, ti, kid {i = t / 4} (omega arith), p .fr .fG t ti (omega arith) mk t ti (kid {i = t / 4} (omega arith)))

@@ -53,6 +53,49 @@ unfl (a ∷ u) fl n e x = unfl u (fl ⊎ (a ≡ true)) go ((neither a (lit u) e)
     go (inl y) = n y
     go (inr y) = true≢false (sym y ∙ (neither a (lit u) e) .0)
 
+-- nothing is known without a 1
+abbrev pub Blank : Bits → Type 0
+Blank k = (j e : ℕ) → k .has j e ≡ true → ⊥
+
+blank-O : (o : Option Question) (k : Bits) → Blank k → Blank (knowO o false k)
+unfolding know
+blank-O none k n = n
+blank-O (some (bitOf i b)) k n = n
+blank-O (some (signOf i)) k n = λ j e h. n j e (sym (know-sgn-has i false k j e) ∙ h)
+blank-O (some (inDesc g b)) k n = n
+blank-O (some (inGrand g b)) k n = n
+
+module _ (N : ℕ) where
+  pub blank-run : (s : State) (u : List Bool) (k : Bits) → lit u ≡ false → Blank k → Blank (least N s u k)
+  unfolding lit
+  blank-run s [] k e n = n
+  blank-run s (true ∷ u) k e n = absurd (true≢false e)
+  blank-run s (false ∷ u) k e n = blank-run (next (4 ^ N) s false) u (knowO (ask (4 ^ N) s) false k) e (blank-O (ask (4 ^ N) s) k n)
+
+-- no sign is asked where none is pending
+abbrev Not-sgn : Look → Type 0
+Not-sgn over = Unit {0}
+Not-sgn (silent t) = Unit {0}
+Not-sgn (asks q) = Plain q
+
+plain-pix : (b i : ℕ) (m : List ℕ) (x y : Bool) → Not-sgn (lookPixels b i m x y)
+plain-pix b i m false y = tt
+plain-pix b i m true true = tt
+plain-pix b i m true false = tt
+
+plain-sets : (b i : ℕ) (m : List ℕ) (x d g c : Bool) → Not-sgn (lookSets b i m x d g c)
+plain-sets b i m false d g c = tt
+plain-sets b i m true true g c = tt
+plain-sets b i m true false true c = tt
+plain-sets b i m true false false true = tt
+plain-sets b i m true false false false = tt
+
+plain-fine : (b i : ℕ) (m : List ℕ) (x s y : Bool) → Not-sgn (lookRefining b i m x s y)
+plain-fine b i m false s y = tt
+plain-fine b i m true true y = tt
+plain-fine b i m true false true = tt
+plain-fine b i m true false false = tt
+
 module _ (N : ℕ) {D : ℕ} (P : ℕ) (sz : Tiled D (4 ^ N)) where
   abbrev I : ℕ
   I = 4 ^ N
@@ -81,49 +124,8 @@ module _ (N : ℕ) {D : ℕ} (P : ℕ) (sz : Tiled D (4 ^ N)) where
       (good-next sz P (F1 (fl ⊎ (a ≡ true))) (λ j. ⊥) s a
       (good-mono sz P (F1 fl) (F1 (fl ⊎ (a ≡ true))) (λ b j x. x) (λ j x. x) (λ b j x. inl x) (λ b j x. inl x) (λ j z. z) s g) (on-ask1 A fl a (look I s) (f .0))) (f .1)
 
-  -- nothing is known without a 1
-  abbrev pub Blank : Bits → Type 0
-  Blank k = (j e : ℕ) → k .has j e ≡ true → ⊥
-
-  blank-O : (o : Option Question) (k : Bits) → Blank k → Blank (knowO o false k)
-  unfolding know
-  blank-O none k n = n
-  blank-O (some (bitOf i b)) k n = n
-  blank-O (some (signOf i)) k n = λ j e h. n j e (sym (know-sgn-has i false k j e) ∙ h)
-  blank-O (some (inDesc g b)) k n = n
-  blank-O (some (inGrand g b)) k n = n
-
-  pub blank-run : (s : State) (u : List Bool) (k : Bits) → lit u ≡ false → Blank k → Blank (least N s u k)
-  unfolding lit
-  blank-run s [] k e n = n
-  blank-run s (true ∷ u) k e n = absurd (true≢false e)
-  blank-run s (false ∷ u) k e n = blank-run (next I s false) u (knowO (ask I s) false k) e (blank-O (ask I s) k n)
-
   -- a sign is asked only after a 1
   module _ (A k w : Bits) (O : Question → Type 0) (n : Blank k) where
-    abbrev Not-sgn : Look → Type 0
-    Not-sgn over = Unit {0}
-    Not-sgn (silent t) = Unit {0}
-    Not-sgn (asks q) = Plain q
-
-    plain-pix : (b i : ℕ) (m : List ℕ) (x y : Bool) → Not-sgn (lookPixels b i m x y)
-    plain-pix b i m false y = tt
-    plain-pix b i m true true = tt
-    plain-pix b i m true false = tt
-
-    plain-sets : (b i : ℕ) (m : List ℕ) (x d g c : Bool) → Not-sgn (lookSets b i m x d g c)
-    plain-sets b i m false d g c = tt
-    plain-sets b i m true true g c = tt
-    plain-sets b i m true false true c = tt
-    plain-sets b i m true false false true = tt
-    plain-sets b i m true false false false = tt
-
-    plain-fine : (b i : ℕ) (m : List ℕ) (x s y : Bool) → Not-sgn (lookRefining b i m x s y)
-    plain-fine b i m false s y = tt
-    plain-fine b i m true true y = tt
-    plain-fine b i m true false true = tt
-    plain-fine b i m true false false = tt
-
     plain-at : (l : ℕ) (p : Pass) (i : ℕ) (s : Bool) (m : List ℕ) → All-at N P sz A false k w O l p i s m → Not-sgn (lookAt I l p i s m)
     plain-at zero p i s m z = tt
     plain-at (suc b) pixels i true m z = absurd (n i b (z .5))
@@ -142,7 +144,7 @@ module _ (N : ℕ) {D : ℕ} (P : ℕ) (sz : Tiled D (4 ^ N)) where
       (r .0, r .1, inr (r .2))
   first-1 A k w O s (true ∷ u) z n f e = go (look I s) refl (plain-at A k w O n (s .left) (s .pass) (s .place) (s .pending) (s .marks) z) (unfold ask in f .0)
     where
-      go : (L : Look) → look I s ≡ L → Not-sgn A k w O n L → told N A (asked I (look I s)) true → (p : Question) × Plain p × Owed N s (true ∷ u) p
+      go : (L : Look) → look I s ≡ L → Not-sgn L → told N A (asked I (look I s)) true → (p : Question) × Plain p × Owed N s (true ∷ u) p
       go over q y t = absurd (subst (λ (L : Look). told N A (asked I L) true) q t)
       go (silent r) q y t = absurd (subst (λ (L : Look). told N A (asked I L) true) q t)
       go (asks p) q y t = (p, y, inl (refl, (unfold ask in ap (λ (L : Look). asked I L) q)))
@@ -206,7 +208,7 @@ module _ (N : ℕ) {D : ℕ} (P : ℕ) (sz : Tiled D (4 ^ N)) where
 
   -- the flag says so
   module _ (A : Bits) (u : List Bool) (f : Fit N A (start I D P) u) where
-    pub z : All N P sz A false (least N S u nothing) (most N S u (record { has = λ i b. ltb b P; neg = λ i. false })) (Owing N P sz A false S u (λ p. ⊥)) (reach (4 ^ N) S u)
+    pub z : All N P sz A false (least N S u nothing) (most N S u (record { has = λ i b. ltb b P; neg = λ i. false })) (Owing N S u (λ p. ⊥)) (reach (4 ^ N) S u)
     z = all-run N P sz A false nothing (record { has = λ i b. ltb b P; neg = λ i. false }) (λ p. ⊥) S u (all-start N P sz A false) f
 
     pub g1 : Good sz P (F1 (Fl u ⊥)) (reach (4 ^ N) S u)

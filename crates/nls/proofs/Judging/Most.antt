@@ -26,6 +26,12 @@ after N (inDesc g b) false w = clear N (inDesc g b) b w
 after N (inGrand g b) true w = w
 after N (inGrand g b) false w = clear N (inGrand g b) b w
 
+-- a bit that is not about q at b stays
+pub stays : (x y v : Bool) → ((x ≡ true) → (y ≡ true) → ⊥) → v ≡ true → (not (x && y) && v) ≡ true
+stays true true v h e = absurd (h refl refl)
+stays true false v h e = e
+stays false y v h e = e
+
 module _ (N : ℕ) where
   abbrev pub afterO : Option Question → Bool → Bits → Bits
   afterO none a w = w
@@ -41,12 +47,6 @@ module _ (N : ℕ) where
   after-has (inDesc g b) false w j c h = both-right (not (inside N (inDesc g b) j && eqb c b)) (w .has j c) h
   after-has (inGrand g b) true w j c h = h
   after-has (inGrand g b) false w j c h = both-right (not (inside N (inGrand g b) j && eqb c b)) (w .has j c) h
-
-  -- A bit that is not about q at b stays
-  pub stays : (x y v : Bool) → ((x ≡ true) → (y ≡ true) → ⊥) → v ≡ true → (not (x && y) && v) ≡ true
-  stays true true v h e = absurd (h refl refl)
-  stays true false v h e = e
-  stays false y v h e = e
 
   set-keeps : (s : ℕ → Bool) (A w : Bits) (b : ℕ) → any (4 ^ N) (λ k. (ltb k (4 ^ N) && s k) && A .has k b) ≡ false
       → A ⊑ w → (j c : ℕ) → A .has j c ≡ true → (not ((ltb j (4 ^ N) && s j) && eqb c b) && w .has j c) ≡ true

@@ -41,7 +41,7 @@ some-inj p q e = cc
 module _ (N : ℕ) where
   pub clear-out : (q : Question) (b : ℕ) (w : Bits) (j e : ℕ) → (inside N q j ≡ true → e ≡ b → ⊥) → w .has j e ≡ true → (clear N q b w) .has j e ≡ true
   unfolding clear
-  clear-out q b w j e n h = stays N (inside N q j) (eqb e b) (w .has j e) (λ x y. n x (eqb-true e b y)) h
+  clear-out q b w j e n h = stays (inside N q j) (eqb e b) (w .has j e) (λ x y. n x (eqb-true e b y)) h
 
   one0 : (i b : ℕ) (w : Bits) (j e : ℕ) → (j ≡ i → e ≡ b → ⊥) → w .has j e ≡ true → (after N (bitOf i b) false w) .has j e ≡ true
   unfolding after inside
@@ -70,6 +70,11 @@ module _ (N : ℕ) where
       go false true q = absurd (n (eqb-true j i q))
       go false false q = rw (q, after, sign)
 
+-- what was answered 1 in u, on top of O
+abbrev pub Owing : ℕ → State → List Bool → (Question → Type 0) → Question → Type 0
+Owing N s [] O = O
+Owing N s (a ∷ u) O = Owing N (next (4 ^ N) s a) u (λ p. O p ⊎ ((a ≡ true) × (ask (4 ^ N) s ≡ some p)))
+
 module _ (N : ℕ) {D : ℕ} (P : ℕ) (sz : Tiled D (4 ^ N)) (W : Bits) (vv : Bool) where
   abbrev I : ℕ
   I = 4 ^ N
@@ -81,21 +86,21 @@ module _ (N : ℕ) {D : ℕ} (P : ℕ) (sz : Tiled D (4 ^ N)) (W : Bits) (vv : B
     pub g : Pix sz R (Known W k b) t c m
     pub fr : PixFr sz (T w) (M k) b t m
     pub ho : Hold D I P w vv b 0 c
-    pub de : Debt D I P O k b (suc b) 0 c
+    pub de : Debt I O k b (suc b) 0 c
     pub np : suc b ≡ P → (h : ℕ) → c .sD h ≡ false
 
   pub record InSets (R : Preds) (k w : Bits) (O : Question → Type 0) (b t : ℕ) (c : Cfg) (m : List ℕ) : Type 0 where
     pub g : Sets sz R (Known W k b) t c m
     pub fr : SetFr sz (T w) (M k) b t m
     pub ho : Hold D I P w vv b 0 c
-    pub de : Debt D I P O k b b 0 c
+    pub de : Debt I O k b b 0 c
     pub rs : suc b ≡ P → (h : ℕ) → D ≤ 4 * h → h < D → t ≤ 4 * h → c .sD h ≡ true → c .al (4 * h) ≡ 4
 
   pub record InFine (R : Preds) (k w : Bits) (O : Question → Type 0) (b t : ℕ) (c : Cfg) (m : List ℕ) : Type 0 where
     pub g : Fine sz R (Known W k b) t c m
     pub fr : FineFr sz (T w) (M k) b t m
     pub ho : Hold D I P w vv b t c
-    pub de : Debt D I P O k b b t c
+    pub de : Debt I O k b b t c
 
   abbrev pub FromK : Bits → ℕ → Type 0
   FromK k b = From sz P (G k) b
@@ -131,7 +136,7 @@ module _ (N : ℕ) {D : ℕ} (P : ℕ) (sz : Tiled D (4 ^ N)) (W : Bits) (vv : B
               g = pix-end sz (preds (G k) b) (Known W k b) i c m (p .g) (ltb-false i I ex);
               fr = frp-end sz (preds (G k) b) (Known W k b) (T w) (M k) b i c m (p .g) (p .fr);
               ho = p .ho;
-              de = debt-c D I P O k b (suc b) b 0 0 c c (p .de) (omega arith) (λ h e. e) (λ h e. e) (λ j e f. f e);
+              de = debt-c I O k b (suc b) b 0 0 c c (p .de) (omega arith) (λ h e. e) (λ h e. e) (λ j e f. f e);
               rs = λ e h lo hd l y. absurd (true≢false (sym y ∙ p .np e h));
             },
           ),
@@ -204,7 +209,7 @@ module _ (N : ℕ) {D : ℕ} (P : ℕ) (sz : Tiled D (4 ^ N)) (W : Bits) (vv : B
               };
               fr = frf-end sz (preds (G k) (suc b)) (Known W k (suc b)) (T w) (M k) (suc b) i c m b refl (p .g) ex (p .fr) (λ j hj. p .ho .low j b (omega arith));
               ho = hold-down D I P w vv (suc b) b i c refl (p .ho);
-              de = debt-down D I P O k (suc b) b i c refl (p .de);
+              de = debt-down I O k (suc b) b i c refl (p .de);
               np = λ e. absurd (omega (arith, p .ho .hi));
             },
           ),
@@ -227,7 +232,7 @@ module _ (N : ℕ) {D : ℕ} (P : ℕ) (sz : Tiled D (4 ^ N)) (W : Bits) (vv : B
               g = fine-hush sz (preds (G k) b) (Known W k b) i c m (p .g) (ltb-true i I ex) (eqb-false _ _ es) (eqb-false _ _ en);
               fr = frf-hush sz (preds (G k) b) (Known W k b) (T w) (M k) b i (skip (getD m i 0)) m (p .fr);
               ho = hold-z D I P w vv b i (i + skip (getD m i 0)) c (p .ho) (omega arith);
-              de = debt-c D I P O k b b b i (i + skip (getD m i 0)) c c (p .de) (omega arith) (λ h e. e) (λ h e. e) (λ j e f. omega (arith, f e));
+              de = debt-c I O k b b b i (i + skip (getD m i 0)) c c (p .de) (omega arith) (λ h e. e) (λ h e. e) (λ j e f. omega (arith, f e));
             },
           ),
         )
@@ -239,7 +244,7 @@ module _ (N : ℕ) {D : ℕ} (P : ℕ) (sz : Tiled D (4 ^ N)) (W : Bits) (vv : B
           g = fine-np sz (preds (G k) b) (Known W k b) i c m (p .g) hi mk;
           fr = frf-np sz (preds (G k) b) (Known W k b) (T w) (M k) b i m (p .g .core .len) hi (p .fr) mk;
           ho = hold-A D I P w w vv b i (i + 1) i 3 c (p .ho) (it .0) (omega arith) (λ e. omega arith) (λ h. absurd (h (lit≤ tt) (lit≤ tt))) (λ j e h x. x) (λ j h x. x) (λ j h. refl);
-          de = debt-c D I P O k b b b i (i + 1) c (withA i 3 c) (p .de) (omega arith) (λ h e. same-D i 3 c h ∙ e) (λ h e. same-G i 3 c h ∙ e) (λ j e f. al′ j e f (ℕ-discrete j i));
+          de = debt-c I O k b b b i (i + 1) c (withA i 3 c) (p .de) (omega arith) (λ h e. same-D i 3 c h ∙ e) (λ h e. same-G i 3 c h ∙ e) (λ j e f. al′ j e f (ℕ-discrete j i));
         },
       ),
     )
@@ -351,15 +356,15 @@ module _ (N : ℕ) {D : ℕ} (P : ℕ) (sz : Tiled D (4 ^ N)) (W : Bits) (vv : B
         go (inr x) = absurd (false≢true (x .0))
 
     -- a sign: nothing is owed but the sign
-    outs : (a : Bool) (i : ℕ) (b lo z : ℕ) (c : Cfg) → Out a (asks (signOf i)) → Debt D I P O k b lo z c → Debt D I P O′ (know (signOf i) a k) b lo z c
+    outs : (a : Bool) (i : ℕ) (b lo z : ℕ) (c : Cfg) → Out a (asks (signOf i)) → Debt I O k b lo z c → Debt I O′ (know (signOf i) a k) b lo z c
     outs a i b lo z c f d = record {
       oD = λ h e o. d1 .oD h e (no (inDesc h e) (λ y. let bad : _≡_ {A = ℕ} 0 1 = cc in omega arith) (out1 a (signOf i) f (inDesc h e) o));
       oG = λ h e o. d1 .oG h e (no (inGrand h e) (λ y. let bad : _≡_ {A = ℕ} 0 1 = cc in omega arith) (out1 a (signOf i) f (inGrand h e) o));
       oO = λ j e o. d1 .oO j e (no (bitOf j e) (λ y. let bad : _≡_ {A = ℕ} 0 1 = cc in omega arith) (out1 a (signOf i) f (bitOf j e) o));
     }
       where
-        d1 : Debt D I P O (know (signOf i) a k) b lo z c
-        d1 = debt-O D I P O O k (know (signOf i) a k) b lo z c d (λ p o. o) (know-sgn-has i a k)
+        d1 : Debt I O (know (signOf i) a k) b lo z c
+        d1 = debt-O I O O k (know (signOf i) a k) b lo z c d (λ p o. o) (know-sgn-has i a k)
 
         no : (p : Question) → (signOf i ≡ p → ⊥) → O p ⊎ (signOf i ≡ p) → O p
         no p n (inl x) = x
@@ -378,7 +383,7 @@ module _ (N : ℕ) {D : ℕ} (P : ℕ) (sz : Tiled D (4 ^ N)) (W : Bits) (vv : B
           g = pix-Z sz (preds (G k) b) (hide i (preds (G (know (bitOf i b) true k)) b)) (Known W k b) (Known W (know (bitOf i b) true k) b) i c m (mh k (bitOf i b) true t b i c (l .1)) (up k (bitOf i b) true t b) (p .g);
           fr = pixfr (T w) (T w) (M k) (M (know (bitOf i b) true k)) b i m (λ j x. x) (λ e j x. know-grows (bitOf i b) true k j e x) (p .fr);
           ho = p .ho;
-          de = debt-one D I P O O′ k (know (bitOf i b) true k) b (suc b) 0 0 i c (p .de) (omega arith) (omega arith) hi (λ e. absurd (omega (arith, it .1, mk))) (out1 true (bitOf i b) o) (know-grows (bitOf i b) true k) (know-one i b k) (know-back i b k);
+          de = debt-one I O O′ k (know (bitOf i b) true k) b (suc b) 0 0 i c (p .de) (omega arith) (omega arith) hi (λ e. absurd (omega (arith, it .1, mk))) (out1 true (bitOf i b) o) (know-grows (bitOf i b) true k) (know-one i b k) (know-back i b k);
           np = p .np;
         },
       ),
@@ -415,7 +420,7 @@ module _ (N : ℕ) {D : ℕ} (P : ℕ) (sz : Tiled D (4 ^ N)) (W : Bits) (vv : B
           fr = frp-zero sz (preds (G k) b) (Known W k b) (T w) (M (know (bitOf i b) false k)) b (T (after N (bitOf i b) false w)) i m
               (pixfr (T w) (T w) (M k) (M (know (bitOf i b) false k)) b i m (λ j x. x) (λ e j x. know-grows (bitOf i b) false k j e x) (p .fr)) mk (λ j x n. one0 N i b w j b (λ e f. n e) x);
           ho = hold-w D I P w (after N (bitOf i b) false w) vv b 0 0 c (p .ho) (omega arith) (λ j e h x. one0 N i b w j e (λ y f. omega arith) x) (λ j aj e h x. one0 N i b w j b (λ y f. omega (arith, it .1, mk, e, ap (c .al) y)) x) (λ j. unfold clear in refl);
-          de = debt-O D I P O O′ k (know (bitOf i b) false k) b (suc b) 0 c (p .de) (out0 (bitOf i b) o) (λ j x. unfold know in refl);
+          de = debt-O I O O′ k (know (bitOf i b) false k) b (suc b) 0 c (p .de) (out0 (bitOf i b) o) (λ j x. unfold know in refl);
           np = p .np;
         },
       ),
@@ -452,7 +457,7 @@ module _ (N : ℕ) {D : ℕ} (P : ℕ) (sz : Tiled D (4 ^ N)) (W : Bits) (vv : B
           fr = frp-one sz (preds (G k) b) (Known W k b) (T (after N (signOf i) a w)) (M (know (signOf i) a k)) b i m (p .g .core .len) (z .2)
               (pixfr (T w) (T (after N (signOf i) a w)) (M k) (M (know (signOf i) a k)) b i m (λ j x. sgn-has N i a w j b ∙ x) (λ e j x. know-grows (signOf i) a k j e x) (p .fr)) (z .3) (know-grows (signOf i) a k i b (z .5));
           ho = hold-A D I P w (after N (signOf i) a w) vv b 0 0 i 2 c (p .ho) (it .0) (omega arith) (λ e. absurd (omega arith)) (λ h. absurd (h (lit≤ tt) (lit≤ tt))) (λ j e h x. sgn-has N i a w j e ∙ x) (λ j n x. sgn-has N i a w j b ∙ x) (λ j n. sgn-neg N i a w j n);
-          de = debt-c D I P O′ (know (signOf i) a k) b (suc b) (suc b) 0 0 c (withA i 2 c) (outs a i b (suc b) 0 c o (p .de)) (omega arith) (λ h e. same-D i 2 c h ∙ e) (λ h e. same-G i 2 c h ∙ e) (λ j e f. al′ j e f (ℕ-discrete j i));
+          de = debt-c I O′ (know (signOf i) a k) b (suc b) (suc b) 0 0 c (withA i 2 c) (outs a i b (suc b) 0 c o (p .de)) (omega arith) (λ h e. same-D i 2 c h ∙ e) (λ h e. same-G i 2 c h ∙ e) (λ j e f. al′ j e f (ℕ-discrete j i));
           np = λ e h. same-D i 2 c h ∙ p .np e h;
         },
       ),
@@ -508,7 +513,7 @@ module _ (N : ℕ) {D : ℕ} (P : ℕ) (sz : Tiled D (4 ^ N)) (W : Bits) (vv : B
           g = g1;
           fr = frs-D1 sz (preds (G k) b) (Known W k b) (T w) (M k) b i c m (splitDesc I i m (ltb (4 * i) I)) (p .g) hi (p .fr) mk g1;
           ho = hold-D D I P w vv b 0 (i / 4) c (p .ho) (kidsD b i m c p hi mk);
-          de = debt-D D I P O O′ k b 0 (i / 4) c (p .de) (out1 true (inDesc (i / 4) b) o) (newD b i m c p hi mk);
+          de = debt-D I O O′ k b 0 (i / 4) c (p .de) (out1 true (inDesc (i / 4) b) o) (newD b i m c p hi mk);
           rs = λ e h lo hd l y. rs′ e h lo hd l y (ℕ-discrete h (i / 4));
         },
       ),
@@ -538,7 +543,7 @@ module _ (N : ℕ) {D : ℕ} (P : ℕ) (sz : Tiled D (4 ^ N)) (W : Bits) (vv : B
           g = sets-D0 sz (preds (G k) b) (Known W k b) i c m (p .g) hi mk ((learned N W k (inDesc (i / 4) b) false t) .0 (omega (arith, atD b i m c p hi mk)));
           fr = frs-D0 sz (preds (G k) b) (Known W k b) (T w) (M k) b (T (after N (inDesc (i / 4) b) false w)) i c m (p .g) hi (p .fr) mk (λ j x n. desc0 N (i / 4) b w j b (λ u e. n u) x);
           ho = hold-w D I P w (after N (inDesc (i / 4) b) false w) vv b 0 0 c (p .ho) (omega arith) (λ j e h x. desc0 N (i / 4) b w j e (λ y f. omega arith) x) (λ j aj e h x. desc0 N (i / 4) b w j b (λ u f. true≢false (sym aj ∙ inD b i m c p hi mk j u)) x) (λ j. unfold after clear in refl);
-          de = debt-O D I P O O′ k k b b 0 c (p .de) (out0 (inDesc (i / 4) b) o) (λ j x. refl);
+          de = debt-O I O O′ k k b b 0 c (p .de) (out0 (inDesc (i / 4) b) o) (λ j x. refl);
           rs = λ e h lo hd l y. p .rs e h lo hd (omega arith) y;
         },
       ),
@@ -561,7 +566,7 @@ module _ (N : ℕ) {D : ℕ} (P : ℕ) (sz : Tiled D (4 ^ N)) (W : Bits) (vv : B
           g = g1;
           fr = frs-G1 sz (preds (G k) b) (Known W k b) (T w) (M k) b i c m (splitGrand I i m) (p .g) hi (p .fr) mk g1;
           ho = hold-G D I P w vv b 0 (i / 16) c (p .ho);
-          de = debt-G D I P O O′ k b 0 (i / 16) c (p .de) (out1 true (inGrand (i / 16) b) o) (newG b i m c p hi mk);
+          de = debt-G I O O′ k b 0 (i / 16) c (p .de) (out1 true (inGrand (i / 16) b) o) (newG b i m c p hi mk);
           rs = λ e h lo hd l y. al-G (i / 16) c (4 * h) ∙ p .rs e h lo hd l (sym (sD-G (i / 16) c h) ∙ y);
         },
       ),
@@ -587,7 +592,7 @@ module _ (N : ℕ) {D : ℕ} (P : ℕ) (sz : Tiled D (4 ^ N)) (W : Bits) (vv : B
           g = sets-G0 sz (preds (G k) b) (Known W k b) i c m (p .g) hi mk ((learned N W k (inGrand (i / 16) b) false t) .0 (omega (arith, atG b i m c p hi mk)));
           fr = frs-G0 sz (preds (G k) b) (Known W k b) (T w) (M k) b (T (after N (inGrand (i / 16) b) false w)) i c m (p .g) hi (p .fr) mk (λ j x n. grand0 N (i / 16) b w j b (λ u e. n u) x);
           ho = hold-w D I P w (after N (inGrand (i / 16) b) false w) vv b 0 0 c (p .ho) (omega arith) (λ j e h x. grand0 N (i / 16) b w j e (λ y f. omega arith) x) (λ j aj e h x. grand0 N (i / 16) b w j b (λ u f. true≢false (sym aj ∙ inG b i m c p hi mk j u)) x) (λ j. unfold after clear in refl);
-          de = debt-O D I P O O′ k k b b 0 c (p .de) (out0 (inGrand (i / 16) b) o) (λ j x. refl);
+          de = debt-O I O O′ k k b b 0 c (p .de) (out0 (inGrand (i / 16) b) o) (λ j x. refl);
           rs = λ e h lo hd l y. p .rs e h lo hd (omega arith) y;
         },
       ),
@@ -610,7 +615,7 @@ module _ (N : ℕ) {D : ℕ} (P : ℕ) (sz : Tiled D (4 ^ N)) (W : Bits) (vv : B
           g = sets-Z sz (preds (G k) b) (hide i (preds (G (know (bitOf i b) true k)) b)) (Known W k b) (Known W (know (bitOf i b) true k) b) i c m (mh k (bitOf i b) true t b i c (l .1)) (up k (bitOf i b) true t b) (p .g);
           fr = setfr (T w) (T w) (M k) (M (know (bitOf i b) true k)) b i m (λ j x. x) (λ e j x. know-grows (bitOf i b) true k j e x) (p .fr);
           ho = p .ho;
-          de = debt-one D I P O O′ k (know (bitOf i b) true k) b b 0 0 i c (p .de) (omega arith) (omega arith) hi (λ e. absurd (omega (arith, it .1, mk))) (out1 true (bitOf i b) o) (know-grows (bitOf i b) true k) (know-one i b k) (know-back i b k);
+          de = debt-one I O O′ k (know (bitOf i b) true k) b b 0 0 i c (p .de) (omega arith) (omega arith) hi (λ e. absurd (omega (arith, it .1, mk))) (out1 true (bitOf i b) o) (know-grows (bitOf i b) true k) (know-one i b k) (know-back i b k);
           rs = p .rs;
         },
       ),
@@ -646,7 +651,7 @@ module _ (N : ℕ) {D : ℕ} (P : ℕ) (sz : Tiled D (4 ^ N)) (W : Bits) (vv : B
           fr = frs-C sz (preds (G k) b) (Known W k b) (T w) (M k) b (T (after N (bitOf i b) false w)) i 1 c m (p .g) hi (p .fr) mk (lit≤ tt) (lit≤ tt) (λ e. absurd (omega arith)) (λ j x n. one0 N i b w j b (λ e f. n e) x);
           ho = hold-A D I P w (after N (bitOf i b) false w) vv b 0 0 i 1 c (p .ho) (it .0) (omega arith) (λ e. absurd (omega arith)) (λ h. (unfold after clear in p .ho .ng i (λ y l u. omega (arith, it .1, mk))))
               (λ j e h x. one0 N i b w j e (λ y f. omega arith) x) (λ j n x. one0 N i b w j b (λ y f. n y) x) (λ j n. unfold after clear in refl);
-          de = debt-c D I P O′ k b b b 0 0 c (withA i 1 c) (debt-O D I P O O′ k k b b 0 c (p .de) (out0 (bitOf i b) o) (λ j x. refl)) (omega arith) (λ h e. same-D i 1 c h ∙ e) (λ h e. same-G i 1 c h ∙ e) (λ j e f. al′ j e f (ℕ-discrete j i));
+          de = debt-c I O′ k b b b 0 0 c (withA i 1 c) (debt-O I O O′ k k b b 0 c (p .de) (out0 (bitOf i b) o) (λ j x. refl)) (omega arith) (λ h e. same-D i 1 c h ∙ e) (λ h e. same-G i 1 c h ∙ e) (λ j e f. al′ j e f (ℕ-discrete j i));
           rs = λ e h lo hd l y. al-else i 1 c (4 * h) (λ z. omega arith) ∙ p .rs e h lo hd (omega arith) (sym (same-D i 1 c h) ∙ y);
         },
       ),
@@ -676,7 +681,7 @@ module _ (N : ℕ) {D : ℕ} (P : ℕ) (sz : Tiled D (4 ^ N)) (W : Bits) (vv : B
           fr = frs-C sz (hide i (preds (G (know (signOf i) a k)) b)) (Known W (know (signOf i) a k) b) (T (after N (signOf i) a w)) (M (know (signOf i) a k)) b (T (after N (signOf i) a w)) i 2 c m g1 (z .2)
               (setfr (T w) (T (after N (signOf i) a w)) (M k) (M (know (signOf i) a k)) b i m (λ j x. sgn-has N i a w j b ∙ x) (λ e j x. know-grows (signOf i) a k j e x) (p .fr)) (z .3) (lit≤ tt) (lit≤ tt) (λ e. know-grows (signOf i) a k i b (z .5)) (λ j x n. x);
           ho = hold-A D I P w (after N (signOf i) a w) vv b 0 0 i 2 c (p .ho) (it .0) (omega arith) (λ e. absurd (omega arith)) (λ h. absurd (h (lit≤ tt) (lit≤ tt))) (λ j e h x. sgn-has N i a w j e ∙ x) (λ j n x. sgn-has N i a w j b ∙ x) (λ j n. sgn-neg N i a w j n);
-          de = debt-c D I P O′ (know (signOf i) a k) b b b 0 0 c (withA i 2 c) (outs a i b b 0 c o (p .de)) (omega arith) (λ h e. same-D i 2 c h ∙ e) (λ h e. same-G i 2 c h ∙ e) (λ j e f. al′ j e f (ℕ-discrete j i));
+          de = debt-c I O′ (know (signOf i) a k) b b b 0 0 c (withA i 2 c) (outs a i b b 0 c o (p .de)) (omega arith) (λ h e. same-D i 2 c h ∙ e) (λ h e. same-G i 2 c h ∙ e) (λ j e f. al′ j e f (ℕ-discrete j i));
           rs = λ e h lo hd l y. al-else i 2 c (4 * h) (λ z. omega arith) ∙ p .rs e h lo hd (omega arith) (sym (same-D i 2 c h) ∙ y);
         },
       ),
@@ -722,7 +727,7 @@ module _ (N : ℕ) {D : ℕ} (P : ℕ) (sz : Tiled D (4 ^ N)) (W : Bits) (vv : B
               (fine-Z sz (preds (G k) b) (preds (G (know (bitOf i b) true k)) b) (Known W k b) (Known W (know (bitOf i b) true k) b) i c m (more-1 b i c (it .0, omega (arith, it .1, mk), omega (arith, it .1, mk)) t (l .1)) (up k (bitOf i b) true t b) (p .g)) hi mk (l .0);
           fr = frf-hush sz (preds (G k) b) (Known W k b) (T w) (M (know (bitOf i b) true k)) b i 1 m (finefr (T w) (T w) (M k) (M (know (bitOf i b) true k)) b i m (λ e j x. know-grows (bitOf i b) true k j e x) (p .fr));
           ho = hold-z D I P w vv b i (i + 1) c (p .ho) (omega arith);
-          de = debt-one D I P O O′ k (know (bitOf i b) true k) b b i (i + 1) i c (p .de) (omega arith) (omega arith) hi (λ e. omega arith) (out1 true (bitOf i b) o) (know-grows (bitOf i b) true k) (know-one i b k) (know-back i b k);
+          de = debt-one I O O′ k (know (bitOf i b) true k) b b i (i + 1) i c (p .de) (omega arith) (omega arith) hi (λ e. omega arith) (out1 true (bitOf i b) o) (know-grows (bitOf i b) true k) (know-one i b k) (know-back i b k);
         },
       ),
     )
@@ -747,7 +752,7 @@ module _ (N : ℕ) {D : ℕ} (P : ℕ) (sz : Tiled D (4 ^ N)) (W : Bits) (vv : B
               (fine-Z sz (preds (G k) b) (preds (G (know (bitOf i b) false k)) b) (Known W k b) (Known W (know (bitOf i b) false k) b) i c m (mo k (bitOf i b) false t b c (l .1)) (up k (bitOf i b) false t b) (p .g)) hi mk (l .0);
           fr = frf-hush sz (preds (G k) b) (Known W k b) (T (after N (bitOf i b) false w)) (M (know (bitOf i b) false k)) b i 1 m (finefr (T w) (T (after N (bitOf i b) false w)) (M k) (M (know (bitOf i b) false k)) b i m (λ e j x. know-grows (bitOf i b) false k j e x) (p .fr));
           ho = hold-w D I P w (after N (bitOf i b) false w) vv b i (i + 1) c (p .ho) (omega arith) (λ j e h x. one0 N i b w j e (λ y f. omega arith) x) (λ j aj e h x. one0 N i b w j b (λ y f. omega arith) x) (λ j. unfold clear in refl);
-          de = debt-c D I P O′ (know (bitOf i b) false k) b b b i (i + 1) c c (debt-O D I P O O′ k (know (bitOf i b) false k) b b i c (p .de) (out0 (bitOf i b) o) (λ j x. unfold know in refl)) (omega arith) (λ h e. e) (λ h e. e) (λ j e f. omega (arith, f e));
+          de = debt-c I O′ (know (bitOf i b) false k) b b b i (i + 1) c c (debt-O I O O′ k (know (bitOf i b) false k) b b i c (p .de) (out0 (bitOf i b) o) (λ j x. unfold know in refl)) (omega arith) (λ h e. e) (λ h e. e) (λ j e f. omega (arith, f e));
         },
       ),
     )
@@ -796,14 +801,9 @@ module _ (N : ℕ) {D : ℕ} (P : ℕ) (sz : Tiled D (4 ^ N)) (W : Bits) (vv : B
   all-next k w O s a z t = all-settle (knowO (ask I s) a k) (afterO N (ask I s) a w) (λ p. O p ⊎ ((a ≡ true) × (ask I s ≡ some p))) (tell I s a)
       (all-tell k w O (λ p. O p ⊎ ((a ≡ true) × (ask I s ≡ some p))) (s .left) (s .pass) (s .place) (s .pending) (s .marks) a z t (λ p x. x))
 
-  -- what was answered 1, on top of O
-  abbrev pub Owing : State → List Bool → (Question → Type 0) → Question → Type 0
-  Owing s [] O = O
-  Owing s (a ∷ u) O = Owing (next I s a) u (λ p. O p ⊎ ((a ≡ true) × (ask I s ≡ some p)))
-
   -- ---- along a run
   pub all-run : (k w : Bits) (O : Question → Type 0) (s : State) (u : List Bool) → All k w O s → Fit N W s u
-      → All (least N s u k) (most N s u w) (Owing s u O) (reach (4 ^ N) s u)
+      → All (least N s u k) (most N s u w) (Owing N s u O) (reach (4 ^ N) s u)
   unfolding reach
   all-run k w O s [] z f = z
   all-run k w O s (a ∷ u) z f = all-run (knowO (ask I s) a k) (afterO N (ask I s) a w) (λ p. O p ⊎ ((a ≡ true) × (ask I s ≡ some p))) (next I s a) u (all-next k w O s a z (f .0)) (f .1)

@@ -127,11 +127,11 @@ module _ (N : ℕ) {D : ℕ} (P : ℕ) (sz : Tiled D (4 ^ N)) where
 
   -- what was answered 1 is owed
   module _ (W : Bits) (vv : Bool) where
-    keep : (s : State) (u : List Bool) (O : Question → Type 0) (p : Question) → O p → Owing N P sz W vv s u O p
+    keep : (s : State) (u : List Bool) (O : Question → Type 0) (p : Question) → O p → Owing N s u O p
     keep s [] O p o = o
     keep s (a ∷ u) O p o = keep (next I s a) u (λ p. O p ⊎ ((a ≡ true) × (ask I s ≡ some p))) p (inl o)
 
-    pub owing : (s : State) (u : List Bool) (O : Question → Type 0) (p : Question) → Owed N s u p → Owing N P sz W vv s u O p
+    pub owing : (s : State) (u : List Bool) (O : Question → Type 0) (p : Question) → Owed N s u p → Owing N s u O p
     owing s [] O p o = absurd o
     owing s (a ∷ u) O p (inl o) = keep (next I s a) u (λ p. O p ⊎ ((a ≡ true) × (ask I s ≡ some p))) p (inr o)
     owing s (a ∷ u) O p (inr o) = owing (next I s a) u (λ p. O p ⊎ ((a ≡ true) × (ask I s ≡ some p))) p o
@@ -214,7 +214,7 @@ module _ (N : ℕ) {D : ℕ} (P : ℕ) (sz : Tiled D (4 ^ N)) where
     can-pix b i m false y ex ey z = (tt, tt)
     can-pix b i m true false ex ey z = (tt, tt)
     can-pix b i m true true ex ey z =
-        let r : Open1 N P sz W b (λ j. j ≡ i) = open-pix N P sz W k vv O k⊑W cap b i m (z .1 .0) (ltb-true i I ex) (z .1 .1) (eqb-true _ _ ey) in (
+        let r : Open1 N W b (λ j. j ≡ i) = open-pix N P sz W k vv O k⊑W cap b i m (z .1 .0) (ltb-true i I ex) (z .1 .1) (eqb-true _ _ ey) in (
           (ltb-true i I ex, enough-pix N P sz W k vv O k⊑W cap b i m (z .1 .0) (ltb-true i I ex) (z .1 .1) (eqb-true _ _ ey)),
           yes-one N W i b (subst (λ (x : ℕ). W .has x b ≡ true) (r .2) (r .3)),
         )
@@ -231,15 +231,15 @@ module _ (N : ℕ) {D : ℕ} (P : ℕ) (sz : Tiled D (4 ^ N)) where
     yes-sets b i m false d g c ex ed eg ec z = tt
     yes-sets b i m true false false false ex ed eg ec z = tt
     yes-sets b i m true true g c ex ed eg ec z =
-        let r : Open1 N P sz W b (λ j. Under (i / 4) j) = open-D N P sz W k vv O k⊑W cap b i m (z .1 .0) (ltb-true i I ex) (z .0) (z .1 .1) (eqb-true _ _ ed) in
+        let r : Open1 N W b (λ j. Under (i / 4) j) = open-D N P sz W k vv O k⊑W cap b i m (z .1 .0) (ltb-true i I ex) (z .0) (z .1 .1) (eqb-true _ _ ed) in
         let is : (i % 4 ≡ 0) × (stands D I (z .1 .0) (i / 4) ≡ true) × ((z .1 .0) .sD (i / 4) ≡ false) × (D ≤ i) = is-D sz (z .1 .0) m (z .1 .1 .g .core) i (ltb-true i I ex) (eqb-true _ _ ed) in
         yes-desc N W (i / 4) b (r .0) (r .1) (in-desc N (i / 4) b (r .0) (omega (arith, is .3)) (r .1) (r .2)) (r .3)
     yes-sets b i m true false true c ex ed eg ec z =
-        let r : Open1 N P sz W b (λ j. Under (i / 16) (j / 4)) = open-G N P sz W k vv O k⊑W cap b i m (z .1 .0) (ltb-true i I ex) (z .0) (z .1 .1) (eqb-true _ _ eg) in
+        let r : Open1 N W b (λ j. Under (i / 16) (j / 4)) = open-G N P sz W k vv O k⊑W cap b i m (z .1 .0) (ltb-true i I ex) (z .0) (z .1 .1) (eqb-true _ _ eg) in
         let is : (i ≡ 16 * (i / 16)) × ((z .1 .0) .sD (i / 16) ≡ true) × ((z .1 .0) .sG (i / 16) ≡ false) × (D ≤ 4 * (i / 16)) × (alone D I (z .1 .0) i ≡ false) = is-G sz (z .1 .0) m (z .1 .1 .g .core) i (ltb-true i I ex) (eqb-true _ _ eg) in
         yes-grand N W (i / 16) b (r .0) (r .1) (in-grand N (i / 16) b (r .0) (omega (arith, is .3)) (r .1) (r .2)) (r .3)
     yes-sets b i m true false false true ex ed eg ec z =
-        let r : Open1 N P sz W b (λ j. j ≡ i) = open-C N P sz W k vv O k⊑W cap b i m (z .1 .0) (ltb-true i I ex) (z .0) (z .1 .1) (eqb-true _ _ ec) in
+        let r : Open1 N W b (λ j. j ≡ i) = open-C N P sz W k vv O k⊑W cap b i m (z .1 .0) (ltb-true i I ex) (z .0) (z .1 .1) (eqb-true _ _ ec) in
         yes-one N W i b (subst (λ (x : ℕ). W .has x b ≡ true) (r .2) (r .3))
 
     can-fine : (b i : ℕ) (m : List ℕ) (x s n : Bool) → ltb i I ≡ x → eqb (getD m i 0) 3 ≡ s → Here (suc b) refining i false m → CanL (lookRefining b i m x s n) × YesL (lookRefining b i m x s n)
@@ -247,7 +247,7 @@ module _ (N : ℕ) {D : ℕ} (P : ℕ) (sz : Tiled D (4 ^ N)) where
     can-fine b i m true false true ex es z = (tt, tt)
     can-fine b i m true false false ex es z = (tt, tt)
     can-fine b i m true true n ex es z =
-        let r : Open1 N P sz W b (λ j. j ≡ i) = open-fine N P sz W k vv O k⊑W cap b i m (z .1 .0) (ltb-true i I ex) (z .1 .1) (eqb-true _ _ es) in (
+        let r : Open1 N W b (λ j. j ≡ i) = open-fine N P sz W k vv O k⊑W cap b i m (z .1 .0) (ltb-true i I ex) (z .1 .1) (eqb-true _ _ es) in (
           (ltb-true i I ex, enough-fine N P sz W k vv O k⊑W cap b i m (z .1 .0) (ltb-true i I ex) (z .1 .1) (eqb-true _ _ es)),
           yes-one N W i b (subst (λ (x : ℕ). W .has x b ≡ true) (r .2) (r .3)),
         )
@@ -305,7 +305,7 @@ module _ (N : ℕ) {D : ℕ} (P : ℕ) (sz : Tiled D (4 ^ N)) where
       fW = most-fits N A S0 u (all-of a) f A⊑
 
       O : Question → Type 0
-      O = Owing N P sz W a S0 u (λ p. ⊥)
+      O = Owing N S0 u (λ p. ⊥)
 
       z : All N P sz W a k W O s
       z = all-run N P sz W a nothing (all-of a) (λ p. ⊥) S0 u (all-start N P sz W a) fW
