@@ -1,4 +1,4 @@
--- DEMAND 3: how many bits the stream of an array has, in all and plane by plane; its bound, and an array that reaches it;
+-- Demand 3: how many bits the stream of an array has, in all and plane by plane; its bound, and an array that reaches it;
 -- the sizes of the parts that stand.
 use Prim.Native.Nat.{ℕ, zero, suc, _+_, _-_, _^_, _≤_, _<_}
 use mathlib.Core.Path.{_≡_, refl, ap, sym, _∙_}
@@ -16,7 +16,6 @@ use Rattle.bits.specs.Bits.{digit}
 use Rattle.coef.specs.Coef.{magAt, IsPlanes}
 use Rattle.tree.specs.Tree.{desc, grand, anyIn}
 use Rattle.tree.proofs.Lists.{either, or-left, or-right}
-use Rattle.nls.specs.Scan.{State, next}
 use Rattle.nls.specs.Stream.{answers, begin, worstBody, stream, during}
 use Rattle.nls.specs.Parts.{sumTo, countTo, found, descSplit, grandSplit, parts, partSizes, splits, founds, nonzeros, splitsIn, foundIn}
 use Rattle.nls.proofs.Arrays.{Arr}
@@ -27,7 +26,6 @@ use Rattle.nls.proofs.Counting.Parts.{plane, body}
 use Rattle.nls.proofs.Counting.Sizes.{sizes-all}
 use Rattle.nls.proofs.Counting.Bound.{all-is}
 use Rattle.nls.proofs.Counting.Tiles.{pow4-pos}
-use Rattle.nls.proofs.Joined.Planes as machine
 use Rattle.nls.proofs.Joined.Whole as joined
 use Rattle.nls.proofs.Joined.Whole.{whole, whole-is-body, plane-bits, plane-by-plane}
 use Rattle.nls.proofs.Lists.{arrOf, stream-same}
@@ -71,7 +69,7 @@ any-le p q [] h e = e
 any-le p q (j ∷ l) h e =
     either (p j) (anyIn p l) e (λ k. or-left (q j) (anyIn q l) (h j k)) (λ k. or-right (q j) (anyIn q l) (any-le p q l h k))
 
--- FROM PLANE TO PLANE no set that is split and no coefficient that is found is lost
+-- from plane to plane no set that is split and no coefficient that is found is lost
 module _ (N L : ℕ) (A : List ℤ) (b : ℕ) where
   found-stays : (i : ℕ) → found N L A (suc b) i ≡ true → found N L A b i ≡ true
   unfolding found
@@ -122,14 +120,9 @@ module _ (N L P : ℕ) (A : List ℤ) (planes : IsPlanes A P) where
   pub founds-sum : sumTo P (λ b. foundIn N L A b) ≡ nonzeros N L A
   founds-sum = omega (arith, falls-sum P (λ b. founds N L A b) (λ b. founds-fall N L A b), founds-none, founds-all N L A)
 
--- THE SIZES of the parts that stand add up to I, after any plane
+-- the sizes of the parts that stand add up to I, after any plane
 pub sizes-add-up : (N L : ℕ) → Sized N L → (A : List ℤ) (b : ℕ) → partSizes N L A b ≡ allOf N
 sizes-add-up N L s A b = sizes-is N L s A b ∙ sizes-all (sizeOf N L s) (mags A) b ∙ all-is N L (s .least) (s .most)
-
-during-same : (N b : ℕ) (s : State) (u : List Bool) → during N b s u ≡ machine.during N b s u
-unfolding during machine.during
-during-same N b s [] = refl
-during-same N b s (a ∷ u) = rw (during-same N b (next (allOf N) s a) u)
 
 -- no planes, no bits
 pub empty : (N L : ℕ) (A : List ℤ) → stream N L 0 A ≡ []
@@ -166,7 +159,7 @@ module _ (N L P : ℕ) (s : Sized N L) where
     small : (i : ℕ) → i < 4 ^ N → magAt A i < 2 ^ P
     small i p = planes .below i
 
-    -- THE BITS number the parts that stand after each plane, the sets split in the end and the coefficients that are not zero
+    -- the bits number the parts that stand after each plane, the sets split in the end and the coefficients that are not zero
     pub count : length (stream N L P A) ≡ sumTo P (λ b. parts N L A b) + splits N L A 0 + nonzeros N L A
     count =
         omega (
@@ -194,11 +187,11 @@ module _ (N L P : ℕ) (s : Sized N L) where
             )
 
     -- what is taken in plane b
-    taken : (b : ℕ) → during N b (begin N L P) (stream N L P A) ≡ machine.during N b (begin N L P) (whole N L P (arrOf A))
+    taken : (b : ℕ) → during N b (begin N L P) (stream N L P A) ≡ during N b (begin N L P) (whole N L P (arrOf A))
     taken b =
-        ap (λ (u : List Bool). during N b (begin N L P) u) (stream-same N L s A P) ∙ during-same N b (begin N L P) (whole N L P (arrOf A))
+        ap (λ (u : List Bool). during N b (begin N L P) u) (stream-same N L s A P)
 
-    -- IN PLANE b they number the parts that stand after it, the sets split in it and the coefficients found in it
+    -- in plane b they number the parts that stand after it, the sets split in it and the coefficients found in it
     pub plane-count : (b : ℕ) → b < P
         → length (during N b (begin N L P) (stream N L P A)) ≡ parts N L A b + splitsIn N L A b + foundIn N L A b
     plane-count b h =
@@ -221,7 +214,7 @@ module _ (N L P : ℕ) (s : Sized N L) where
         ∙ sym (body-sum (sizeOf N L s) (arrOf A) P)
         ∙ sym (ap (λ (u : List Bool). length u) (stream-same N L s A P ∙ whole-is-body N L (s .least) (s .most) P (arrOf A) small))
 
-  -- THE BOUND IS REACHED, by 2^(P-1) everywhere
+  -- the bound is reached, by 2^(P-1) everywhere
   pub reached : 1 ≤ P → (length (flat N P) ≡ allOf N) × IsPlanes (flat N P) P × (length (stream N L P (flat N P)) ≡ worstBody N L P)
   reached h =
       let e : P ≡ suc (P - 1) = omega arith in (
@@ -234,7 +227,7 @@ module _ (N L P : ℕ) (s : Sized N L) where
             ∙ sym (worst-is N L P h),
       )
 
--- NO PLANES: no bits, nothing split, nothing that is not zero
+-- no planes: no bits, nothing split, nothing that is not zero
 pub no-planes : (N L : ℕ) (A : List ℤ) → IsPlanes A 0
     → (stream N L 0 A ≡ []) × (worstBody N L 0 ≡ 0) × (splits N L A 0 ≡ 0) × (nonzeros N L A ≡ 0)
 no-planes N L A planes = (

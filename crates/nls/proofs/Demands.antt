@@ -21,7 +21,7 @@ use Rattle.nls.proofs.Values as values
 use Rattle.nls.proofs.Counts as counts
 
 module _ (N L P : ℕ) (sized : Sized N L) where
-  -- ---- DEMAND 2
+  -- ---- demand 2
   module _ (A : List ℤ) (planes : IsPlanes A P) where
     -- "After the same bits, encoder and decoder hold equal tables."
     pub in-step : (n : ℕ) → (sent N L A n (begin N L P)) .marks ≡ (after N L P (answers N L A n (begin N L P))) .marks
@@ -72,7 +72,7 @@ module _ (N L P : ℕ) (sized : Sized N L) where
   refused-exactly u v h =
       ((λ e. subst (λ (w : Verdict). Judged N L P u w) e h), λ fits. verdicts.judged-only N L sized P u v taken h fits)
 
-  -- ---- DEMAND 3
+  -- ---- demand 3
   module _ (A : List ℤ) (planes : IsPlanes A P) where
     -- "The bit count of an uncut stream is parts standing, added over planes, plus splits plus nonzeros"
     pub count : length (stream N L P A) ≡ sumTo P (λ b. parts N L A b) + splits N L A 0 + nonzeros N L A

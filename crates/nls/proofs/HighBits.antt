@@ -5,18 +5,13 @@ use Prim.Native.Nat.{ℕ, zero, suc, _+_, _*_, _-_, _/_, _%_, _^_, _≤_, _<_}
 use native.Mathlib.Omega.{arith}
 use native.Mathlib.Nat.{pow-succ', mul-assoc, add-mul, div-eq-of-lt, div-one}
 use lib.Dec.{eqb}
-use lib.IntN.{ℤ, pos, negsuc}
+use lib.IntN.{ℤ, pos}
 use lib.Pow.{shr-shr}
 use borrow.Author.Tests.{eqb-true, eqb-false}
 use Rattle.bits.specs.Bits.{bit, digit}
 use Rattle.coef.specs.Coef.{magnitude, negative, signed}
+use Rattle.coef.proofs.Laws.{magnitude-signed, signed-back}
 use Rattle.nls.specs.Reading.{highBits}
-
--- Sign and magnitude of a signed number.
-pub mag-signed : (n : Bool) (x : ℕ) → magnitude (signed n x) ≡ x
-mag-signed true zero = refl
-mag-signed true (suc x) = refl
-mag-signed false x = refl
 
 pub neg-signed : (n : Bool) (x : ℕ) → 1 ≤ x → negative (signed n x) ≡ n
 neg-signed true zero h = absurd (omega (arith, h))
@@ -26,10 +21,6 @@ neg-signed false x h = refl
 pub signed-zero : (n : Bool) → signed n 0 ≡ pos 0
 signed-zero true = refl
 signed-zero false = refl
-
-pub signed-back : (z : ℤ) → signed (negative z) (magnitude z) ≡ z
-signed-back (pos n) = refl
-signed-back (negsuc n) = refl
 
 -- Numbers: plane b adds bit b.
 digit-bit : (x b : ℕ) → digit (bit x b) ≡ x / 2 ^ b % 2
@@ -83,11 +74,11 @@ high-all z = ap (λ (x : ℕ). signed (negative z) x) whole ∙ signed-back z
 
 pub high-magnitude : (k : ℕ) (z : ℤ) → magnitude (highBits k z) ≡ magnitude z / 2 ^ k * 2 ^ k
 unfolding highBits
-high-magnitude k z = mag-signed (negative z) (magnitude z / 2 ^ k * 2 ^ k)
+high-magnitude k z = magnitude-signed (negative z) (magnitude z / 2 ^ k * 2 ^ k)
 
 pub high-negative : (k : ℕ) (z : ℤ) → 1 ≤ magnitude (highBits k z) → negative (highBits k z) ≡ negative z
 unfolding highBits
-high-negative k z h = neg-signed (negative z) (magnitude z / 2 ^ k * 2 ^ k) (subst (λ (x : ℕ). 1 ≤ x) (mag-signed (negative z) (magnitude z / 2 ^ k * 2 ^ k)) h)
+high-negative k z h = neg-signed (negative z) (magnitude z / 2 ^ k * 2 ^ k) (subst (λ (x : ℕ). 1 ≤ x) (magnitude-signed (negative z) (magnitude z / 2 ^ k * 2 ^ k)) h)
 
 -- a refinement bit
 pub high-refined : (b : ℕ) (z : ℤ) → 1 ≤ magnitude (highBits (suc b) z)

@@ -1,3 +1,4 @@
+-- Which bits no array fits: the clash by the marks, that it is refused rightly and nothing else is, and the decoder that tests for it.
 pub mod Most
 pub mod Owed
 pub mod Clash
@@ -14,4 +15,3 @@ pub mod ByCount
 pub mod Decoder
 pub mod Numbers
 pub mod Only
-pub mod Final

@@ -26,7 +26,7 @@ ones zero k y = zeros k y
 ones (suc D) k zero = omega arith
 ones (suc D) k (suc y) = ones D k y
 
--- WHAT SILENT MOVES KEEP, settling keeps
+-- what silent moves keep, settling keeps
 module _ (I : ℕ) (Q : State → Type 0) where
   abbrev pub AfterMove : Look → Type 0
   AfterMove over = Unit {0}
@@ -102,8 +102,8 @@ module _ (D I : ℕ) where
       (kept-low _ (i + 3) 4 (omega arith)
       (kept-low _ (i + 2) 4 (omega arith) (kept-low _ (i + 1) 4 (omega arith) (kept-low m i 4 (omega arith) k))))
     where
-      on : (t : Bool) → Kept D I (four I i 4 m) → Kept D I (splitDesc I i m t)
-      on true d = kept-set (four I i 4 m) (4 * i) 6 (λ p. omega arith) (λ p. omega arith) d
+      on : (t : Bool) → Kept D I (four i 4 m) → Kept D I (splitDesc I i m t)
+      on true d = kept-set (four i 4 m) (4 * i) 6 (λ p. omega arith) (λ p. omega arith) d
       on false d = d
 
   kept-grand : (i : ℕ) (m : List ℕ) → D ≤ i → Kept D I m → Kept D I (splitGrand I i m)
@@ -160,7 +160,7 @@ module _ (D I : ℕ) where
   unfolding next
   kept-next s a k = kept-settle (tell I s a) (kept-tell (s .left) (s .pass) (s .place) (s .pending) (s .marks) a k)
 
-  -- IN ANY RUN
+  -- in any run
   pub kept-reach : (u : List Bool) (s : State) → Kept D I (s .marks) → Kept D I ((reach I s u) .marks)
   unfolding reach
   kept-reach [] s k = k

@@ -16,6 +16,7 @@ use borrow.Author.Tests.{ltb-true, eqb-true}
 use Rattle.sizes.specs.Sizes.{allOf, coarsestOf}
 use Rattle.bits.specs.Bits.{digit}
 use Rattle.coef.specs.Coef.{at, magAt, magnitude, negative, signed}
+use Rattle.coef.proofs.Laws.{magnitude-signed}
 use Rattle.nls.specs.Marks.{pushFrom, push, splitDesc, splitGrand, pushRoots, startMarks}
 use Rattle.nls.specs.Scan as scan
 use Rattle.nls.specs.Scan.{State, Look, over, silent, asks, Pass, pixels, sets, refining, look, lookAt, lookPixels, lookSets, lookRefining, tell, tellAt, tellSets, settle, movesLeft, ask, asked, next, reach, start}
@@ -24,7 +25,6 @@ use Rattle.nls.specs.Reading.{Known, nothing, noted, learn, learnAt, lea
 use Rattle.nls.proofs.Counting.Sums.{order}
 use Rattle.nls.proofs.Machine.Run.{quiet-settled}
 use Rattle.nls.proofs.Kept.{ones, AfterMove, settle-keeps}
-use Rattle.nls.proofs.HighBits.{mag-signed}
 
 -- A split writes no mark from 1 to 3.
 record Old (m n : List ℕ) : Type 0 where
@@ -269,18 +269,18 @@ module _ (I P : ℕ) where
       → Sound I P (scan.at (suc b) p (i + 1) (set m i 2)) (noted i (signed a (2 ^ b)) b k)
   sign-sound {k} b i p w a m h hi =
       noted-sound i b (signed a (2 ^ b)) h hi refl refl refl
-      (rw mag-signed (pow-lt (omega (arith, h .left)))) (rw mag-signed (ap (λ (x : ℕ). x % 2 ^ b) {x = 2 ^ b} {y = 1 * 2 ^ b} (omega arith) ∙ mul-mod-left 1 (2 ^ b)))
+      (rw magnitude-signed (pow-lt (omega (arith, h .left)))) (rw magnitude-signed (ap (λ (x : ℕ). x % 2 ^ b) {x = 2 ^ b} {y = 1 * 2 ^ b} (omega arith) ∙ mul-mod-left 1 (2 ^ b)))
       (λ j hj e d. (other-mark m i 2 j 3 e (λ q. omega arith) (omega arith) .0, other-mark m i 2 j 3 e (λ q. omega arith) (omega arith) .1, due-next p i j d))
-      (λ j hj x y. ((λ q. rw mag-signed (one-le-pow b 2 (omega arith))), λ q. (let e : getD (set m i 2) j 0 ≡ getD m j 0 = getD-set-other m i j 2 0 q in (omega arith, omega arith))))
+      (λ j hj x y. ((λ q. rw magnitude-signed (one-le-pow b 2 (omega arith))), λ q. (let e : getD (set m i 2) j 0 ≡ getD m j 0 = getD-set-other m i j 2 0 q in (omega arith, omega arith))))
 
   -- a refinement bit
   refined-sound : {k : Known} (b i : ℕ) (a : Bool) (m : List ℕ) → Sound I P (scan.at (suc b) refining i m) k → i < I → getD m i 0 ≡ 3
       → Sound I P (scan.at (suc b) refining (i + 1) m) (noted i (signed (negative (at (k .bits) i)) (magAt (k .bits) i + digit a * 2 ^ b)) b k)
   refined-sound {k} b i a m h hi e =
       noted-sound i b (signed (negative (at (k .bits) i)) (magAt (k .bits) i + digit a * 2 ^ b)) h hi refl refl refl
-      (rw mag-signed small) (rw mag-signed whole)
+      (rw magnitude-signed small) (rw magnitude-signed whole)
       (λ j hj z d. ((λ q. omega arith), z, omega arith))
-      (λ j hj x y. ((λ q. rw mag-signed grown), λ q. (x, y)))
+      (λ j hj x y. ((λ q. rw magnitude-signed grown), λ q. (x, y)))
     where
       high : suc b ≤ getD (k .planes) i 0
       high = h .fresh i hi e (omega arith)
@@ -430,7 +430,7 @@ module _ (N L P : ℕ) where
   unfolding start settle
   begin-settled t e = quiet-settled I (movesLeft I (scan.at P pixels 0 (startMarks I D))) (scan.at P pixels 0 (startMarks I D)) t (omega arith) e
 
-  -- ON ANY BITS
+  -- on any bits
   pub known-sound : (u : List Bool) → Sound I P (after N L P u) (known N L P u)
   known-sound u = sound-run N P (begin N L P) (nothing N P) u begin-settled sound-begin
 

@@ -3,7 +3,7 @@ use mathlib.Core.Path.{_≡_, refl, sym, ap, subst, _∙_}
 use mathlib.Core.Bool.{Bool, true, false, _&&_, _||_, true≢false, false≢true}
 use mathlib.Core.Logic.{_⊎_, inl, inr, ⊎-elim}
 use mathlib.Core.List.{List, [], _∷_}
-use Prim.Native.Nat.{ℕ, zero, suc, _+_, _*_, _-_, _%_, _^_, _≤_, _<_}
+use Prim.Native.Nat.{ℕ, zero, suc, _+_, _*_, _-_, _^_, _≤_, _<_}
 use native.Mathlib.Omega.{arith}
 use native.Mathlib.Nat.{min-le-left}
 use native.Mathlib.Decide.{ℕ-discrete}
@@ -13,7 +13,6 @@ use lib.ListN.{getD, set, getD-replicate}
 use lib.Seq.{set-getD}
 use borrow.Author.Tests.{ltb-true, eqb-true}
 use Rattle.sizes.specs.Sizes.{allOf, coarsestOf, Sized}
-use Rattle.sizes.proofs.Laws.{coarsest-least, coarsest-four, all-sixteen, coarsest-all}
 use Rattle.bits.specs.Bits.{bit, digit}
 use Rattle.coef.specs.Coef.{at, magAt, magnitude, negative, signed}
 use Rattle.nls.specs.Scan as scan
@@ -21,16 +20,15 @@ use Rattle.nls.specs.Scan.{State, Look, over, silent, asks, bitOf, signO
 use Rattle.nls.specs.Stream.{begin, after}
 use Rattle.nls.specs.Reading.{Known, nothing, noted, learn, learnAt, learned, known, highBits, precisionAt}
 use Rattle.nls.specs.Judging.{Begins}
-use Rattle.nls.proofs.Arrays.{Bits, bits-of, ans}
-use Rattle.nls.proofs.Judging.Most.{told, Fits}
+use Rattle.nls.proofs.Tiled.{Tiled, tiled}
+use Rattle.nls.proofs.Arrays.{Bits, bits-of, ans, told, Fit}
 use Rattle.nls.proofs.Machine.Table.{Cfg, alone}
 use Rattle.nls.proofs.Machine.Cover.{Core, More, is-alone}
-use Rattle.nls.proofs.Machine.Steps.{Good-at, From, preds}
+use Rattle.nls.proofs.Machine.Steps.{Good-at, From, preds, from-good}
 use Rattle.nls.proofs.Machine.Start.{good-start}
 use Rattle.nls.proofs.Machine.Start as first
 use Rattle.nls.proofs.Reading.Know.{know, knowO, add, least, know-sgn-has}
-use Rattle.nls.proofs.Reading.Whole.{fam, one-bit, run}
-use Rattle.nls.proofs.Reading.Prefix.{from-good}
+use Rattle.nls.proofs.Reading.Told.{fam, one-bit, run}
 use Rattle.nls.proofs.Kept.{AfterMove, settle-keeps}
 use Rattle.nls.proofs.Lists.{arrOf}
 use Rattle.nls.proofs.Streams.{begins-iff}
@@ -54,24 +52,15 @@ module _ (N L : ℕ) (size : Sized N L) (P : ℕ) (A : List ℤ) (under : (i : �
   abbrev D : ℕ
   D = coarsestOf N L
 
-  abbrev D-big : 4 ≤ D
-  D-big = coarsest-least N L size
-
-  abbrev D-4 : D % 4 ≡ 0
-  D-4 = coarsest-four N L size
-
-  abbrev I-16 : I % 16 ≡ 0
-  I-16 = all-sixteen N L size
-
-  abbrev D-I : 4 * D ≤ I
-  D-I = coarsest-all N L size
+  abbrev sz : Tiled D I
+  sz = tiled N L size
 
   -- A as bits, and the scan's invariant with k for the bits of A that were read
   abbrev B : Bits
   B = bits-of (arrOf A)
 
   abbrev Good : Bits → ℕ → Pass → ℕ → Bool → List ℕ → Type 0
-  Good k l p i w m = Good-at D I D-big D-4 I-16 P (fam N D P D-big D-4 I-16 B k) l p i w m
+  Good k l p i w m = Good-at sz P (fam N B k) l p i w m
 
   -- Of a scan at s: what is noted of a coefficient are A's bits, down to its plane; a bit that was read lies at its plane or above,
   -- but the one whose sign is still to come; and that is A's highest.
@@ -90,12 +79,12 @@ module _ (N L : ℕ) (size : Sized N L) (P : ℕ) (A : List ℤ) (under : (i : �
       on false q = refl
       on true q =
           absurd
-          (let seen : k .has j e ≡ true = from-good N D P D-big D-4 I-16 D-I (fam N D P D-big D-4 I-16 B k) l p i w m g e a (omega (arith, h .most j hj)) j hj q in
+          (let seen : k .has j e ≡ true = from-good sz P (fam N B k) l p i w m g e a (omega (arith, h .most j hj)) j hj q in
           omega (arith, r .own j e hj seen (λ x y z. omega arith)))
 
   -- a coefficient whose mark is MIP or MCP has no bit in a finished plane
-  unfound : (k : Bits) (b i : ℕ) (m : List ℕ) (c : Cfg) → From D I D-big D-4 I-16 P (fam N D P D-big D-4 I-16 B k) (suc b)
-      → Core D I D-big D-4 I-16 c m → More D I D-big D-4 I-16 (preds (fam N D P D-big D-4 I-16 B k) b) c → i < I → (getD m i 0 ≡ 1) ⊎ (getD m i 0 ≡ 4)
+  unfound : (k : Bits) (b i : ℕ) (m : List ℕ) (c : Cfg) → From sz P (fam N B k) (suc b)
+      → Core sz c m → More sz (preds (fam N B k) b) c → i < I → (getD m i 0 ≡ 1) ⊎ (getD m i 0 ≡ 4)
       → (e : ℕ) → suc b ≤ e → e < P → bit (magAt A i) e ≡ false
   unfound k b i m c f core more hi v e a u = on (bit (magAt A i) e) refl
     where
@@ -106,7 +95,7 @@ module _ (N L : ℕ) (size : Sized N L) (P : ℕ) (A : List ℤ) (under : (i : �
       on false q = refl
       on true q =
           let held : (alone D I c i ≡ true) × (2 ≤ c .al i) × (c .al i ≤ 3) = more .zs i hi (e, f e a u i hi q) in
-          let same : (alone D I c i ≡ true) × (c .al i ≡ getD m i 0) = is-alone D I D-big D-4 I-16 c m core i hi (mark .0) (mark .1) in
+          let same : (alone D I c i ≡ true) × (c .al i ≡ getD m i 0) = is-alone sz c m core i hi (mark .0) (mark .1) in
           absurd (mark .2 (omega arith, omega arith))
 
   -- nothing is noted
@@ -292,16 +281,16 @@ module _ (N L : ℕ) (size : Sized N L) (P : ℕ) (A : List ℤ) (under : (i : �
       on (silent r) t f = absurd t
       on (asks q) t f = f t
 
-  right-run : (o : Known) (k : Bits) (s : State) (u : List Bool) → ((t : State) → look I s ≡ silent t → ⊥) → Good-of k s → Sound I P s o → Right s o k → Fits N State (ask I) (next I) B s u
-      → Right (reach I s u) (learned N s o u) (least N State (ask I) (next I) s u k)
+  right-run : (o : Known) (k : Bits) (s : State) (u : List Bool) → ((t : State) → look I s ≡ silent t → ⊥) → Good-of k s → Sound I P s o → Right s o k → Fit N B s u
+      → Right (reach I s u) (learned N s o u) (least N s u k)
   unfolding reach learned
   right-run o k s [] n g h r f = r
   right-run o k s (a ∷ u) n g h r f =
-      right-run (learnAt (ask I s) s a o) (knowO (ask I s) a k) (next I s a) u (next-settled I P s a) (one-bit N D P D-big D-4 I-16 B k s a g (f .0)) (sound-next I P s o a n h) (right-next o k s a g h r (f .0)) (f .1)
+      right-run (learnAt (ask I s) s a o) (knowO (ask I s) a k) (next I s a) u (next-settled I P s a) (one-bit N P sz B k s a g (f .0)) (sound-next I P s o a n h) (right-next o k s a g h r (f .0)) (f .1)
 
   -- before the first bit
   good-begin : Good-of first.nothing (begin N L P)
-  good-begin = good-start D I D-big D-4 I-16 D-I P (fam N D P D-big D-4 I-16 B first.nothing) (λ j z. false≢true (z .1))
+  good-begin = good-start sz P (fam N B first.nothing) (λ j z. false≢true (z .1))
 
   right-begin : Right (begin N L P) (nothing N P) first.nothing
   unfolding scan.start
@@ -312,22 +301,22 @@ module _ (N L : ℕ) (size : Sized N L) (P : ℕ) (A : List ℤ) (under : (i : �
   })
 
   -- the known bits of each coefficient are A's, down to its precision
-  pub answered-bits : (u : List Bool) → Fits N State (ask I) (next I) B (begin N L P) u → (i : ℕ) → i < I → at (known N L P u .bits) i ≡ highBits (precisionAt N L P u i) (at A i)
+  pub answered-bits : (u : List Bool) → Fit N B (begin N L P) u → (i : ℕ) → i < I → at (known N L P u .bits) i ≡ highBits (precisionAt N L P u i) (at A i)
   answered-bits u f i hi =
       r .high i hi
       ∙ high-same (precisionAt N L P u i) (getD (known N L P u .planes) i 0) (at A i) (min-le-left (getD (known N L P u .planes) i 0) (t .left))
-      (λ e l h. gap k (t .left) (t .pass) (t .place) (t .pending) (t .marks) (known N L P u) (run N D P D-big D-4 I-16 B first.nothing (begin N L P) u good-begin f) (known-sound N L P u) r i hi e (omega arith) h)
+      (λ e l h. gap k (t .left) (t .pass) (t .place) (t .pending) (t .marks) (known N L P u) (run N P sz B first.nothing (begin N L P) u good-begin f) (known-sound N L P u) r i hi e (omega arith) h)
     where
       k : Bits
-      k = least N State (ask I) (next I) (begin N L P) u first.nothing
+      k = least N (begin N L P) u first.nothing
 
       t : State
       t = after N L P u
 
-      r : Right (after N L P u) (known N L P u) (least N State (ask I) (next I) (begin N L P) u first.nothing)
+      r : Right (after N L P u) (known N L P u) (least N (begin N L P) u first.nothing)
       r = right-run (nothing N P) first.nothing (begin N L P) u (begin-settled N L P) good-begin (sound-begin N L P) right-begin f
 
--- KNOWN BITS: of every array whose stream begins so, the bits down to each coefficient's precision
+-- of every array whose stream begins so, the bits down to each coefficient's precision
 pub known-bits : (N L : ℕ) → Sized N L → (P : ℕ) (A : List ℤ) (u : List Bool) → Begins N L P A u
     → (i : ℕ) → i < allOf N → at (known N L P u .bits) i ≡ highBits (precisionAt N L P u i) (at A i)
 known-bits N L z P A u b = answered-bits N L z P A (b .planes .below) u (begins-iff N L z P A u .0 b .2)

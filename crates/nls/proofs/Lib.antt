@@ -1,3 +1,6 @@
+-- What is proved of the scan: `Demands` states it in one place, `Samples` proves the samples; the rest leads there.
+pub mod Booleans
+pub mod Tiled
 pub mod Arrays
 pub mod Machine
 pub mod Reading

@@ -9,7 +9,7 @@ use borrow.Author.Tests.{lt-ltb, ne-eqb}
 use lib.Dec.{ltb, eqb}
 use lib.IntN.{ℤ}
 use Rattle.sizes.specs.Sizes.{allOf, coarsestOf, Sized}
-use Rattle.sizes.proofs.Laws.{coarsest-all}
+use Rattle.sizes.proofs.Laws.{coarsest-all, both-left, both-right, both}
 use Rattle.bits.specs.Bits.{bit}
 use Rattle.coef.specs.Coef.{at, magAt, negative}
 use Rattle.tree.specs.Tree.{desc, grand, anyIn}
@@ -17,10 +17,9 @@ use Rattle.tree.proofs.Members.{under, desc-find, grand-find, desc-has, grand-h
 use Rattle.tree.proofs.Ors.{desc-bit, grand-bit}
 use Rattle.nls.specs.Scan.{Question, bitOf, signOf, inDesc, inGrand, State, ask, next}
 use Rattle.nls.specs.Stream.{answer, answers, begin, after, worstBody, stream}
-use Rattle.nls.proofs.Arrays.{Arr, bits-of, below, any, inside, ans, answersOf}
-use Rattle.nls.proofs.Judging.Most.{and-l, and-r, and-i, any-some, any-find}
-use Rattle.nls.proofs.Judging.Final.{none-asked}
-use Rattle.nls.proofs.Joined.Answers.{same-bool}
+use Rattle.nls.proofs.Machine.Run.{none-asked}
+use Rattle.nls.proofs.Booleans.{same-bool}
+use Rattle.nls.proofs.Arrays.{Arr, bits-of, below, any, inside, ans, answersOf, any-some, any-find}
 use Rattle.nls.proofs.Joined.Whole.{bound, whole}
 use Rattle.nls.proofs.Kept.{Kept, Rooted, AllRooted, kept-next, kept-reach, kept-start, asks-rooted}
 
@@ -40,7 +39,7 @@ module _ (N L : ℕ) (z : Sized N L) where
   abbrev I : ℕ
   I = allOf N
 
-  -- A SET THAT IS ASKED ABOUT HAS MEMBERS, after any bits
+  -- a set that is asked about has members, after any bits
   pub begin-kept : (P : ℕ) → Kept D I ((begin N L P) .marks)
   begin-kept P = kept-start D I P (omega (arith, coarsest-all N L z))
 
@@ -57,13 +56,13 @@ module _ (N L : ℕ) (z : Sized N L) where
         (λ e.
         let r = desc-find N L z (λ j. bit (magAt A j) b) g e in
         any-some I (λ j. (ltb j I && below N g j) && bit (magAt A j) b) (r .0) (r .1 .1)
-        (and-i (ltb (r .0) I && below N g (r .0)) (bit (magAt A (r .0)) b)
-        (and-i (ltb (r .0) I) (below N g (r .0)) (lt-ltb (r .0) I (r .1 .1)) (sym (under-below N g (r .0)) ∙ r .1 .2)) (r .2)))
+        (both
+        (both (lt-ltb (r .0) I (r .1 .1)) (sym (under-below N g (r .0)) ∙ r .1 .2)) (r .2)))
         (λ e.
         let r = any-find I (λ j. (ltb j I && below N g j) && bit (magAt A j) b) e in
-        let k = and-l (ltb (r .0) I && below N g (r .0)) (bit (magAt A (r .0)) b) (r .2) in
-        desc-has N L z (λ j. bit (magAt A j) b) g (r .0) h (r .1) (under-below N g (r .0) ∙ and-r (ltb (r .0) I) (below N g (r .0)) k)
-        (and-r (ltb (r .0) I && below N g (r .0)) (bit (magAt A (r .0)) b) (r .2)))
+        let k = both-left (ltb (r .0) I && below N g (r .0)) (bit (magAt A (r .0)) b) (r .2) in
+        desc-has N L z (λ j. bit (magAt A j) b) g (r .0) h (r .1) (under-below N g (r .0) ∙ both-right (ltb (r .0) I) (below N g (r .0)) k)
+        (both-right (ltb (r .0) I && below N g (r .0)) (bit (magAt A (r .0)) b) (r .2)))
 
     in-grand : (g b : ℕ) → D / 4 ≤ g → anyIn (λ j. bit (magAt A j) b) (grand N L g) ≡ ans N (bits-of (arrOf A)) (inGrand g b)
     unfolding ans inside
@@ -72,13 +71,13 @@ module _ (N L : ℕ) (z : Sized N L) where
         (λ e.
         let r = grand-find N L z (λ j. bit (magAt A j) b) g e in
         any-some I (λ j. (ltb j I && below N g (j / 4)) && bit (magAt A j) b) (r .0) (r .1 .1)
-        (and-i (ltb (r .0) I && below N g (r .0 / 4)) (bit (magAt A (r .0)) b)
-        (and-i (ltb (r .0) I) (below N g (r .0 / 4)) (lt-ltb (r .0) I (r .1 .1)) (sym (under-below N g (r .0 / 4)) ∙ r .1 .2)) (r .2)))
+        (both
+        (both (lt-ltb (r .0) I (r .1 .1)) (sym (under-below N g (r .0 / 4)) ∙ r .1 .2)) (r .2)))
         (λ e.
         let r = any-find I (λ j. (ltb j I && below N g (j / 4)) && bit (magAt A j) b) e in
-        let k = and-l (ltb (r .0) I && below N g (r .0 / 4)) (bit (magAt A (r .0)) b) (r .2) in
-        grand-has N L z (λ j. bit (magAt A j) b) g (r .0) h (r .1) (under-below N g (r .0 / 4) ∙ and-r (ltb (r .0) I) (below N g (r .0 / 4)) k)
-        (and-r (ltb (r .0) I && below N g (r .0 / 4)) (bit (magAt A (r .0)) b) (r .2)))
+        let k = both-left (ltb (r .0) I && below N g (r .0 / 4)) (bit (magAt A (r .0)) b) (r .2) in
+        grand-has N L z (λ j. bit (magAt A j) b) g (r .0) h (r .1) (under-below N g (r .0 / 4) ∙ both-right (ltb (r .0) I) (below N g (r .0 / 4)) k)
+        (both-right (ltb (r .0) I && below N g (r .0 / 4)) (bit (magAt A (r .0)) b) (r .2)))
 
     pub answer-same : (q : Question) → Rooted D q → answer N L A q ≡ ans N (bits-of (arrOf A)) q
     unfolding answer
@@ -109,7 +108,7 @@ module _ (N L : ℕ) (z : Sized N L) where
     none-of : (n : ℕ) → answersOf N (bits-of (arrOf A)) n (begin N L 0) ≡ []
     unfolding answersOf
     none-of zero = refl
-    none-of (suc n) = rw (none-asked N L (omega arith) (z .least) (z .most), answersOf)
+    none-of (suc n) = rw (none-asked (allOf N) (coarsestOf N L), answersOf)
 
     pub stream-same : (P : ℕ) → stream N L P A ≡ whole N L P (arrOf A)
     unfolding stream whole worstBody answers

@@ -1,4 +1,3 @@
+-- What a run of answers tells of the arrays that fit it.
 pub mod Know
-pub mod Whole
-pub mod Prefix
-pub mod Value
+pub mod Told

@@ -1,11 +1,11 @@
 -- The starred samples hold, by computation.
-use mathlib.Core.Path.{_≡_, refl, subst}
+use mathlib.Core.Path.{refl, subst}
 use mathlib.Core.Bool.{Bool, true, false}
-use mathlib.Core.List.{List, [], _∷_, _++_, map, flatMap}
-use Prim.Native.Nat.{ℕ, zero, suc, _+_}
-use lib.IntN.{ℤ, pos, negsuc}
-use lib.ListN.{length, take, replicate}
+use mathlib.Core.List.{List, _∷_, _++_, flatMap}
+use lib.ListN.{replicate}
+use native.Mathlib.Omega.{arith}
 use Rattle.sizes.specs.Tables.{table}
+use Rattle.sizes.specs.Sizes.{Sized}
 use Rattle.bits.specs.Bits.{bit, packed, number}
 use Rattle.places.specs.Order.{linearly, toRaster, rowOf, colOf}
 use Rattle.coef.specs.Coef.{planesOf, largest, digits}
@@ -13,14 +13,12 @@ use Rattle.tree.specs.Tree.{children, descendants, desc, grand, anyIn}
 use Rattle.tree.specs.Summaries.{orAll, descOr, grandOr}
 use Rattle.nls.specs.Marks.{skip, setSkip, pushFrom, pushRoots, startMarks}
 use Rattle.nls.specs.Scan.{silently, settle, ask, next, reach, start}
-use Rattle.nls.specs.Stream.{answer, answers, begin, after, worstBody, stream, during}
-use Rattle.nls.specs.Parts.{sumTo, found, descSplit, grandSplit, standsAlone, descStands, grandStands, parts, splits, splitsIn, nonzeros}
-use Rattle.nls.specs.Reading.{learned, valueBy, midpoint, valuesBy, worstError}
-use native.Mathlib.Omega.{arith}
-use Rattle.sizes.specs.Sizes.{Sized}
+use Rattle.nls.specs.Stream.{answer, answers, worstBody, stream, during}
+use Rattle.nls.specs.Parts.{sumTo, found, descSplit, grandSplit, standsAlone, descStands, grandStands, parts, splits, nonzeros}
+use Rattle.nls.specs.Reading.{learned, valueBy}
 use Rattle.nls.specs.Judging.{Verdict, contradiction, Judged}
-use Rattle.nls.proofs.Verdicts.{no-one-found, no-child-found, verdict-judged}
 use Rattle.nls.specs.Samples.{raster, linear, whole, valuesAt, errorAt, samples, Each}
+use Rattle.nls.proofs.Verdicts.{no-one-found, no-child-found, verdict-judged}
 
 small : Sized 2 1
 small = record { least = omega arith; most = omega arith }

@@ -28,7 +28,7 @@ use Rattle.nls.proofs.Counting.Bound as bounds
 use Rattle.nls.proofs.Counting.Bound.{size, all-is, coarsest-is}
 use Rattle.nls.proofs.Joined.Whole.{bound}
 
--- LISTS
+-- ---- lists
 -- the length of a list, and whether some member has p, as sums
 length-sum : (l : List ℕ) → length l ≡ sumOver (λ _. 1) l
 unfolding sumOver
@@ -44,7 +44,7 @@ any-sum p (j ∷ l) = go (p j) (any-sum p l)
     go true e = sym (lt-ltb 0 (1 + sumOver (λ j. ι (p j)) l) (omega arith))
     go false e = let z : 0 + sumOver (λ j. ι (p j)) l ≡ sumOver (λ j. ι (p j)) l = omega arith in rw (z, e)
 
--- RUNS
+-- ---- runs
 -- the four terms of a run of four
 four-terms : (i : ℕ) (f : ℕ → ℕ) → sum (4 * i) 4 f ≡ f (4 * i) + f (4 * i + 1) + f (4 * i + 2) + f (4 * i + 3)
 four-terms i f = omega (arith, sum-last (4 * i) 3 f, sum-last (4 * i) 2 f, sum-last (4 * i) 1 f, first)
@@ -92,7 +92,7 @@ module _ (N L : ℕ) (s : Sized N L) where
   coarsest-four : coarsestOf N L / 4 ≡ sizeOf .e
   coarsest-four = omega (arith, coarsest-is N L (s .least) (s .most))
 
-  -- SUMS over DESC and GRAND are those over the tree
+  -- sums over DESC and GRAND are those over the tree
   module _ (g : ℕ → ℕ) where
     sum-high : (i : ℕ) → Q sizeOf ≤ i → sumOver g (desc N L i) ≡ tree.desc sizeOf g i
     sum-high i h = over.desc-sum-high N L s g i (omega (arith, all-four)) ∙ sym (desc-none sizeOf g i h)
@@ -140,7 +140,7 @@ module _ (N L : ℕ) (s : Sized N L) where
           four-terms i (λ c. tree.desc sizeOf g c),
         )
 
-  -- LENGTHS
+  -- ---- lengths
   pub desc-length : (i : ℕ) → sizeOf .e ≤ i → length (desc N L i) ≡ tree.desc sizeOf (λ _. 1) i
   desc-length i p = length-sum (desc N L i) ∙ desc-sum (λ _. 1) i p
 
@@ -175,7 +175,7 @@ module _ (N L : ℕ) (s : Sized N L) where
         child-le sizeOf (λ _. 1) (4 * i) (16 * i) (omega (arith, sizeOf .some)) (omega arith) (omega arith) (omega arith),
       ))
 
-  -- SUMS over all places, where only those with a DESC or a GRAND count
+  -- sums over all places, where only those with a DESC or a GRAND count
   all-run : (f g : ℕ → ℕ) → ((i : ℕ) → f i ≡ g i) → sumTo (allOf N) f ≡ over-all sizeOf g
   all-run f g h = sum-to (allOf N) f ∙ sum-at 0 0 (allOf N) (I sizeOf) f refl (sym (all-is N L (s .least) (s .most))) ∙ sum-cong 0 (I sizeOf) f g (λ i p q. h i)
 
@@ -192,7 +192,7 @@ module _ (N L : ℕ) (s : Sized N L) where
       (λ i p. none i (grand-none-low i p)) (λ i p. none i (grand-none-high i p)) h
 
   module _ (A : List ℤ) where
-    -- WHAT IS SPLIT
+    -- ---- what is split
     pub desc-split-is : (b i : ℕ) → sizeOf .e ≤ i → descSplit N L A b i ≡ split-desc sizeOf (mags A) b i
     unfolding descSplit split-desc found big
     desc-split-is b i p =
@@ -212,7 +212,7 @@ module _ (N L : ℕ) (s : Sized N L) where
     unfolding grandSplit anyIn
     grand-empty-split b i e = rw e
 
-    -- WHAT STANDS
+    -- ---- what stands
     below-or : (i : ℕ) (t u : Bool) → (D sizeOf ≤ i → t ≡ u) → (ltb i (coarsestOf N L) || t) ≡ (ltb i (D sizeOf) || u)
     below-or i t u h =
         ap (λ (d : ℕ). ltb i d || t) (sym (coarsest-is N L (s .least) (s .most))) ∙ ⊎-elim (λ p. rw (le-ltb i (D sizeOf) p) (h p)) (λ p. rw (lt-ltb i (D sizeOf) p)) (order (D sizeOf) i)
@@ -242,7 +242,7 @@ module _ (N L : ℕ) (s : Sized N L) where
     unfolding grandStands
     grand-empty-stands b i e = rw e
 
-    -- THE COUNTS
+    -- ---- the counts
     alones : (b : ℕ) → countTo (allOf N) (λ i. standsAlone N L A b i) ≡ over-all sizeOf (λ i. ι (alone sizeOf (mags A) b i))
     alones b = all-run (λ i. digit (standsAlone N L A b i)) (λ i. ι (alone sizeOf (mags A) b i)) (λ i. ap ι (alone-is b i))
 
@@ -285,7 +285,7 @@ module _ (N L : ℕ) (s : Sized N L) where
 
     pub founds-is : (b : ℕ) → founds N L A b ≡ counting.bigs sizeOf (mags A) b
     unfolding founds counting.bigs found big
-    founds-is b = all-run (λ i. digit (found N L A b i)) (λ i. ι (big sizeOf (mags A) b i)) (λ i. refl)
+    founds-is b = all-run (λ i. digit (found N L A b i)) (λ i. ι (big (mags A) b i)) (λ i. refl)
 
     pub nonzeros-is : nonzeros N L A ≡ bounds.nonzeros sizeOf (mags A)
     unfolding nonzeros bounds.nonzeros

@@ -14,20 +14,19 @@ use Rattle.sizes.specs.Sizes.{allOf, coarsestOf, Sized}
 use Rattle.sizes.specs.Tables.{table}
 use Rattle.sizes.proofs.Tables.{table-length, table-at}
 use Rattle.bits.specs.Bits.{bit}
+use Rattle.bits.proofs.Laws.{bit-none}
 use Rattle.coef.specs.Coef.{at, magAt, magnitude, negative, signed, IsPlanes}
+use Rattle.coef.proofs.Laws.{magnitude-signed}
 use Rattle.nls.specs.Scan.{Question, bitOf, signOf, inDesc, inGrand, State, Look, over, silent, asks, Pass, pixels, sets, refining, look, lookAt, lookPixels, lookSets, lookRefining, tell, tellAt, tellSets, settle, ask, asked, next, start}
 use Rattle.nls.specs.Scan as Scan
 use Rattle.nls.specs.Marks.{startMarks}
 use Rattle.nls.specs.Stream.{begin}
 use Rattle.nls.specs.Judging as J
-use Rattle.nls.proofs.Arrays.{Arr, Bits, bits-of, ans}
-use Rattle.nls.proofs.Machine.Run.{Fit}
+use Rattle.nls.proofs.Arrays.{Arr, Bits, bits-of, ans, told, Fit}
 use Rattle.nls.proofs.Counting.Sums.{order}
-use Rattle.nls.proofs.Judging.Most.{told}
 use Rattle.nls.proofs.Judging.Clash.{Valid}
 use Rattle.nls.proofs.Judging.Numbers.{Planes, ans-ext, valid-of}
 use Rattle.nls.proofs.Judging.Only.{to-list}
-use Rattle.nls.proofs.Joined.Answers.{zero-bit}
 use Rattle.nls.proofs.Kept.{AfterMove, settle-keeps}
 use Rattle.nls.proofs.Lists.{arrOf}
 use Rattle.nls.proofs.Streams.{begins-iff}
@@ -116,7 +115,7 @@ module _ (N : ℕ) (B : Bits) where
   unfolding ask next
   waits-next s a t = waits-settle (tell I s a) (waits-tell (s .left) (s .pass) (s .place) (s .pending) (s .marks) a t)
 
-  -- AN ARRAY WITH THE SAME BITS, and the same signs where there is a bit, fits the same
+  -- an array with the same bits, and the same signs where there is a bit, fits the same
   module _ (C : Bits) (bits : (i b : ℕ) → B .has i b ≡ C .has i b) (signs : (i b : ℕ) → B .has i b ≡ true → B .neg i ≡ C .neg i) where
     abbrev E : Bits
     E = record { has = C .has; neg = B .neg }
@@ -138,14 +137,9 @@ module _ (N : ℕ) (B : Bits) where
     same-fit s [] h f = tt
     same-fit s (a ∷ u) h f = (same-told (look I s) a ((moves s h) .1) (f .0), same-fit (next I s a) u (waits-next s a (f .0)) (f .1))
 
--- THE LIST of an array that is 0 from n on
+-- the list of an array that is 0 from n on
 abbrev pub listOf : ℕ → Arr → List ℤ
 listOf n A = table n (λ j. signed (A .neg j) (A .mag j))
-
-signed-mag : (s : Bool) (x : ℕ) → magnitude (signed s x) ≡ x
-signed-mag false x = refl
-signed-mag true zero = refl
-signed-mag true (suc x) = refl
 
 signed-neg : (s : Bool) (x : ℕ) → (x ≡ 0 → ⊥) → negative (signed s x) ≡ s
 signed-neg false x h = refl
@@ -153,7 +147,7 @@ signed-neg true zero h = absurd (h refl)
 signed-neg true (suc x) h = refl
 
 bit-some : (x b : ℕ) → bit x b ≡ true → x ≡ 0 → ⊥
-bit-some x b h e = true≢false (sym h ∙ ap (λ (y : ℕ). bit y b) e ∙ zero-bit b)
+bit-some x b h e = true≢false (sym h ∙ ap (λ (y : ℕ). bit y b) e ∙ bit-none b)
 
 module _ (n : ℕ) (A : Arr) (rest : (j : ℕ) → n ≤ j → A .mag j ≡ 0) where
   list-mag : (j : ℕ) → magAt (listOf n A) j ≡ A .mag j
@@ -163,7 +157,7 @@ module _ (n : ℕ) (A : Arr) (rest : (j : ℕ) → n ≤ j → A .mag j ≡ 0) w
       on (inl h) =
           ap (λ (z : ℤ). magnitude z) (List·getD-eq-default (listOf n A) (pos 0) {n = j} (omega (arith, h, table-length n (λ j. signed (A .neg j) (A .mag j)))))
           ∙ sym (rest j h)
-      on (inr h) = ap (λ (z : ℤ). magnitude z) (table-at n (λ j. signed (A .neg j) (A .mag j)) j (pos 0) h) ∙ signed-mag (A .neg j) (A .mag j)
+      on (inr h) = ap (λ (z : ℤ). magnitude z) (table-at n (λ j. signed (A .neg j) (A .mag j)) j (pos 0) h) ∙ magnitude-signed (A .neg j) (A .mag j)
 
   list-neg : (j b : ℕ) → bit (A .mag j) b ≡ true → A .neg j ≡ negative (at (listOf n A) j)
   list-neg j b h = on (order n j)
@@ -218,7 +212,7 @@ module _ (N L : ℕ) (z : Sized N L) (P : ℕ) where
             (order P R);
       }
 
-  -- SOME BITS FIT exactly if some list of numbers does
+  -- some bits fit exactly if some list of numbers does
   pub lists-fit : (u : List Bool) → BitsFit N L P u → J.Fits N L P u
   lists-fit u w =
       let r = to-list N (coarsestOf N L) P u w in

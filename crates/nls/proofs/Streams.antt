@@ -14,8 +14,8 @@ use Rattle.coef.specs.Coef.{magAt, IsPlanes}
 use Rattle.nls.specs.Scan.{Question, State, over, pixels, at, look, ask, next, reach}
 use Rattle.nls.specs.Stream.{answer, answers, sent, begin, after, stream}
 use Rattle.nls.specs.Judging.{Begins}
-use Rattle.nls.proofs.Arrays.{bits-of, answersOf}
-use Rattle.nls.proofs.Machine.Run.{Fit, fit-prefix, stream-fits, fits-stream}
+use Rattle.nls.proofs.Arrays.{bits-of, answersOf, Fit}
+use Rattle.nls.proofs.Machine.Run.{fit-prefix, stream-fits, fits-stream}
 use Rattle.nls.proofs.Joined.Leads.{over-none}
 use Rattle.nls.proofs.Joined.Whole as Whole
 use Rattle.nls.proofs.Kept.{kept-reach}
@@ -33,7 +33,7 @@ sent-from N L A (suc n) s = on (ask (allOf N) s) (λ a. sent-from N L A n (next 
     on none ih = refl
     on (some q) ih = ih (answer N L A q)
 
--- IN STEP: after the same bits encoder and decoder stand in equal states, with equal marks
+-- after the same bits encoder and decoder stand in equal states, with equal marks
 pub in-step : (N L P : ℕ) (A : List ℤ) (n : ℕ) → sent N L A n (begin N L P) ≡ after N L P (answers N L A n (begin N L P))
 in-step N L P A n = sent-from N L A n (begin N L P)
 
@@ -60,7 +60,7 @@ module _ (N L : ℕ) (z : Sized N L) (P : ℕ) where
           let w = Whole.whole-ends N L (z .least) (z .most) P (arrOf A) (λ i h. below i) in
           (w .0, ap (λ (u : List Bool). after N L P u) (stream-same N L z A P) ∙ w .1)
 
-      -- THE STREAM ENDS: after it no plane is left, and nothing is asked
+      -- the stream ends: after it no plane is left, and nothing is asked
       pub ends-left : (after N L P (stream N L P A)) .left ≡ 0
       ends-left = ap (λ (s : State). s .left) (whole-end .1)
 
@@ -70,7 +70,7 @@ module _ (N L : ℕ) (z : Sized N L) (P : ℕ) where
       pub ends : ask (allOf N) (after N L P (stream N L P A)) ≡ none
       ends = over-none N (bits-of (arrOf A)) (after N L P (stream N L P A)) ends-over
 
-      -- UNDER A BUDGET of n bits: the first n of the stream, the smaller of n and all
+      -- under a budget of n bits: the first n of the stream, the smaller of n and all
       pub budget-bits : (n : ℕ) → answers N L A n (begin N L P) ≡ take n (stream N L P A)
       budget-bits n =
           answers-same N L z A P n ∙ Whole.budget-bits N L (z .least) (z .most) P (arrOf A) (λ i h. below i) n

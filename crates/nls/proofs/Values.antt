@@ -15,11 +15,12 @@ use Rattle.sizes.specs.Sizes.{allOf, Sized}
 use Rattle.sizes.specs.Tables.{table}
 use Rattle.sizes.proofs.Tables.{table-at, table-ext, table-is}
 use Rattle.coef.specs.Coef.{at, magAt, magnitude, negative, signed, IsPlanes}
+use Rattle.coef.proofs.Laws.{magnitude-signed, signed-back}
 use Rattle.nls.specs.Stream.{after, stream}
 use Rattle.nls.specs.Reading.{known, midpoint, valueBy, highBits, lastPlane, precisionAt, valuesBy, precisions, planesFinished, worstError}
 use Rattle.nls.specs.Judging.{Begins}
 use Rattle.nls.proofs.Streams.{ends-left}
-use Rattle.nls.proofs.HighBits.{mag-signed, signed-zero, signed-back, high-all, high-magnitude, high-negative}
+use Rattle.nls.proofs.HighBits.{signed-zero, high-all, high-magnitude, high-negative}
 use Rattle.nls.proofs.Known.{Sound, known-sound, precision-left, lower-round, room}
 use Rattle.nls.proofs.KnownBits.{known-bits}
 
@@ -103,7 +104,7 @@ value-exact rule same z = on (eqb (magnitude z) 0) refl
     on true e = sym (ap (λ (x : ℕ). signed (negative z) x) (eqb-true (magnitude z) 0 e) ∙ signed-zero (negative z)) ∙ signed-back z
     on false e = ap (λ (x : ℕ). signed (negative z) x) (same (magnitude z)) ∙ signed-back z
 
--- ON ANY BITS a value has no more planes than the header says
+-- on any bits a value has no more planes than the header says
 pub value-range : (N L P : ℕ) (u : List Bool) (rule : ℕ → ℕ → ℕ) → Between rule → (i : ℕ) → i < allOf N → magnitude (valueBy rule (precisionAt N L P u i) (at (known N L P u .bits) i)) < 2 ^ P
 unfolding valueBy
 value-range N L P u rule fair i h = on (eqb m 0)
@@ -125,15 +126,15 @@ value-range N L P u rule fair i h = on (eqb m 0)
 
     on : (t : Bool) → magnitude (cond t (pos 0) (signed (negative (at (known N L P u .bits) i)) (rule k m))) < 2 ^ P
     on true = one-le-pow P 2 (omega arith)
-    on false = rw mag-signed (omega (arith, fair .high k m, more, one-le-pow k 2 (omega arith)))
+    on false = rw magnitude-signed (omega (arith, fair .high k m, more, one-le-pow k 2 (omega arith)))
 
--- CUT: the values are the rule's at the known bits and precisions of any array whose stream begins so
+-- the values are the rule's at the known bits and precisions of any array whose stream begins so
 pub cut : (N L : ℕ) → Sized N L → (P : ℕ) (A : List ℤ) (u : List Bool) → Begins N L P A u → (rule : ℕ → ℕ → ℕ)
     → valuesBy N L P u rule ≡ table (allOf N) (λ i. valueBy rule (precisionAt N L P u i) (highBits (precisionAt N L P u i) (at A i)))
 cut N L z P A u b rule = table-ext (allOf N) _ _ (λ i h. ap (λ (y : ℤ). valueBy rule (precisionAt N L P u i) y) (known-bits N L z P A u b i h))
 
 module _ (N L : ℕ) (z : Sized N L) (P : ℕ) (B : List ℤ) (u : List Bool) (b : Begins N L P B u) (rule : ℕ → ℕ → ℕ) (fair : Between rule) where
-  -- NEAR: each coefficient is wrong by less than 2^k of its own precision k
+  -- each coefficient is wrong by less than 2^k of its own precision k
   pub near-own : (i : ℕ) → i < allOf N → natAbs (at (valuesBy N L P u rule) i -ℤ at B i) < 2 ^ precisionAt N L P u i
   near-own i h =
       subst (λ (y : ℤ). natAbs (y -ℤ at B i) < 2 ^ precisionAt N L P u i)
@@ -144,7 +145,7 @@ module _ (N L : ℕ) (z : Sized N L) (P : ℕ) (B : List ℤ) (u : List Bool) (b
   pub near : (i : ℕ) → i < allOf N → natAbs (at (valuesBy N L P u rule) i -ℤ at B i) ≤ worstError N L P u
   near i h = omega (arith, near-own i h, pow-mono {i = precisionAt N L P u i} {j = lastPlane N L P u} (precision-left N L P u i))
 
--- A WHOLE STREAM
+-- ---- a whole stream
 module _ (N L : ℕ) (z : Sized N L) (P : ℕ) (A : List ℤ) (size : length A ≡ allOf N) (planes : IsPlanes A P) where
   done : lastPlane N L P (stream N L P A) ≡ 0
   done = ends-left N L z P A (planes .below)

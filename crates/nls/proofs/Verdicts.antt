@@ -1,7 +1,7 @@
 -- Refusals 12 and 13 as a computation: the verdict on usable bits, and that it is the one that document 01 means.
 use Prim.Native.Nat.{ℕ, zero, suc, _+_, _≤_, _<_}
 use mathlib.Core.Path.{_≡_, refl, sym, ap, subst, _∙_}
-use mathlib.Core.Bool.{Bool, true, false, not, _&&_, _||_}
+use mathlib.Core.Bool.{Bool, true, false, not, _&&_}
 use mathlib.Core.Logic.{_⊎_, inl, inr}
 use mathlib.Core.Option.{Option, none, some, IsSome}
 use mathlib.Core.List.{List, [], _∷_, _++_}
@@ -15,14 +15,13 @@ use Rattle.nls.specs.Marks.{skip, setSkip, pushFrom, pushRoots, startMar
 use Rattle.nls.specs.Scan.{Question, State, silently, settle, ask, next, reach, start}
 use Rattle.nls.specs.Stream.{begin, after, stream}
 use Rattle.nls.specs.Judging.{Fits, Verdict, taken, contradiction, beyond, Contradicts, IsBeyond, Judged}
-use Rattle.nls.proofs.Arrays.{Bits, bits-of}
+use Rattle.nls.proofs.Machine.Run.{none-asked}
+use Rattle.nls.proofs.Tiled.{tiled}
+use Rattle.nls.proofs.Arrays.{Bits, bits-of, told, Fit}
 use Rattle.nls.proofs.Counting.Sums.{order}
-use Rattle.nls.proofs.Machine.Run.{Fit}
-use Rattle.nls.proofs.Judging.Most.{told}
 use Rattle.nls.proofs.Judging.Decide.{clash-by, cb-child, cb-grand, cb-desc, cb-root}
-use Rattle.nls.proofs.Judging.Decoder.{Out, here, no12, no13, decode, Means}
-use Rattle.nls.proofs.Judging.ByCount.{clash-count}
-use Rattle.nls.proofs.Judging.Final.{D-big, D-4, I-16, D-I, answer-means, none-asked}
+use Rattle.nls.proofs.Judging.Decoder.{decode, Means, decode-means}
+use Rattle.nls.proofs.Judging.ByCount.{clash-count, right-count}
 use Rattle.nls.proofs.Lists.{arrOf}
 use Rattle.nls.proofs.Streams.{Answered, begins-iff}
 use Rattle.nls.proofs.Signs.{lists-fit, bits-fit}
@@ -41,25 +40,19 @@ verdictFrom N L P used s (a ∷ u) = elim (ask (allOf N) s) [
 abbrev pub verdict : ℕ → ℕ → ℕ → List Bool → Verdict
 verdict N L P u = verdictFrom N L P 0 (begin N L P) u
 
--- it is the decoder's answer
-abbrev shown : Out → Verdict
-shown (here s) = taken
-shown (no12 n) = contradiction n
-shown (no13 n) = beyond n
+-- it is the decoder's
+abbrev decoded : ℕ → ℕ → ℕ → ℕ → State → List Bool → Verdict
+decoded N L P used s u = decode (allOf N) (λ used s. clash-count (allOf N) (coarsestOf N L) P used s) used s u
 
-abbrev decoded : ℕ → ℕ → ℕ → ℕ → Bool → State → List Bool → Out
-decoded N L P used hit s u = decode (allOf N) (λ used hit s. clash-count (allOf N) (coarsestOf N L) P used s) used hit s u
-
-shown-from : (N L P used : ℕ) (hit : Bool) (s : State) (u : List Bool) → verdictFrom N L P used s u ≡ shown (decoded N L P used hit s u)
+verdict-decoded : (N L P used : ℕ) (s : State) (u : List Bool) → verdictFrom N L P used s u ≡ decoded N L P used s u
 unfolding verdictFrom decode
-shown-from N L P used hit s [] = refl
-shown-from N L P used hit s (a ∷ u) =
-    on (ask (allOf N) s) (not a && clash-count (allOf N) (coarsestOf N L) P used s) (shown-from N L P (used + 1) (hit || a) (next (allOf N) s a) u)
+verdict-decoded N L P used s [] = refl
+verdict-decoded N L P used s (a ∷ u) =
+    on (ask (allOf N) s) (not a && clash-count (allOf N) (coarsestOf N L) P used s) (verdict-decoded N L P (used + 1) (next (allOf N) s a) u)
   where
-    on : (o : Option Question) (t : Bool)
-        → verdictFrom N L P (used + 1) (next (allOf N) s a) u ≡ shown (decoded N L P (used + 1) (hit || a) (next (allOf N) s a) u)
-        → (elim o as (λ _. Verdict) [ none ↦ beyond used | some q ↦ elim t as (λ _. Verdict) [ true ↦ contradiction used | false ↦ verdictFrom N L P (used + 1) (next (allOf N) s a) u ] ])
-        ≡ shown (elim o as (λ _. Out) [ none ↦ no13 used | some q ↦ elim t as (λ _. Out) [ true ↦ no12 used | false ↦ decoded N L P (used + 1) (hit || a) (next (allOf N) s a) u ] ])
+    on : (o : Option Question) (t : Bool) → verdictFrom N L P (used + 1) (next (allOf N) s a) u ≡ decoded N L P (used + 1) (next (allOf N) s a) u
+        → _≡_ {A = Verdict} (elim o as (λ _. Verdict) [ none ↦ beyond used | some q ↦ elim t as (λ _. Verdict) [ true ↦ contradiction used | false ↦ verdictFrom N L P (used + 1) (next (allOf N) s a) u ] ])
+        (elim o as (λ _. Verdict) [ none ↦ beyond used | some q ↦ elim t as (λ _. Verdict) [ true ↦ contradiction used | false ↦ decoded N L P (used + 1) (next (allOf N) s a) u ] ])
     on none t ih = refl
     on (some q) true ih = refl
     on (some q) false ih = ih
@@ -119,18 +112,10 @@ module _ (N L : ℕ) (z : Sized N L) where
         subst (λ (o : Option Question). told N (bits-of (arrOf (w .0))) o (getD u n false)) e
         (last-told N (bits-of (arrOf (w .0))) (begin N L P) (take n u) (getD u n false) f)
 
-    two : 2 ≤ N
-    two = omega (arith, z .least, z .most)
-
-    abbrev Meant : List Bool → Out → Type 0
-    Meant v o =
-        Means N (coarsestOf N L) P (D-big N L two (z .least) (z .most)) (D-4 N L two (z .least) (z .most)) (I-16 N L two (z .least) (z .most))
-        (D-I N L two (z .least) (z .most)) v o
-
     -- what the decoder's answer means, over lists of numbers
-    meant-judged : 1 ≤ P → (v : List Bool) (o : Out) → Meant v o → Judged N L P v (shown o)
-    meant-judged h v (here s) m = lists-fit N L z P v (m .1)
-    meant-judged h v (no12 n) m =
+    meant-judged : 1 ≤ P → (v : List Bool) (o : Verdict) → Means N P (tiled N L z) v o → Judged N L P v o
+    meant-judged h v taken m = lists-fit N L z P v m
+    meant-judged h v (contradiction n) m =
         subst (λ (x : List Bool). Contradicts N L P x n) (sym (m .3))
         (subst (λ (k : ℕ). Contradicts N L P (m .0 ++ (m .1 ∷ m .2)) k) (sym (m .4))
         (record {
@@ -140,7 +125,7 @@ module _ (N L : ℕ) (z : Sized N L) where
           question = m .7 .0;
           inPlane = ap (λ (x : List Bool). ask (allOf N) (after N L P x)) (cut-before (m .0) (m .1) (m .2)) ∙ m .7 .1;
         }))
-    meant-judged h v (no13 n) m =
+    meant-judged h v (beyond n) m =
         subst (λ (x : List Bool). IsBeyond N L P x n) (sym (m .3))
         (subst (λ (k : ℕ). IsBeyond N L P (m .0 ++ (m .1 ∷ m .2)) k) (sym (m .4))
         (record {
@@ -151,22 +136,22 @@ module _ (N L : ℕ) (z : Sized N L) where
 
     judged-some : 1 ≤ P → (u : List Bool) → Judged N L P u (verdict N L P u)
     judged-some h u =
-        subst (λ (v : Verdict). Judged N L P u v) (sym (shown-from N L P 0 false (begin N L P) u))
-        (meant-judged h u (decoded N L P 0 false (begin N L P) u) (answer-means N L two (z .least) (z .most) P h u))
+        subst (λ (v : Verdict). Judged N L P u v) (sym (verdict-decoded N L P 0 (begin N L P) u))
+        (meant-judged h u (decoded N L P 0 (begin N L P) u) (decode-means N P (tiled N L z) (λ used s. clash-count (allOf N) (coarsestOf N L) P used s) (right-count N P (tiled N L z)) h u))
 
   judged-none : (u : List Bool) → Judged N L 0 u (verdict N L 0 u)
   unfolding verdictFrom
   judged-none [] = nothing-fits
   judged-none (a ∷ u) =
-      rw (none-asked N L (omega (arith, z .least, z .most)) (z .least) (z .most), verdictFrom)
-      (record { there = omega arith; before = nothing-fits; ended = (unfold reach in none-asked N L (omega (arith, z .least, z .most)) (z .least) (z .most)) })
+      rw (none-asked (allOf N) (coarsestOf N L), verdictFrom)
+      (record { there = omega arith; before = nothing-fits; ended = (unfold reach in none-asked (allOf N) (coarsestOf N L)) })
 
-  -- THE VERDICT IS RIGHT, for every number of planes
+  -- the verdict is right, for every number of planes
   pub verdict-judged : (P : ℕ) (u : List Bool) → Judged N L P u (verdict N L P u)
   verdict-judged zero u = judged-none u
   verdict-judged (suc P) u = judged-some (suc P) (omega arith) u
 
-  -- AND THE ONLY ONE
+  -- and the only one
   module _ (P : ℕ) (u : List Bool) where
     -- nothing fits past the bit of a refusal
     past-12 : (n k : ℕ) → Contradicts N L P u n → n < k → Fits N L P (take k u) → ⊥
@@ -200,7 +185,7 @@ module _ (N L : ℕ) (z : Sized N L) where
     judged-only (beyond n) (beyond k) p q =
         ap {B = Verdict} (λ (x : ℕ). beyond x) (same-place n k (λ h. past-13 n k p h (q .before)) (λ h. past-13 k n q h (p .before)))
 
-    -- REFUSED EXACTLY: the bits are taken if and only if some array's stream begins with them
+    -- the bits are taken if and only if some array's stream begins with them
     pub refused-exactly : (verdict N L P u ≡ taken → Fits N L P u) × (Fits N L P u → verdict N L P u ≡ taken)
     refused-exactly = ((λ e. subst (λ (v : Verdict). Judged N L P u v) e (verdict-judged P u)), λ w. judged-only (verdict N L P u) taken (verdict-judged P u) w)
 

@@ -1,17 +1,17 @@
 -- The number of a body's bits; its bound; and an array that reaches it.
--- Assumes nothing.
-use Prim.Native.Nat.{ℕ, zero, suc, _+_, _*_, _-_, _^_, _/_, _%_, _≤_, _<_}
+use Prim.Native.Nat.{ℕ, suc, _+_, _*_, _-_, _^_, _/_, _≤_, _<_}
 use mathlib.Core.Path.{_≡_, refl, ap, sym, _∙_}
-use mathlib.Core.Bool.{Bool, true, false, not, _&&_, _||_, cond}
-use native.Mathlib.Nat.{le-trans, le-refl, zero-add, pow-succ', pow-le-pow-right}
+use mathlib.Core.Bool.{Bool, true, false, _||_}
+use native.Mathlib.Nat.{le-trans, pow-succ', pow-le-pow-right}
 use native.Mathlib.Omega.{arith}
-use borrow.Author.Tests.{lt-ltb, le-ltb, leb-true, leb-false, le-leb, lt-leb, ne-eqb}
-use lib.Dec.{T, ltb, leb, eqb, leb→le, le→leb, ltb→lt, lt→ltb, nleb→lt, nltb→le, T-not, not-T}
-use lib.Pow.{pow-mono, pow-lt, pow-pos}
-use lib.ListN.{length, getD, replicate, getD-replicate}
-use Rattle.nls.proofs.Counting.Sums.{sum, sum-cong, sum-le, sum-add, sum-const, sum-zero, sum-split, sum-at}
-use Rattle.nls.proofs.Counting.Tree.{Size, D, Q, I, desc, grand, desc-zero, grand-zero}
-use Rattle.nls.proofs.Counting.Parts.{ι, over-desc, over-grand, over-all, big, split-desc, split-grand, alone, stands-desc, stands-grand, parts, sizes, splits, bigs, body}
+use borrow.Author.Tests.{lt-ltb, lt-leb}
+use lib.Dec.{T, ltb, leb, le→leb}
+use lib.Pow.{pow-mono, pow-pos}
+use lib.ListN.{length}
+use Rattle.nls.proofs.Booleans.{T-true}
+use Rattle.nls.proofs.Counting.Sums.{sum, sum-cong, sum-le, sum-const, sum-zero}
+use Rattle.nls.proofs.Counting.Tree.{Size, D, Q, I, desc-zero, grand-zero}
+use Rattle.nls.proofs.Counting.Parts.{ι, over-all, big, split-desc, split-grand, alone, stands-desc, stands-grand, parts, splits, bigs, body}
 use Rattle.nls.proofs.Counting.Count.{body-count, big-alone, child-splits, desc-splits}
 use Rattle.nls.proofs.Counting.Sizes.{parts-le}
 
@@ -27,36 +27,32 @@ worst z P = I z * (P + 1) + (I z - D z) / 4 + (I z - 4 * D z) / 16
 ι-le true = omega arith
 ι-le false = omega arith
 
-T-true : (t : Bool) → T t → t ≡ true
-T-true true h = refl
-T-true false h = absurd h
-
 module _ (z : Size) (mag : ℕ → ℕ) where
   -- from a plane on nothing is big, so nothing is split
   module _ (n : ℕ) (small : (i : ℕ) → i < I z → mag i < 2 ^ n) where
-    pub none-big : (i : ℕ) → i < I z → ι (big z mag n i) ≡ 0
+    pub none-big : (i : ℕ) → i < I z → ι (big mag n i) ≡ 0
     unfolding big
     none-big i u = let t : leb (2 ^ n) (mag i) ≡ false = lt-leb (2 ^ n) (mag i) (small i u) in rw t
 
     no-bigs : bigs z mag n ≡ 0
     unfolding bigs
-    no-bigs = sum-zero 0 (I z) (λ i. ι (big z mag n i)) (λ i u v. none-big i (omega arith))
+    no-bigs = sum-zero 0 (I z) (λ i. ι (big mag n i)) (λ i u v. none-big i (omega arith))
 
     no-splits : splits z mag n ≡ 0
     unfolding splits split-desc split-grand
     no-splits =
         omega (
           arith,
-          sum-zero (z .e) (Q z - z .e) (λ i. ι (split-desc z mag n i)) (λ i u v. rw (desc-zero z (λ c. ι (big z mag n c)) none-big i)),
-          sum-zero (z .e) (z .j - z .e) (λ i. ι (split-grand z mag n i)) (λ i u v. rw (grand-zero z (λ c. ι (big z mag n c)) none-big i)),
+          sum-zero (z .e) (Q z - z .e) (λ i. ι (split-desc z mag n i)) (λ i u v. rw (desc-zero z (λ c. ι (big mag n c)) none-big i)),
+          sum-zero (z .e) (z .j - z .e) (λ i. ι (split-grand z mag n i)) (λ i u v. rw (grand-zero z (λ c. ι (big mag n c)) none-big i)),
         )
 
-    -- DEMAND 3, the number of bits
+    -- the number of bits
     pub bits-count : (neg : ℕ → Bool) → length (body z mag neg n) ≡ sum 0 n (λ b. parts z mag b) + splits z mag 0 + nonzeros z mag
     unfolding bigs big nonzeros
     bits-count neg = omega (arith, body-count z mag neg n, no-bigs, no-splits)
 
-    -- DEMAND 3, the bound
+    -- the bound
     pub bits-bound : (neg : ℕ → Bool) → length (body z mag neg n) ≤ worst z n
     unfolding worst splits nonzeros
     bits-bound neg =
@@ -74,7 +70,7 @@ module _ (z : Size) (mag : ℕ → ℕ) where
         )
 
   -- where all is big, all is split and every part is a coefficient
-  module _ (b : ℕ) (all : (i : ℕ) → i < I z → T (big z mag b i)) where
+  module _ (b : ℕ) (all : (i : ℕ) → i < I z → T (big mag b i)) where
     desc-split : (i : ℕ) → z .e ≤ i → i < Q z → split-desc z mag b i ≡ true
     desc-split i u v =
         T-true (split-desc z mag b i) (child-splits z mag b i (4 * i) (omega arith) v (omega arith) (omega arith) (all (4 * i) (omega arith)))
@@ -108,9 +104,9 @@ module _ (z : Size) (mag : ℕ → ℕ) where
           sum-const (z .e) (z .j - z .e) 1,
         )
 
--- DEMAND 3, the bound is reached where all magnitudes are from 2 ^ (P - 1) to 2 ^ P - 1
+-- the bound is reached where all magnitudes are from 2 ^ (P - 1) to 2 ^ P - 1
 module _ (z : Size) (mag : ℕ → ℕ) (n : ℕ) (small : (i : ℕ) → i < I z → mag i < 2 ^ suc n) (large : (i : ℕ) → i < I z → 2 ^ n ≤ mag i) where
-  large-big : (b : ℕ) → b ≤ n → (i : ℕ) → i < I z → T (big z mag b i)
+  large-big : (b : ℕ) → b ≤ n → (i : ℕ) → i < I z → T (big mag b i)
   unfolding big
   large-big b h i u = le→leb (2 ^ b) (mag i) (le-trans (pow-mono h) (large i u))
 
@@ -127,15 +123,6 @@ module _ (z : Size) (mag : ℕ → ℕ) (n : ℕ) (small : (i : ℕ) → i < I z
             (λ i u v. rw (lt-ltb 0 (mag i) (le-trans (pow-pos n) (large i (omega arith))))),
         sum-const 0 (I z) 1,
       )
-
--- as an array: every entry 2 ^ (P - 1)
-pub reached-by : (z : Size) (n : ℕ) (neg : ℕ → Bool)
-    → length (body z (λ i. getD (replicate (I z) (2 ^ n)) i 0) neg (suc n)) ≡ worst z (suc n)
-reached-by z n neg =
-    bound-reached z (λ i. getD (replicate (I z) (2 ^ n)) i 0) n
-    (λ i u. rw (getD-replicate (I z) i (2 ^ n) 0 u) (pow-lt (le-refl _)))
-    (λ i u. rw (getD-replicate (I z) i (2 ^ n) 0 u) (le-refl _))
-    neg
 
 -- The sizes of document 01: side 2 ^ N, L levels.
 pub pow-four : (m n : ℕ) → n ≡ suc m → 4 * 4 ^ m ≡ 4 ^ n
@@ -167,7 +154,3 @@ pub worst-is : (N L P : ℕ) (b : 1 ≤ L) (c : L < N)
     → worst (size N L b c) P ≡ 4 ^ N * (P + 1) + (4 ^ N - 4 ^ (N - L)) / 4 + (4 ^ N - 4 * 4 ^ (N - L)) / 16
 unfolding worst
 worst-is N L P b c = rw (all-is N L b c, coarsest-is N L b c)
-
-sample-worst : worst (size 2 1 (omega arith) (omega arith)) 3 ≡ 67
-unfolding worst
-sample-worst = refl

@@ -1,38 +1,31 @@
 -- The bits of a plane number the parts that stand after it, and what it splits and finds.
--- Assumes nothing.
 use Prim.Native.Nat.{ℕ, zero, suc, _+_, _*_, _-_, _^_, _/_, _%_, _≤_, _<_}
 use mathlib.Core.Path.{_≡_, refl, ap, sym, _∙_}
-use mathlib.Core.Bool.{Bool, true, false, not, _&&_, _||_, cond}
+use mathlib.Core.Bool.{Bool, true, false, not, _&&_, _||_, cond, and-false}
 use mathlib.Core.List.{List, [], _∷_, _++_}
-use native.Mathlib.Nat.{le-trans, zero-add, pow-succ', div-eq-of-lt, div-eq-of-lt-le}
+use native.Mathlib.Nat.{le-trans, zero-add, pow-succ'}
 use native.Mathlib.Omega.{arith}
-use borrow.Author.Tests.{lt-ltb, le-ltb, leb-true, leb-false, le-leb, lt-leb, ne-eqb}
-use lib.Dec.{T, ltb, leb, eqb, leb→le, le→leb, ltb→lt, lt→ltb, nleb→lt, nltb→le, T-not, not-T}
+use borrow.Author.Tests.{lt-ltb, le-ltb, le-leb, lt-leb, ne-eqb}
+use lib.Dec.{T, ltb, leb, eqb, leb→le, le→leb, ltb→lt, lt→ltb, nltb→le, T-not, not-T}
 use lib.ListN.{length, length-append}
-use Rattle.nls.proofs.Counting.Sums.{sum, each, each-length, sum-cong, sum-le, sum-add, sum-const, sum-zero, sum-split, sum-at, le-sum, sum-four, sum-last, sum-tail, sum-first, sum-cond, sum-two, sum-four-two, by-four}
-use Rattle.nls.proofs.Counting.Tree.{Size, D, Q, I, desc, grand, desc-none, grand-none, desc-step, child-le, desc-le, grand-le, desc-mono, grand-mono}
-use Rattle.nls.proofs.Counting.Parts.{ι, over-desc, over-grand, over-all, big, split-desc, split-grand, alone, stands-desc, stands-grand, parts, sizes, splits, bigs, bit, coded, pixel, refine, test-grand, test-desc, children, group, plane, body}
+use Rattle.bits.specs.Bits.{bit}
+use Rattle.nls.proofs.Booleans.{T-false}
+use Rattle.nls.proofs.Counting.Sums.{sum, each, each-length, sum-cong, sum-add, sum-at, sum-four, sum-last, sum-tail, sum-first, sum-two, sum-four-two, by-four}
+use Rattle.nls.proofs.Counting.Tree.{Size, D, Q, I, desc, grand, child-le, desc-le, grand-le, desc-mono, grand-mono}
+use Rattle.nls.proofs.Counting.Parts.{ι, over-desc, over-grand, over-all, big, split-desc, split-grand, alone, stands-desc, stands-grand, parts, splits, bigs, coded, pixel, refine, test-grand, test-desc, children, group, plane, body, top-bit}
 
 -- tests and numbers
 T→1 : (t : Bool) → T t → 1 ≤ ι t
 T→1 true h = omega arith
 T→1 false h = absurd h
 
-1→T : (t : Bool) → 1 ≤ ι t → T t
-1→T true h = tt
-1→T false h = absurd (omega arith)
-
-ι-mono : (s t : Bool) → (T s → T t) → ι s ≤ ι t
+pub ι-mono : (s t : Bool) → (T s → T t) → ι s ≤ ι t
 ι-mono false t h = omega arith
 ι-mono true t h = T→1 t (h tt)
 
 or-intro : (s t : Bool) → (T (not s) → T t) → T (s || t)
 or-intro true t h = tt
 or-intro false t h = h tt
-
-or-map : (s t u : Bool) → (T t → T u) → T (s || t) → T (s || u)
-or-map true t u h k = tt
-or-map false t u h k = h k
 
 -- the laws of one coefficient and of one set
 coef-law : (d p p1 s s1 : Bool) → (T s1 → T s) → (T p1 → T p) → (T s → T (d || p)) → (T s1 → T (d || p1))
@@ -82,53 +75,54 @@ pub and-right : (s t : Bool) → T (s && t) → T t
 and-right true t h = h
 and-right false t h = absurd h
 
-pub and-left : (s t : Bool) → T (s && t) → T s
-and-left true t h = tt
-and-left false t h = absurd h
+-- below 2 ^ (b + 1), bit b says whether a magnitude is at least 2 ^ b
+pub bit-big : (mag : ℕ → ℕ) (b i : ℕ) → T (not (big mag (suc b) i)) → bit (mag i) b ≡ big mag b i
+unfolding big
+bit-big mag b i t = top-bit b (mag i) (T-false (leb (2 ^ suc b) (mag i)) (T-not (leb (2 ^ suc b) (mag i)) t))
 
 module _ (z : Size) (mag : ℕ → ℕ) where
-  pub big-mono : (b i : ℕ) → T (big z mag (suc b) i) → T (big z mag b i)
+  pub big-mono : (b i : ℕ) → T (big mag (suc b) i) → T (big mag b i)
   unfolding big
   big-mono b i t = le→leb (2 ^ b) (mag i) (omega (arith, leb→le (2 ^ suc b) (mag i) t, pow-succ' 2 b))
 
-  counted-mono : (b i : ℕ) → ι (big z mag (suc b) i) ≤ ι (big z mag b i)
-  counted-mono b i = ι-mono (big z mag (suc b) i) (big z mag b i) (big-mono b i)
+  counted-mono : (b i : ℕ) → ι (big mag (suc b) i) ≤ ι (big mag b i)
+  counted-mono b i = ι-mono (big mag (suc b) i) (big mag b i) (big-mono b i)
 
   pub desc-shrinks : (b i : ℕ) → T (split-desc z mag (suc b) i) → T (split-desc z mag b i)
   unfolding split-desc
   desc-shrinks b i t =
-      lt→ltb 0 (desc z (λ c. ι (big z mag b c)) i)
-      (le-trans (ltb→lt 0 (desc z (λ c. ι (big z mag (suc b) c)) i) t)
-      (desc-mono z (λ c. ι (big z mag (suc b) c)) (λ c. ι (big z mag b c)) (counted-mono b) i))
+      lt→ltb 0 (desc z (λ c. ι (big mag b c)) i)
+      (le-trans (ltb→lt 0 (desc z (λ c. ι (big mag (suc b) c)) i) t)
+      (desc-mono z (λ c. ι (big mag (suc b) c)) (λ c. ι (big mag b c)) (counted-mono b) i))
 
   pub grand-shrinks : (b i : ℕ) → T (split-grand z mag (suc b) i) → T (split-grand z mag b i)
   unfolding split-grand
   grand-shrinks b i t =
-      lt→ltb 0 (grand z (λ c. ι (big z mag b c)) i)
-      (le-trans (ltb→lt 0 (grand z (λ c. ι (big z mag (suc b) c)) i) t)
-      (grand-mono z (λ c. ι (big z mag (suc b) c)) (λ c. ι (big z mag b c)) (counted-mono b) i))
+      lt→ltb 0 (grand z (λ c. ι (big mag b c)) i)
+      (le-trans (ltb→lt 0 (grand z (λ c. ι (big mag (suc b) c)) i) t)
+      (grand-mono z (λ c. ι (big mag (suc b) c)) (λ c. ι (big mag b c)) (counted-mono b) i))
 
   -- a child that is big splits DESC, a child's DESC that is split splits GRAND, and GRAND splits DESC
-  pub child-splits : (b i c : ℕ) → 1 ≤ i → i < Q z → 4 * i ≤ c → c < 4 * i + 4 → T (big z mag b c) → T (split-desc z mag b i)
+  pub child-splits : (b i c : ℕ) → 1 ≤ i → i < Q z → 4 * i ≤ c → c < 4 * i + 4 → T (big mag b c) → T (split-desc z mag b i)
   unfolding split-desc
   child-splits b i c p q r s t =
-      lt→ltb 0 (desc z (λ k. ι (big z mag b k)) i)
-      (le-trans (T→1 (big z mag b c) t) (child-le z (λ k. ι (big z mag b k)) i c p q r s))
+      lt→ltb 0 (desc z (λ k. ι (big mag b k)) i)
+      (le-trans (T→1 (big mag b c) t) (child-le z (λ k. ι (big mag b k)) i c p q r s))
 
   pub desc-splits : (b i c : ℕ) → 4 * i ≤ c → c < 4 * i + 4 → T (split-desc z mag b c) → T (split-grand z mag b i)
   unfolding split-desc split-grand
   desc-splits b i c r s t =
-      lt→ltb 0 (grand z (λ k. ι (big z mag b k)) i)
-      (le-trans (ltb→lt 0 (desc z (λ k. ι (big z mag b k)) c) t) (desc-le z (λ k. ι (big z mag b k)) i c r s))
+      lt→ltb 0 (grand z (λ k. ι (big mag b k)) i)
+      (le-trans (ltb→lt 0 (desc z (λ k. ι (big mag b k)) c) t) (desc-le z (λ k. ι (big mag b k)) i c r s))
 
   pub grand-splits : (b i : ℕ) → 1 ≤ i → i < Q z → T (split-grand z mag b i) → T (split-desc z mag b i)
   unfolding split-desc split-grand
   grand-splits b i p q t =
-      lt→ltb 0 (desc z (λ k. ι (big z mag b k)) i)
-      (le-trans (ltb→lt 0 (grand z (λ k. ι (big z mag b k)) i) t) (grand-le z (λ k. ι (big z mag b k)) i p q))
+      lt→ltb 0 (desc z (λ k. ι (big mag b k)) i)
+      (le-trans (ltb→lt 0 (grand z (λ k. ι (big mag b k)) i) t) (grand-le z (λ k. ι (big mag b k)) i p q))
 
   -- what is big stands alone, and a set that is split has been a part
-  pub big-alone : (b i : ℕ) → i < I z → T (big z mag b i) → T (ltb i (D z) || split-desc z mag b (i / 4))
+  pub big-alone : (b i : ℕ) → i < I z → T (big mag b i) → T (ltb i (D z) || split-desc z mag b (i / 4))
   big-alone b i h t =
       or-intro (ltb i (D z)) (split-desc z mag b (i / 4))
       (λ n. let m : D z ≤ i = nltb→le i (D z) n in child-splits b (i / 4) i (omega arith) (omega arith) (omega arith) (omega arith) t)
@@ -139,14 +133,14 @@ module _ (z : Size) (mag : ℕ → ℕ) where
 
   -- one coefficient, one DESC, one GRAND
   coef-at : (b i : ℕ) → i < I z
-      → cond (alone z mag (suc b) i && not (big z mag (suc b) i)) (suc (ι (big z mag b i))) 0
-      + cond (big z mag (suc b) i) 1 0
-      + cond (not (ltb i (D z)) && (split-desc z mag b (i / 4) && not (split-desc z mag (suc b) (i / 4)))) (suc (ι (big z mag b i))) 0
-      + ι (big z mag (suc b) i)
-      ≡ ι (alone z mag b i) + ι (big z mag b i)
+      → cond (alone z mag (suc b) i && not (big mag (suc b) i)) (suc (ι (big mag b i))) 0
+      + cond (big mag (suc b) i) 1 0
+      + cond (not (ltb i (D z)) && (split-desc z mag b (i / 4) && not (split-desc z mag (suc b) (i / 4)))) (suc (ι (big mag b i))) 0
+      + ι (big mag (suc b) i)
+      ≡ ι (alone z mag b i) + ι (big mag b i)
   unfolding alone
   coef-at b i h =
-      coef-law (ltb i (D z)) (split-desc z mag b (i / 4)) (split-desc z mag (suc b) (i / 4)) (big z mag b i) (big z mag (suc b) i)
+      coef-law (ltb i (D z)) (split-desc z mag b (i / 4)) (split-desc z mag (suc b) (i / 4)) (big mag b i) (big mag (suc b) i)
       (big-mono b i) (desc-shrinks b (i / 4)) (big-alone b i h) (big-alone (suc b) i h)
 
   desc-at : (b i : ℕ)
@@ -163,57 +157,43 @@ module _ (z : Size) (mag : ℕ → ℕ) where
   grand-at b i p q =
       test-law (split-desc z mag b i) (split-grand z mag b i) (split-grand z mag (suc b) i) (grand-shrinks b i) (grand-splits b i p q)
 
-  -- below 2 ^ (b + 1), bit b says whether a magnitude is at least 2 ^ b
+  -- the numbers of bits
   module _ (neg : ℕ → Bool) where
-    pub bit-big : (b i : ℕ) → T (not (big z mag (suc b) i)) → bit z mag neg b i ≡ big z mag b i
-    unfolding big bit
-    bit-big b i t =
-        let less : mag i < 2 ^ suc b = nleb→lt (2 ^ suc b) (mag i) t in
-        go less (leb (2 ^ b) (mag i)) refl
-      where
-        go : mag i < 2 ^ suc b → (s : Bool) → leb (2 ^ b) (mag i) ≡ s → eqb (mag i / 2 ^ b % 2) 1 ≡ leb (2 ^ b) (mag i)
-        go less true e =
-            let one : mag i / 2 ^ b ≡ 1 = div-eq-of-lt-le (2 ^ b) (omega (arith, leb-true (2 ^ b) (mag i) e)) (omega (arith, pow-succ' 2 b)) in
-            rw (e, one)
-        go less false e =
-            let none : mag i / 2 ^ b ≡ 0 = div-eq-of-lt (leb-false (2 ^ b) (mag i) e) in
-            rw (e, none)
-
-    coded-length : (b i : ℕ) → T (not (big z mag (suc b) i)) → length (coded z mag neg b i) ≡ suc (ι (big z mag b i))
+    coded-length : (b i : ℕ) → T (not (big mag (suc b) i)) → length (coded mag neg b i) ≡ suc (ι (big mag b i))
     unfolding coded
-    coded-length b i t = rw (bit-big b i t) (ap suc (go (big z mag b i)))
+    coded-length b i t = rw (bit-big mag b i t) (ap suc (go (big mag b i)))
       where
         go : (s : Bool) → length (cond s (neg i ∷ []) []) ≡ ι s
         go true = refl
         go false = refl
 
     pixel-length : (b i : ℕ) → length (pixel z mag neg b i)
-        ≡ cond (alone z mag (suc b) i && not (big z mag (suc b) i)) (suc (ι (big z mag b i))) 0
+        ≡ cond (alone z mag (suc b) i && not (big mag (suc b) i)) (suc (ι (big mag b i))) 0
     unfolding pixel
     pixel-length b i =
-        length-cond (alone z mag (suc b) i && not (big z mag (suc b) i)) (coded z mag neg b i)
-        ∙ cond-cong (alone z mag (suc b) i && not (big z mag (suc b) i)) (length (coded z mag neg b i)) (suc (ι (big z mag b i)))
-        (λ t. coded-length b i (and-right (alone z mag (suc b) i) (not (big z mag (suc b) i)) t))
+        length-cond (alone z mag (suc b) i && not (big mag (suc b) i)) (coded mag neg b i)
+        ∙ cond-cong (alone z mag (suc b) i && not (big mag (suc b) i)) (length (coded mag neg b i)) (suc (ι (big mag b i)))
+        (λ t. coded-length b i (and-right (alone z mag (suc b) i) (not (big mag (suc b) i)) t))
 
-    refine-length : (b i : ℕ) → length (refine z mag neg b i) ≡ cond (big z mag (suc b) i) 1 0
+    refine-length : (b i : ℕ) → length (refine mag b i) ≡ cond (big mag (suc b) i) 1 0
     unfolding refine
-    refine-length b i = length-cond (big z mag (suc b) i) (bit z mag neg b i ∷ [])
+    refine-length b i = length-cond (big mag (suc b) i) (bit (mag i) b ∷ [])
 
     children-length : (b p : ℕ) → 1 ≤ p → p < Q z → length (children z mag neg b p)
-        ≡ cond (split-desc z mag b p && not (split-desc z mag (suc b) p)) (sum (4 * p) 4 (λ c. suc (ι (big z mag b c)))) 0
+        ≡ cond (split-desc z mag b p && not (split-desc z mag (suc b) p)) (sum (4 * p) 4 (λ c. suc (ι (big mag b c)))) 0
     unfolding children
     children-length b p h k =
-        length-cond (split-desc z mag b p && not (split-desc z mag (suc b) p)) (each (4 * p) 4 (λ c. coded z mag neg b c))
-        ∙ cond-cong (split-desc z mag b p && not (split-desc z mag (suc b) p)) (length (each (4 * p) 4 (λ c. coded z mag neg b c)))
-        (sum (4 * p) 4 (λ c. suc (ι (big z mag b c))))
-        (λ t. each-length (4 * p) 4 (λ c. coded z mag neg b c)
-        ∙ sum-cong (4 * p) 4 (λ c. length (coded z mag neg b c)) (λ c. suc (ι (big z mag b c)))
+        length-cond (split-desc z mag b p && not (split-desc z mag (suc b) p)) (each (4 * p) 4 (λ c. coded mag neg b c))
+        ∙ cond-cong (split-desc z mag b p && not (split-desc z mag (suc b) p)) (length (each (4 * p) 4 (λ c. coded mag neg b c)))
+        (sum (4 * p) 4 (λ c. suc (ι (big mag b c))))
+        (λ t. each-length (4 * p) 4 (λ c. coded mag neg b c)
+        ∙ sum-cong (4 * p) 4 (λ c. length (coded mag neg b c)) (λ c. suc (ι (big mag b c)))
         (λ c u v. coded-length b c
-        (not-T (big z mag (suc b) c)
+        (not-T (big mag (suc b) c)
         (λ w. T-not (split-desc z mag (suc b) p) (and-right (split-desc z mag b p) (not (split-desc z mag (suc b) p)) t)
         (child-splits (suc b) p c h k u v w)))))
 
-    test-desc-length : (b p : ℕ) → length (test-desc z mag neg b p)
+    test-desc-length : (b p : ℕ) → length (test-desc z mag b p)
         ≡ ι ((ltb p (D z) || split-grand z mag b (p / 4)) && not (split-desc z mag (suc b) p))
     unfolding test-desc
     test-desc-length b p = go ((ltb p (D z) || split-grand z mag b (p / 4)) && not (split-desc z mag (suc b) p))
@@ -222,7 +202,7 @@ module _ (z : Size) (mag : ℕ → ℕ) where
         go true = refl
         go false = refl
 
-    test-grand-length : (b p : ℕ) → length (test-grand z mag neg b p) ≡ ι (split-desc z mag b p && not (split-grand z mag (suc b) p))
+    test-grand-length : (b p : ℕ) → length (test-grand z mag b p) ≡ ι (split-desc z mag b p && not (split-grand z mag (suc b) p))
     unfolding test-grand
     test-grand-length b p = go (split-desc z mag b p && not (split-grand z mag (suc b) p))
       where
@@ -265,10 +245,6 @@ by-first z g =
     early : (p : ℕ) → p < D z → h p ≡ 0
     early p u = rw (lt-leb (D z) p u)
 
-    and-false : (t : Bool) → (t && false) ≡ false
-    and-false true = refl
-    and-false false = refl
-
     other : (q p : ℕ) → 4 * q < p → p < 4 * q + 4 → h p ≡ 0
     other q p k l =
         let odd : eqb (p % 4) 0 ≡ false = ne-eqb (p % 4) 0 (omega arith) in
@@ -284,10 +260,10 @@ by-first z g =
 module _ (z : Size) (mag : ℕ → ℕ) (neg : ℕ → Bool) where
   -- what plane b writes at a coefficient, and at a set
   pixels : ℕ → ℕ → ℕ
-  pixels b i = cond (alone z mag (suc b) i && not (big z mag (suc b) i)) (suc (ι (big z mag b i))) 0
+  pixels b i = cond (alone z mag (suc b) i && not (big mag (suc b) i)) (suc (ι (big mag b i))) 0
 
   refines : ℕ → ℕ → ℕ
-  refines b i = cond (big z mag (suc b) i) 1 0
+  refines b i = cond (big mag (suc b) i) 1 0
 
   fresh : ℕ → ℕ → Bool
   fresh b p = split-desc z mag b p && not (split-desc z mag (suc b) p)
@@ -300,56 +276,56 @@ module _ (z : Size) (mag : ℕ → ℕ) (neg : ℕ → Bool) where
 
   group-length : (b p : ℕ) → 1 ≤ p → p < Q z → length (group z mag neg b p)
       ≡ cond (leb (D z) p && eqb (p % 4) 0) (grand-tests b (p / 4)) 0
-      + (desc-tests b p + cond (fresh b p) (sum (4 * p) 4 (λ c. suc (ι (big z mag b c)))) 0)
+      + (desc-tests b p + cond (fresh b p) (sum (4 * p) 4 (λ c. suc (ι (big mag b c)))) 0)
   unfolding group grand-tests desc-tests fresh
   group-length b p h k =
-      let whole : length (cond (leb (D z) p && eqb (p % 4) 0) (test-grand z mag neg b (p / 4)) [] ++ (test-desc z mag neg b p ++ children z mag neg b p))
-      ≡ length (cond (leb (D z) p && eqb (p % 4) 0) (test-grand z mag neg b (p / 4)) [])
-      + (length (test-desc z mag neg b p) + length (children z mag neg b p)) =
+      let whole : length (cond (leb (D z) p && eqb (p % 4) 0) (test-grand z mag b (p / 4)) [] ++ (test-desc z mag b p ++ children z mag neg b p))
+      ≡ length (cond (leb (D z) p && eqb (p % 4) 0) (test-grand z mag b (p / 4)) [])
+      + (length (test-desc z mag b p) + length (children z mag neg b p)) =
       rw (length-append, length-append) in
-      let one : length (cond (leb (D z) p && eqb (p % 4) 0) (test-grand z mag neg b (p / 4)) [])
+      let one : length (cond (leb (D z) p && eqb (p % 4) 0) (test-grand z mag b (p / 4)) [])
       ≡ cond (leb (D z) p && eqb (p % 4) 0) (grand-tests b (p / 4)) 0 =
-      length-cond (leb (D z) p && eqb (p % 4) 0) (test-grand z mag neg b (p / 4))
+      length-cond (leb (D z) p && eqb (p % 4) 0) (test-grand z mag b (p / 4))
       ∙ ap (λ (n : ℕ). cond (leb (D z) p && eqb (p % 4) 0) n 0) (test-grand-length z mag neg b (p / 4)) in
       omega (arith, test-desc-length z mag neg b p, children-length z mag neg b p h k)
 
   plane-sums : (b : ℕ) → length (plane z mag neg b)
       ≡ over-all z (λ i. pixels b i)
       + (over-grand z (λ q. grand-tests b q)
-      + (over-desc z (λ p. desc-tests b p) + over-all z (λ i. cond (not (ltb i (D z)) && fresh b (i / 4)) (suc (ι (big z mag b i))) 0))
+      + (over-desc z (λ p. desc-tests b p) + over-all z (λ i. cond (not (ltb i (D z)) && fresh b (i / 4)) (suc (ι (big mag b i))) 0))
       + over-all z (λ i. refines b i))
   unfolding plane
   plane-sums b =
       let whole : length (plane z mag neg b) ≡ length (each 0 (I z) (λ i. pixel z mag neg b i))
-      + (length (each (z .e) (Q z - z .e) (λ p. group z mag neg b p)) + length (each 0 (I z) (λ i. refine z mag neg b i))) =
+      + (length (each (z .e) (Q z - z .e) (λ p. group z mag neg b p)) + length (each 0 (I z) (λ i. refine mag b i))) =
       rw (length-append, length-append) in
       let first : length (each 0 (I z) (λ i. pixel z mag neg b i)) ≡ over-all z (λ i. pixels b i) =
       each-length 0 (I z) (λ i. pixel z mag neg b i)
       ∙ sum-cong 0 (I z) (λ i. length (pixel z mag neg b i)) (λ i. pixels b i) (λ i u v. unfold pixels in pixel-length z mag neg b i) in
-      let last : length (each 0 (I z) (λ i. refine z mag neg b i)) ≡ over-all z (λ i. refines b i) =
-      each-length 0 (I z) (λ i. refine z mag neg b i)
-      ∙ sum-cong 0 (I z) (λ i. length (refine z mag neg b i)) (λ i. refines b i) (λ i u v. unfold refines in refine-length z mag neg b i) in
+      let last : length (each 0 (I z) (λ i. refine mag b i)) ≡ over-all z (λ i. refines b i) =
+      each-length 0 (I z) (λ i. refine mag b i)
+      ∙ sum-cong 0 (I z) (λ i. length (refine mag b i)) (λ i. refines b i) (λ i u v. unfold refines in refine-length z mag neg b i) in
       let sets : length (each (z .e) (Q z - z .e) (λ p. group z mag neg b p))
       ≡ over-desc z (λ p. cond (leb (D z) p && eqb (p % 4) 0) (grand-tests b (p / 4)) 0)
-      + (over-desc z (λ p. desc-tests b p) + over-desc z (λ p. cond (fresh b p) (sum (4 * p) 4 (λ c. suc (ι (big z mag b c)))) 0)) =
+      + (over-desc z (λ p. desc-tests b p) + over-desc z (λ p. cond (fresh b p) (sum (4 * p) 4 (λ c. suc (ι (big mag b c)))) 0)) =
       each-length (z .e) (Q z - z .e) (λ p. group z mag neg b p)
       ∙ sum-cong (z .e) (Q z - z .e) (λ p. length (group z mag neg b p))
       (λ p. cond (leb (D z) p && eqb (p % 4) 0) (grand-tests b (p / 4)) 0
-      + (desc-tests b p + cond (fresh b p) (sum (4 * p) 4 (λ c. suc (ι (big z mag b c)))) 0))
+      + (desc-tests b p + cond (fresh b p) (sum (4 * p) 4 (λ c. suc (ι (big mag b c)))) 0))
       (λ p u v. group-length b p (omega arith) (omega arith))
       ∙ sum-add (z .e) (Q z - z .e) (λ p. cond (leb (D z) p && eqb (p % 4) 0) (grand-tests b (p / 4)) 0)
-      (λ p. desc-tests b p + cond (fresh b p) (sum (4 * p) 4 (λ c. suc (ι (big z mag b c)))) 0)
-      ∙ rw (sum-add (z .e) (Q z - z .e) (λ p. desc-tests b p) (λ p. cond (fresh b p) (sum (4 * p) 4 (λ c. suc (ι (big z mag b c)))) 0)) in
-      omega (arith, by-first z (λ q. grand-tests b q), by-parent z (λ p. fresh b p) (λ c. suc (ι (big z mag b c))))
+      (λ p. desc-tests b p + cond (fresh b p) (sum (4 * p) 4 (λ c. suc (ι (big mag b c)))) 0)
+      ∙ rw (sum-add (z .e) (Q z - z .e) (λ p. desc-tests b p) (λ p. cond (fresh b p) (sum (4 * p) 4 (λ c. suc (ι (big mag b c)))) 0)) in
+      omega (arith, by-first z (λ q. grand-tests b q), by-parent z (λ p. fresh b p) (λ c. suc (ι (big mag b c))))
 
   coefs : (b : ℕ) → over-all z (λ i. pixels b i) + over-all z (λ i. refines b i)
-      + over-all z (λ i. cond (not (ltb i (D z)) && fresh b (i / 4)) (suc (ι (big z mag b i))) 0) + over-all z (λ i. ι (big z mag (suc b) i))
-      ≡ over-all z (λ i. ι (alone z mag b i)) + over-all z (λ i. ι (big z mag b i))
+      + over-all z (λ i. cond (not (ltb i (D z)) && fresh b (i / 4)) (suc (ι (big mag b i))) 0) + over-all z (λ i. ι (big mag (suc b) i))
+      ≡ over-all z (λ i. ι (alone z mag b i)) + over-all z (λ i. ι (big mag b i))
   unfolding pixels refines fresh
   coefs b =
       sum-four-two 0 (I z) (λ i. pixels b i) (λ i. refines b i)
-      (λ i. cond (not (ltb i (D z)) && fresh b (i / 4)) (suc (ι (big z mag b i))) 0) (λ i. ι (big z mag (suc b) i))
-      (λ i. ι (alone z mag b i)) (λ i. ι (big z mag b i)) (λ i u v. coef-at z mag b i (omega arith))
+      (λ i. cond (not (ltb i (D z)) && fresh b (i / 4)) (suc (ι (big mag b i))) 0) (λ i. ι (big mag (suc b) i))
+      (λ i. ι (alone z mag b i)) (λ i. ι (big mag b i)) (λ i u v. coef-at z mag b i (omega arith))
 
   descs : (b : ℕ) → over-desc z (λ p. desc-tests b p) + over-desc z (λ p. ι (split-desc z mag (suc b) p))
       ≡ over-desc z (λ p. ι (stands-desc z mag b p)) + over-desc z (λ p. ι (split-desc z mag b p))
@@ -365,7 +341,7 @@ module _ (z : Size) (mag : ℕ → ℕ) (neg : ℕ → Bool) where
       sum-two (z .e) (z .j - z .e) (λ p. grand-tests b p) (λ p. ι (split-grand z mag (suc b) p))
       (λ p. ι (stands-grand z mag b p)) (λ p. ι (split-grand z mag b p)) (λ p u v. grand-at z mag b p (omega arith) (omega arith))
 
-  -- THE BITS OF ONE PLANE
+  -- the bits of one plane
   pub plane-count : (b : ℕ) → length (plane z mag neg b) + splits z mag (suc b) + bigs z mag (suc b)
       ≡ parts z mag b + splits z mag b + bigs z mag b
   unfolding parts splits bigs

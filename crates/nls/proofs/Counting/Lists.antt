@@ -1,22 +1,21 @@
 -- The scan over a table that is a list, as a slice of marks is: it writes what the scan over functions writes.
--- Assumes nothing.
-use Prim.Native.Nat.{ℕ, zero, suc, _+_, _*_, _-_, _^_, _/_, _≤_, _<_}
-use mathlib.Core.Path.{_≡_, refl, ap, sym, subst, _∙_}
-use mathlib.Core.Bool.{Bool, true, false, not, _&&_, _||_, cond}
-use mathlib.Core.List.{List, [], _∷_, _++_, map}
-use mathlib.Core.Logic.{_⊎_, inl, inr, ⊎-elim}
-use native.Mathlib.Nat.{le-refl}
+use Prim.Native.Nat.{ℕ, zero, suc, _+_, _*_, _-_, _/_, _≤_, _<_}
+use mathlib.Core.Path.{_≡_, refl, ap, sym, _∙_}
+use mathlib.Core.Bool.{Bool, true, false, cond}
+use mathlib.Core.List.{List, [], _∷_, _++_}
+use mathlib.Core.Logic.{⊎-elim}
 use native.Mathlib.Omega.{arith}
-use borrow.Author.Tests.{lt-ltb, le-ltb, ltb-true, ltb-false, eqb-true, eqb-false, le-leb, lt-leb, leb-true, leb-false}
-use lib.Dec.{T, ltb, leb, eqb}
+use borrow.Author.Tests.{lt-ltb, le-ltb, eqb-true, eqb-false, leb-false}
+use lib.Dec.{ltb, leb, eqb}
 use lib.ListN.{length, getD, set, length-set, replicate, length-replicate, getD-replicate, length-append, List·getD-append}
 use lib.Seq.{getD-set-same, getD-set-other, getD-append-add}
+use Rattle.bits.specs.Bits.{bit}
 use Rattle.nls.proofs.Counting.Sums.{order}
-use Rattle.nls.proofs.Counting.Tree.{Size, D, Q, I, within}
-use Rattle.nls.proofs.Counting.Parts.{bit, coded, body}
-use Rattle.nls.proofs.Counting.Summary.{join, or-tree, or-desc, or-grand, has-desc, has-grand}
-use Rattle.nls.proofs.Counting.Steps.{Table, put, Step, skip, go, go-over, go-on, pixel-step, refine-step, set-step, push, pushed, open-desc, open-grand}
-use Rattle.nls.proofs.Counting.Whole.{start-from, start, scan-plane, scan, scan-is-body}
+use Rattle.nls.proofs.Counting.Tree.{Size, D, Q, I}
+use Rattle.nls.proofs.Counting.Parts.{coded}
+use Rattle.nls.proofs.Counting.Summary.{has-desc, has-grand}
+use Rattle.nls.proofs.Counting.Steps.{Table, put, Step, skip, go, pixel-step, refine-step, set-step, push, pushed, open-desc, open-grand}
+use Rattle.nls.proofs.Counting.Whole.{start-from}
 
 abbrev pub LStep : Type 0
 LStep = (List Bool) × (List ℕ) × ℕ
@@ -29,16 +28,7 @@ go-l z s (suc f) l i =
     let on : (List Bool) × (List ℕ) = (o .0 ++ more .0, more .1) in
     cond (leb (I z) i) ([], l) on
 
-module _ (z : Size) (mag : ℕ → ℕ) (neg : ℕ → Bool) (b : ℕ) where
-  unfoldable pub pixel-l : List ℕ → ℕ → LStep
-  pixel-l l i =
-      cond (eqb (getD l i 0) 1) (coded z mag neg b i, cond (bit z mag neg b i) (set l i 2) l, suc i) ([], l, i + skip (getD l i 0))
-
-  unfoldable pub refine-l : List ℕ → ℕ → LStep
-  refine-l l i =
-      cond (eqb (getD l i 0) 3) (bit z mag neg b i ∷ [], l, suc i)
-      (cond (eqb (getD l i 0) 2) ([], set l i 3, suc i) ([], l, i + skip (getD l i 0)))
-
+module _ (z : Size) where
   unfoldable pub push-l : ℕ → ℕ → ℕ → List ℕ → List ℕ
   push-l zero c w l = l
   push-l (suc f) c w l = cond (ltb w (I z)) (push-l f (suc c) (4 * w) (set l w c)) l
@@ -54,13 +44,23 @@ module _ (z : Size) (mag : ℕ → ℕ) (neg : ℕ → Bool) (b : ℕ) where
   unfoldable pub open-grand-l : List ℕ → ℕ → List ℕ
   open-grand-l l i = pushed-l (pushed-l (pushed-l (pushed-l l i) (i + 4)) (i + 8)) (i + 12)
 
+unfoldable pub pixel-l : (ℕ → ℕ) → (ℕ → Bool) → ℕ → List ℕ → ℕ → LStep
+pixel-l mag neg b l i =
+    cond (eqb (getD l i 0) 1) (coded mag neg b i, cond (bit (mag i) b) (set l i 2) l, suc i) ([], l, i + skip (getD l i 0))
+
+unfoldable pub refine-l : (ℕ → ℕ) → ℕ → List ℕ → ℕ → LStep
+refine-l mag b l i =
+    cond (eqb (getD l i 0) 3) (bit (mag i) b ∷ [], l, suc i)
+    (cond (eqb (getD l i 0) 2) ([], set l i 3, suc i) ([], l, i + skip (getD l i 0)))
+
+module _ (z : Size) (mag : ℕ → ℕ) (neg : ℕ → Bool) (b : ℕ) where
   unfoldable pub set-l : List ℕ → ℕ → LStep
   set-l l i =
       cond (eqb (getD l i 0) 5)
-      (has-desc z mag b (i / 4) ∷ [], cond (has-desc z mag b (i / 4)) (open-desc-l l i) l, cond (has-desc z mag b (i / 4)) i (i + 4))
+      (has-desc z mag b (i / 4) ∷ [], cond (has-desc z mag b (i / 4)) (open-desc-l z l i) l, cond (has-desc z mag b (i / 4)) i (i + 4))
       (cond (eqb (getD l i 0) 6)
-      (has-grand z mag b (i / 16) ∷ [], cond (has-grand z mag b (i / 16)) (open-grand-l l i) l, cond (has-grand z mag b (i / 16)) i (i + 16))
-      (cond (eqb (getD l i 0) 4) (coded z mag neg b i, set l i (cond (bit z mag neg b i) 2 1), suc i)
+      (has-grand z mag b (i / 16) ∷ [], cond (has-grand z mag b (i / 16)) (open-grand-l z l i) l, cond (has-grand z mag b (i / 16)) i (i + 16))
+      (cond (eqb (getD l i 0) 4) (coded mag neg b i, set l i (cond (bit (mag i) b) 2 1), suc i)
       ([], l, i + cond (leb (getD l i 0) 3) 4 (skip (getD l i 0)))))
 
 -- a list that holds what a table says, below I
@@ -89,41 +89,23 @@ like-cond : (z : Size) (o o′ : LStep) (s s′ : Step) (t : Bool) → Like z o 
 like-cond z o o′ s s′ true p q = p
 like-cond z o o′ s s′ false p q = q
 
-module _ (z : Size) (mag : ℕ → ℕ) (neg : ℕ → Bool) (b : ℕ) where
-  pub like-pixel : (l : List ℕ) (m : Table) (i : ℕ) → i < I z → Rep z l m → Like z (pixel-l z mag neg b l i) (pixel-step z mag neg b m i)
-  unfolding pixel-l pixel-step
-  like-pixel l m i u r =
-      rw (r .same i u)
-      (like-cond z (coded z mag neg b i, cond (bit z mag neg b i) (set l i 2) l, suc i) ([], l, i + skip (getD l i 0))
-      (coded z mag neg b i, cond (bit z mag neg b i) (put m i 2) m, suc i) ([], m, i + skip (getD l i 0)) (eqb (getD l i 0) 1)
-      (refl, rep-cond z (set l i 2) l (put m i 2) m (bit z mag neg b i) (rep-set z l m i 2 r) r, refl) (refl, r, refl))
-
-  pub like-refine : (l : List ℕ) (m : Table) (i : ℕ) → i < I z → Rep z l m → Like z (refine-l z mag neg b l i) (refine-step z mag neg b m i)
-  unfolding refine-l refine-step
-  like-refine l m i u r =
-      rw (r .same i u)
-      (like-cond z (bit z mag neg b i ∷ [], l, suc i) (cond (eqb (getD l i 0) 2) ([], set l i 3, suc i) ([], l, i + skip (getD l i 0)))
-      (bit z mag neg b i ∷ [], m, suc i) (cond (eqb (getD l i 0) 2) ([], put m i 3, suc i) ([], m, i + skip (getD l i 0))) (eqb (getD l i 0) 3)
-      (refl, r, refl)
-      (like-cond z ([], set l i 3, suc i) ([], l, i + skip (getD l i 0)) ([], put m i 3, suc i) ([], m, i + skip (getD l i 0)) (eqb (getD l i 0) 2)
-      (refl, rep-set z l m i 3 r, refl) (refl, r, refl)))
-
-  rep-push : (f c w : ℕ) (l : List ℕ) (m : Table) → Rep z l m → Rep z (push-l z mag neg b f c w l) (push z mag neg b f c w m)
+module _ (z : Size) where
+  rep-push : (f c w : ℕ) (l : List ℕ) (m : Table) → Rep z l m → Rep z (push-l z f c w l) (push z f c w m)
   unfolding push-l push
   rep-push zero c w l m r = r
   rep-push (suc f) c w l m r =
-      rep-cond z (push-l z mag neg b f (suc c) (4 * w) (set l w c)) l (push z mag neg b f (suc c) (4 * w) (put m w c)) m (ltb w (I z))
+      rep-cond z (push-l z f (suc c) (4 * w) (set l w c)) l (push z f (suc c) (4 * w) (put m w c)) m (ltb w (I z))
       (rep-push f (suc c) (4 * w) (set l w c) (put m w c) (rep-set z l m w c r)) r
 
-  rep-pushed : (l : List ℕ) (m : Table) (i : ℕ) → Rep z l m → Rep z (pushed-l z mag neg b l i) (pushed z mag neg b m i)
+  rep-pushed : (l : List ℕ) (m : Table) (i : ℕ) → Rep z l m → Rep z (pushed-l z l i) (pushed z m i)
   unfolding pushed-l pushed
   rep-pushed l m i r = rep-push (z .deep) 7 (4 * i) (set l i 5) (put m i 5) (rep-set z l m i 5 r)
 
-  rep-open-grand : (l : List ℕ) (m : Table) (i : ℕ) → Rep z l m → Rep z (open-grand-l z mag neg b l i) (open-grand z mag neg b m i)
+  rep-open-grand : (l : List ℕ) (m : Table) (i : ℕ) → Rep z l m → Rep z (open-grand-l z l i) (open-grand z m i)
   unfolding open-grand-l open-grand
   rep-open-grand l m i r = rep-pushed _ _ (i + 12) (rep-pushed _ _ (i + 8) (rep-pushed _ _ (i + 4) (rep-pushed l m i r)))
 
-  rep-open-desc : (l : List ℕ) (m : Table) (i : ℕ) → Rep z l m → Rep z (open-desc-l z mag neg b l i) (open-desc z mag neg b m i)
+  rep-open-desc : (l : List ℕ) (m : Table) (i : ℕ) → Rep z l m → Rep z (open-desc-l z l i) (open-desc z m i)
   unfolding open-desc-l open-desc
   rep-open-desc l m i r =
       let l4 : List ℕ = set (set (set (set l i 4) (i + 1) 4) (i + 2) 4) (i + 3) 4 in
@@ -134,16 +116,35 @@ module _ (z : Size) (mag : ℕ → ℕ) (neg : ℕ → Bool) (b : ℕ) where
       (rep-set z (set l i 4) (put m i 4) (i + 1) 4 (rep-set z l m i 4 r))) in
       rep-cond z (set l4 (4 * i) 6) l4 (put m4 (4 * i) 6) m4 (ltb (4 * i) (I z)) (rep-set z l4 m4 (4 * i) 6 r4) r4
 
+module _ (z : Size) (mag : ℕ → ℕ) (neg : ℕ → Bool) (b : ℕ) where
+  pub like-pixel : (l : List ℕ) (m : Table) (i : ℕ) → i < I z → Rep z l m → Like z (pixel-l mag neg b l i) (pixel-step mag neg b m i)
+  unfolding pixel-l pixel-step
+  like-pixel l m i u r =
+      rw (r .same i u)
+      (like-cond z (coded mag neg b i, cond (bit (mag i) b) (set l i 2) l, suc i) ([], l, i + skip (getD l i 0))
+      (coded mag neg b i, cond (bit (mag i) b) (put m i 2) m, suc i) ([], m, i + skip (getD l i 0)) (eqb (getD l i 0) 1)
+      (refl, rep-cond z (set l i 2) l (put m i 2) m (bit (mag i) b) (rep-set z l m i 2 r) r, refl) (refl, r, refl))
+
+  pub like-refine : (l : List ℕ) (m : Table) (i : ℕ) → i < I z → Rep z l m → Like z (refine-l mag b l i) (refine-step mag b m i)
+  unfolding refine-l refine-step
+  like-refine l m i u r =
+      rw (r .same i u)
+      (like-cond z (bit (mag i) b ∷ [], l, suc i) (cond (eqb (getD l i 0) 2) ([], set l i 3, suc i) ([], l, i + skip (getD l i 0)))
+      (bit (mag i) b ∷ [], m, suc i) (cond (eqb (getD l i 0) 2) ([], put m i 3, suc i) ([], m, i + skip (getD l i 0))) (eqb (getD l i 0) 3)
+      (refl, r, refl)
+      (like-cond z ([], set l i 3, suc i) ([], l, i + skip (getD l i 0)) ([], put m i 3, suc i) ([], m, i + skip (getD l i 0)) (eqb (getD l i 0) 2)
+      (refl, rep-set z l m i 3 r, refl) (refl, r, refl)))
+
   pub like-set : (l : List ℕ) (m : Table) (i : ℕ) → i < I z → Rep z l m → Like z (set-l z mag neg b l i) (set-step z mag neg b m i)
   unfolding set-l set-step
   like-set l m i u r =
       rw (r .same i u)
       (like-cond z _ _ _ _ (eqb (getD l i 0) 5)
-      (refl, rep-cond z (open-desc-l z mag neg b l i) l (open-desc z mag neg b m i) m (has-desc z mag b (i / 4)) (rep-open-desc l m i r) r, refl)
+      (refl, rep-cond z (open-desc-l z l i) l (open-desc z m i) m (has-desc z mag b (i / 4)) (rep-open-desc z l m i r) r, refl)
       (like-cond z _ _ _ _ (eqb (getD l i 0) 6)
-      (refl, rep-cond z (open-grand-l z mag neg b l i) l (open-grand z mag neg b m i) m (has-grand z mag b (i / 16)) (rep-open-grand l m i r) r, refl)
+      (refl, rep-cond z (open-grand-l z l i) l (open-grand z m i) m (has-grand z mag b (i / 16)) (rep-open-grand z l m i r) r, refl)
       (like-cond z _ _ _ _ (eqb (getD l i 0) 4)
-      (refl, rep-set z l m i (cond (bit z mag neg b i) 2 1) r, refl) (refl, r, refl))))
+      (refl, rep-set z l m i (cond (bit (mag i) b) 2 1) r, refl) (refl, r, refl))))
 
 pub like-go : (z : Size) (sl : List ℕ → ℕ → LStep) (s : Table → ℕ → Step)
     → ((l : List ℕ) (m : Table) (i : ℕ) → i < I z → Rep z l m → Like z (sl l i) (s m i))
@@ -164,36 +165,15 @@ like-go z sl s h (suc f) l m i r =
         let q = ih ((s m i) .2) (k .1) in
         rw (e, k .2) (rw (k .0) (ap (λ (o : List Bool). (s m i) .0 ++ o) (q .0)), q .1)
 
-module _ (z : Size) (mag : ℕ → ℕ) (neg : ℕ → Bool) where
+module _ (z : Size) where
   unfoldable pub start-from-l : ℕ → List ℕ
   start-from-l zero = replicate (D z) 1 ++ replicate (I z - D z) 0
-  start-from-l (suc n) = pushed-l z mag neg 0 (start-from-l n) (4 * (z .e + n))
+  start-from-l (suc n) = pushed-l z (start-from-l n) (4 * (z .e + n))
 
   unfoldable pub start-l : List ℕ
   start-l = start-from-l (3 * z .e)
 
-  unfoldable pub scan-plane-l : ℕ → List ℕ → (List Bool) × (List ℕ)
-  scan-plane-l b l =
-      let one = go-l z (pixel-l z mag neg b) (I z) l 0 in
-      let two = go-l z (set-l z mag neg b) (z .e + 12 * Q z) (one .1) 0 in
-      let three = go-l z (refine-l z mag neg b) (I z) (two .1) 0 in
-      (one .0 ++ (two .0 ++ three .0), three .1)
-
-  unfoldable pub scan-l : ℕ → List ℕ → (List Bool) × (List ℕ)
-  scan-l zero l = ([], l)
-  scan-l (suc b) l = let one = scan-plane-l b l in let more = scan-l b (one .1) in (one .0 ++ more .0, more .1)
-
-  pub like-scan : (n : ℕ) (l : List ℕ) (m : Table) → Rep z l m → ((scan-l n l) .0 ≡ (scan z mag neg n m) .0) × Rep z ((scan-l n l) .1) ((scan z mag neg n m) .1)
-  unfolding scan-l scan scan-plane-l scan-plane
-  like-scan zero l m r = (refl, r)
-  like-scan (suc b) l m r =
-      let one = like-go z (pixel-l z mag neg b) (pixel-step z mag neg b) (like-pixel z mag neg b) (I z) l m 0 r in
-      let two = like-go z (set-l z mag neg b) (set-step z mag neg b) (like-set z mag neg b) (z .e + 12 * Q z) _ _ 0 (one .1) in
-      let three = like-go z (refine-l z mag neg b) (refine-step z mag neg b) (like-refine z mag neg b) (I z) _ _ 0 (two .1) in
-      let more = like-scan b _ _ (three .1) in
-      (rw (one .0, two .0, three .0, more .0), more .1)
-
-  pub rep-start : (n : ℕ) → Rep z (start-from-l n) (start-from z mag neg n)
+  pub rep-start : (n : ℕ) → Rep z (start-from-l n) (start-from z n)
   unfolding start-from-l start-from
   rep-start zero =
       record {
@@ -206,9 +186,12 @@ module _ (z : Size) (mag : ℕ → ℕ) (neg : ℕ → Bool) where
     where
       back : (y : ℕ) → D z ≤ y → y ≡ length {A = ℕ} (replicate (D z) 1) + (y - D z)
       back y l = omega (arith, length-replicate {A = ℕ} (D z) 1)
-  rep-start (suc n) = rep-pushed z mag neg 0 (start-from-l n) (start-from z mag neg n) (4 * (z .e + n)) (rep-start n)
+  rep-start (suc n) = rep-pushed z (start-from-l n) (start-from z n) (4 * (z .e + n)) (rep-start n)
 
-  -- THE SCAN OVER A LIST WRITES THE BODY
-  pub list-scan : (n : ℕ) → ((i : ℕ) → i < I z → mag i < 2 ^ n) → (scan-l n start-l) .0 ≡ body z mag neg n
-  unfolding start-l start
-  list-scan n small = (like-scan n (start-from-l (3 * z .e)) (start-from z mag neg (3 * z .e)) (rep-start (3 * z .e))) .0 ∙ scan-is-body z mag neg n small
+module _ (z : Size) (mag : ℕ → ℕ) (neg : ℕ → Bool) where
+  unfoldable pub scan-plane-l : ℕ → List ℕ → (List Bool) × (List ℕ)
+  scan-plane-l b l =
+      let one = go-l z (pixel-l mag neg b) (I z) l 0 in
+      let two = go-l z (set-l z mag neg b) (z .e + 12 * Q z) (one .1) 0 in
+      let three = go-l z (refine-l mag b) (I z) (two .1) 0 in
+      (one .0 ++ (two .0 ++ three .0), three .1)

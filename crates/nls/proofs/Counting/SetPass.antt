@@ -1,32 +1,28 @@
 -- The set pass writes what the magnitudes say.
--- Assumes nothing.
 use Prim.Native.Nat.{ℕ, zero, suc, _+_, _*_, _-_, _^_, _/_, _%_, _≤_, _<_}
 use mathlib.Core.Path.{_≡_, refl, ap, sym, subst, _∙_}
-use mathlib.Core.Bool.{Bool, true, false, not, _&&_, _||_, cond}
+use mathlib.Core.Bool.{Bool, true, false, not, _&&_, _||_, cond, and-false, or-true}
 use mathlib.Core.List.{List, [], _∷_, _++_, append-assoc}
 use mathlib.Core.Logic.{_⊎_, inl, inr, ⊎-elim}
-use native.Mathlib.Nat.{le-trans, le-refl, zero-add, add-zero, sub-zero, pow-succ'}
-use native.Mathlib.Numerals.{add-one}
+use native.Mathlib.Nat.{le-refl, zero-add, pow-succ'}
 use native.Mathlib.Omega.{arith}
-use borrow.Author.Tests.{lt-ltb, le-ltb, ltb-true, ltb-false, eqb-true, eqb-false, le-leb, lt-leb, eq-eqb, ne-eqb}
-use lib.Dec.{T, ltb, leb, eqb, ltb→lt, nltb→le, lt→ltb, T-not, not-T}
+use borrow.Author.Tests.{lt-ltb, le-ltb, eqb-true, eqb-false, le-leb, lt-leb, ne-eqb}
+use lib.Dec.{T, ltb, leb, eqb, lt→ltb, T-not, not-T}
+use Rattle.bits.specs.Bits.{bit}
+use Rattle.nls.proofs.Booleans.{T-or, T-false, T-true, of-true, of-false}
 use Rattle.nls.proofs.Counting.Sums.{each, each-at, each-cons, each-none, each-jump, order}
 use Rattle.nls.proofs.Counting.Tree.{Size, D, Q, I, desc, grand, desc-none, grand-none}
-use Rattle.nls.proofs.Counting.Parts.{ι, big, bit, coded, alone, split-desc, split-grand, test-grand, test-desc, children, group}
-use Rattle.nls.proofs.Counting.Count.{big-mono, desc-shrinks, grand-shrinks, grand-splits, desc-known, child-splits, desc-splits, bit-big}
+use Rattle.nls.proofs.Counting.Parts.{ι, big, coded, split-desc, split-grand, test-grand, test-desc, children, group}
+use Rattle.nls.proofs.Counting.Count.{desc-shrinks, grand-shrinks, desc-known, child-splits, desc-splits, bit-big}
 use Rattle.nls.proofs.Counting.Summary.{has-desc, has-grand, has-desc-is, has-grand-is}
 use Rattle.nls.proofs.Counting.Tiles.{up, down, up-le, in-run, pow4-pos, Alone, StandsD, StandsG, Cov, Spot, after-alone, after-run, below-sg, not-sd, not-sg}
-use Rattle.nls.proofs.Counting.Steps.{Table, put, Step, skip, go, go-on, go-over, set-step, open-desc, open-grand, code, code-far, skip-code, code-high, Marks, remark, retell, put-same}
-use Rattle.nls.proofs.Counting.Passes.{closed1, found, rest, T-true, T-false, of-true, of-false}
+use Rattle.nls.proofs.Counting.Steps.{Table, skip, go, go-on, go-over, set-step, open-desc, open-grand, code, code-far, skip-code, Marks, remark, retell}
+use Rattle.nls.proofs.Counting.Passes.{closed1, found}
 use Rattle.nls.proofs.Counting.Opens.{flip, grand-opens, desc-opens, same-spot, same-marks, same-desc}
 
-or-true : (s t : Bool) → T t → T (s || t)
-or-true true t h = tt
-or-true false t h = h
-
-or-left : (s t : Bool) → T s → T (s || t)
-or-left true t h = tt
-or-left false t h = absurd h
+T-or-right : (s t : Bool) → T t → T (s || t)
+T-or-right true t h = tt
+T-or-right false t h = h
 
 or-out : (s t : Bool) → T (not s) → T (s || t) → T t
 or-out true t h k = absurd h
@@ -35,18 +31,6 @@ or-out false t h k = k
 or-map : (s t u : Bool) → (T t → T u) → T (s || t) → T (s || u)
 or-map true t u h k = tt
 or-map false t u h k = h k
-
-choose : (t : Bool) → (t ≡ true) ⊎ (t ≡ false)
-choose true = inl refl
-choose false = inr refl
-
-or-right-true : (s : Bool) → (s || true) ≡ true
-or-right-true true = refl
-or-right-true false = refl
-
-and-false : (s : Bool) → (s && false) ≡ false
-and-false true = refl
-and-false false = refl
 
 cond-nil : {X : Type 0} (t : Bool) → _≡_ {A = List X} (cond t [] []) []
 cond-nil true = refl
@@ -132,15 +116,15 @@ module _ (z : Size) (mag : ℕ → ℕ) (neg : ℕ → Bool) (b : ℕ) where
 
   empty-desc : (n y : ℕ) → Q z ≤ y → split-desc z mag n y ≡ false
   unfolding split-desc
-  empty-desc n y h = rw (desc-none z (λ c. ι (big z mag n c)) y h)
+  empty-desc n y h = rw (desc-none z (λ c. ι (big mag n c)) y h)
 
   empty-grand : (n y : ℕ) → z .j ≤ y → split-grand z mag n y ≡ false
   unfolding split-grand
-  empty-grand n y h = rw (grand-none z (λ c. ι (big z mag n c)) y h)
+  empty-grand n y h = rw (grand-none z (λ c. ι (big mag n c)) y h)
 
   cst-past : (c x : ℕ) → x < c → cst c x ≡ found z mag b x
   unfolding cst
-  cst-past c x h = rw (lt-ltb x c h, or-right-true (was x))
+  cst-past c x h = rw (lt-ltb x c h, or-true (was x))
 
   cst-was : (c x : ℕ) → T (was x) → cst c x ≡ found z mag b x
   unfolding cst
@@ -177,11 +161,11 @@ module _ (z : Size) (mag : ℕ → ℕ) (neg : ℕ → Bool) (b : ℕ) where
 
   -- where a group writes nothing
   quiet-grand : (p : ℕ) → z .e ≤ p → (D z ≤ p → p % 4 ≡ 0 → T (not (split-desc z mag b (p / 4))) ⊎ T (split-grand z mag (suc b) (p / 4)))
-      → cond (leb (D z) p && eqb (p % 4) 0) (test-grand z mag neg b (p / 4)) [] ≡ []
+      → cond (leb (D z) p && eqb (p % 4) 0) (test-grand z mag b (p / 4)) [] ≡ []
   unfolding test-grand
   quiet-grand p h k = ⊎-elim (λ o. tell o (eqb (p % 4) 0) refl) (λ o. rw (lt-leb (D z) p o)) (order (D z) p)
     where
-      tell : D z ≤ p → (t : Bool) → eqb (p % 4) 0 ≡ t → cond (leb (D z) p && eqb (p % 4) 0) (test-grand z mag neg b (p / 4)) [] ≡ []
+      tell : D z ≤ p → (t : Bool) → eqb (p % 4) 0 ≡ t → cond (leb (D z) p && eqb (p % 4) 0) (test-grand z mag b (p / 4)) [] ≡ []
       tell o false q = rw (q, and-false (leb (D z) p))
       tell o true q =
           ⊎-elim
@@ -211,9 +195,9 @@ module _ (z : Size) (mag : ℕ → ℕ) (neg : ℕ → Bool) (b : ℕ) where
         T-false (split-desc z mag b p) (T-not (split-desc z mag b p) x),
       )
 
-  -- THE CHILDREN
-  coded-step : (m : Table) (x : ℕ) → m x ≡ 4 → ((set-step z mag neg b m x) .0 ≡ coded z mag neg b x)
-      × ((y : ℕ) → (set-step z mag neg b m x) .1 y ≡ cond (eqb y x) (cond (bit z mag neg b x) 2 1) (m y)) × ((set-step z mag neg b m x) .2 ≡ suc x)
+  -- ---- the children
+  coded-step : (m : Table) (x : ℕ) → m x ≡ 4 → ((set-step z mag neg b m x) .0 ≡ coded mag neg b x)
+      × ((y : ℕ) → (set-step z mag neg b m x) .1 y ≡ cond (eqb y x) (cond (bit (mag x) b) 2 1) (m y)) × ((set-step z mag neg b m x) .2 ≡ suc x)
   unfolding set-step
   coded-step m x h = rw h (refl, λ y. refl, refl)
 
@@ -227,16 +211,16 @@ module _ (z : Size) (mag : ℕ → ℕ) (neg : ℕ → Bool) (b : ℕ) where
 
   found-le : (x : ℕ) → found z mag b x ≤ 3
   unfolding found
-  found-le x = tell (big z mag (suc b) x) (big z mag b x)
+  found-le x = tell (big mag (suc b) x) (big mag b x)
     where
       tell : (s t : Bool) → cond s 3 (cond t 2 1) ≤ 3
       tell true t = omega arith
       tell false true = omega arith
       tell false false = omega arith
 
-  found-new : (x : ℕ) → T (not (big z mag (suc b) x)) → cond (bit z mag neg b x) 2 1 ≡ found z mag b x
+  found-new : (x : ℕ) → T (not (big mag (suc b) x)) → cond (bit (mag x) b) 2 1 ≡ found z mag b x
   unfolding found
-  found-new x n = rw (bit-big z mag neg b x n, T-false (big z mag (suc b) x) (T-not (big z mag (suc b) x) n))
+  found-new x n = rw (bit-big mag b x n, T-false (big mag (suc b) x) (T-not (big mag (suc b) x) n))
 
   -- the three statements that are proved together, by the fuel
   abbrev S0 : ℕ → Type 0
@@ -245,12 +229,12 @@ module _ (z : Size) (mag : ℕ → ℕ) (neg : ℕ → Bool) (b : ℕ) where
 
   abbrev S1 : ℕ → Type 0
   S1 f = (p : ℕ) (m : Table) → 6 * (Q z - p) ≤ suc f → z .e ≤ p → p < Q z → StandsD z (sdt p) (sgt (suc p)) p → State (suc p) p (4 * p) m
-      → Res f m (4 * p) (test-desc z mag neg b p ++ (children z mag neg b p ++ each (suc p) (Q z - suc p) (λ k. group z mag neg b k)))
+      → Res f m (4 * p) (test-desc z mag b p ++ (children z mag neg b p ++ each (suc p) (Q z - suc p) (λ k. group z mag neg b k)))
 
   abbrev S2 : ℕ → Type 0
   S2 f = (p c n : ℕ) (m : Table) → 6 * (Q z - suc p) + suc n ≤ f → z .e ≤ p → p < Q z → T (split-desc z mag b p) → T (not (split-desc z mag (suc b) p))
       → 4 * p ≤ c → c + suc n ≡ 4 * p + 4 → State (suc p) (suc p) c m
-      → Res f m c (each c (suc n) (λ k. coded z mag neg b k) ++ each (suc p) (Q z - suc p) (λ k. group z mag neg b k))
+      → Res f m c (each c (suc n) (λ k. coded mag neg b k) ++ each (suc p) (Q z - suc p) (λ k. group z mag neg b k))
 
   -- a child of a set that is split now was not alone, and is now
   not-was : (p x : ℕ) → z .e ≤ p → 4 * p ≤ x → x < 4 * p + 4 → T (not (split-desc z mag (suc b) p)) → T (not (was x))
@@ -262,7 +246,7 @@ module _ (z : Size) (mag : ℕ → ℕ) (neg : ℕ → Bool) (b : ℕ) where
   now-alone : (p x g : ℕ) → 4 * p ≤ x → x < 4 * p + 4 → T (split-desc z mag b p) → Alone z (sdt (suc p)) (sgt g) x
   now-alone p x g u v t =
       let s : x / 4 ≡ p = omega arith in
-      or-true (ltb x (D z)) (sdt (suc p) (x / 4)) (rw (s, sdt-in (suc p) p (le-refl _)) t)
+      T-or-right (ltb x (D z)) (sdt (suc p) (x / 4)) (rw (s, sdt-in (suc p) p (le-refl _)) t)
 
   kid-mark : (p c : ℕ) (m : Table) → z .e ≤ p → p < Q z → T (split-desc z mag b p) → T (not (split-desc z mag (suc b) p))
       → 4 * p ≤ c → c < 4 * p + 4 → State (suc p) (suc p) c m → m c ≡ 4
@@ -273,18 +257,18 @@ module _ (z : Size) (mag : ℕ → ℕ) (neg : ℕ → Bool) (b : ℕ) where
       → 4 * p ≤ c → c < 4 * p + 4 → State (suc p) (suc p) c m → State (suc p) (suc p) (suc c) ((set-step z mag neg b m c) .1)
   kid-state p c m e l y y′ g k w =
       retell z (sdt (suc p)) (sgt (suc p)) (closed-1 (suc p) (suc p) (omega arith)) (closed-2 (suc p) (suc p) (le-refl _))
-      (λ x. cond (eqb x c) (cond (bit z mag neg b c) 2 1) (cst c x)) (λ x. cst (suc c) x) ((set-step z mag neg b m c) .1) (λ x u t. tell x (eqb x c) refl)
+      (λ x. cond (eqb x c) (cond (bit (mag c) b) 2 1) (cst c x)) (λ x. cst (suc c) x) ((set-step z mag neg b m c) .1) (λ x u t. tell x (eqb x c) refl)
       (remark z (sdt (suc p)) (sgt (suc p)) (closed-1 (suc p) (suc p) (omega arith)) (closed-2 (suc p) (suc p) (le-refl _))
-      (λ x. cst c x) m ((set-step z mag neg b m c) .1) c (cond (bit z mag neg b c) 2 1) (now-alone p c (suc p) g k y)
+      (λ x. cst c x) m ((set-step z mag neg b m c) .1) c (cond (bit (mag c) b) 2 1) (now-alone p c (suc p) g k y)
       ((coded-step m c (kid-mark p c m e l y y′ g k w)) .1) w)
     where
-      small : T (not (big z mag (suc b) c))
-      small = not-T (big z mag (suc b) c) (λ t. T-not (split-desc z mag (suc b) p) y′ (child-splits z mag (suc b) p c (omega arith) l g k t))
+      small : T (not (big mag (suc b) c))
+      small = not-T (big mag (suc b) c) (λ t. T-not (split-desc z mag (suc b) p) y′ (child-splits z mag (suc b) p c (omega arith) l g k t))
 
-      value : cond (bit z mag neg b c) 2 1 ≡ found z mag b c
+      value : cond (bit (mag c) b) 2 1 ≡ found z mag b c
       value = found-new c small
 
-      tell : (x : ℕ) (t : Bool) → eqb x c ≡ t → cond (eqb x c) (cond (bit z mag neg b c) 2 1) (cst c x) ≡ cst (suc c) x
+      tell : (x : ℕ) (t : Bool) → eqb x c ≡ t → cond (eqb x c) (cond (bit (mag c) b) 2 1) (cst c x) ≡ cst (suc c) x
       tell x true o =
           let same : x ≡ c = eqb-true x c o in
           rw o (value ∙ sym (ap (λ (n : ℕ). cst (suc c) n) same ∙ cst-past (suc c) c (le-refl _)))
@@ -302,23 +286,23 @@ module _ (z : Size) (mag : ℕ → ℕ) (neg : ℕ → Bool) (b : ℕ) where
       s0 (suc p) ((set-step z mag neg b m c) .1) (omega arith) (omega arith) (rw next at sp) (rw next at w′) in
       subst (λ (o : List Bool). Res (suc f) m c o)
       (sym (ap (λ (o : List Bool). o ++ each (suc p) (Q z - suc p) (λ k. group z mag neg b k))
-      (each-cons c 0 (λ k. coded z mag neg b k) ∙ ap (λ (o : List Bool). coded z mag neg b c ++ o) (each-none (suc c) (λ k. coded z mag neg b k)))
-      ∙ append-assoc (coded z mag neg b c) [] (each (suc p) (Q z - suc p) (λ k. group z mag neg b k))))
-      (res-on f m ((set-step z mag neg b m c) .1) c (4 * suc p) (coded z mag neg b c) (each (suc p) (Q z - suc p) (λ k. group z mag neg b k))
+      (each-cons c 0 (λ k. coded mag neg b k) ∙ ap (λ (o : List Bool). coded mag neg b c ++ o) (each-none (suc c) (λ k. coded mag neg b k)))
+      ∙ append-assoc (coded mag neg b c) [] (each (suc p) (Q z - suc p) (λ k. group z mag neg b k))))
+      (res-on f m ((set-step z mag neg b m c) .1) c (4 * suc p) (coded mag neg b c) (each (suc p) (Q z - suc p) (λ k. group z mag neg b k))
       (omega arith) (st .0) refl (st .2 ∙ next) r)
   step2 f s0 s2 p c (suc n) m h e l y y′ g k w =
       let st = coded-step m c (kid-mark p c m e l y y′ g (omega arith) w) in
       let r = s2 p (suc c) n ((set-step z mag neg b m c) .1) (omega arith) e l y y′ (omega arith) (omega arith) (kid-state p c m e l y y′ g (omega arith) w) in
       subst (λ (o : List Bool). Res (suc f) m c o)
-      (sym (ap (λ (o : List Bool). o ++ each (suc p) (Q z - suc p) (λ k. group z mag neg b k)) (each-cons c (suc n) (λ k. coded z mag neg b k))
-      ∙ append-assoc (coded z mag neg b c) (each (suc c) (suc n) (λ k. coded z mag neg b k)) (each (suc p) (Q z - suc p) (λ k. group z mag neg b k))))
-      (res-on f m ((set-step z mag neg b m c) .1) c (suc c) (coded z mag neg b c)
-      (each (suc c) (suc n) (λ k. coded z mag neg b k) ++ each (suc p) (Q z - suc p) (λ k. group z mag neg b k))
+      (sym (ap (λ (o : List Bool). o ++ each (suc p) (Q z - suc p) (λ k. group z mag neg b k)) (each-cons c (suc n) (λ k. coded mag neg b k))
+      ∙ append-assoc (coded mag neg b c) (each (suc c) (suc n) (λ k. coded mag neg b k)) (each (suc p) (Q z - suc p) (λ k. group z mag neg b k))))
+      (res-on f m ((set-step z mag neg b m c) .1) c (suc c) (coded mag neg b c)
+      (each (suc c) (suc n) (λ k. coded mag neg b k) ++ each (suc p) (Q z - suc p) (λ k. group z mag neg b k))
       (omega arith) (st .0) refl (st .2) r)
 
-  -- A TEST OF DESC
+  -- ---- a test of DESC
   md-step : (m : Table) (p : ℕ) → m (4 * p) ≡ 5 → T (not (split-desc z mag (suc b) p)) → (t : Bool) → split-desc z mag b p ≡ t
-      → ((set-step z mag neg b m (4 * p)) .0 ≡ t ∷ []) × ((set-step z mag neg b m (4 * p)) .1 ≡ cond t (open-desc z mag neg b m (4 * p)) m)
+      → ((set-step z mag neg b m (4 * p)) .0 ≡ t ∷ []) × ((set-step z mag neg b m (4 * p)) .1 ≡ cond t (open-desc z m (4 * p)) m)
       × ((set-step z mag neg b m (4 * p)) .2 ≡ cond t (4 * p) (4 * p + 4))
   unfolding set-step
   md-step m p h n t e =
@@ -353,12 +337,12 @@ module _ (z : Size) (mag : ℕ → ℕ) (neg : ℕ → Bool) (b : ℕ) where
       ∙ sym (T-false (split-grand z mag (suc b) y) (λ t. T-not (split-grand z mag b y) n (grand-shrinks z mag b y t)))
 
   test-desc-is : (p : ℕ) → T (ltb p (D z) || split-grand z mag b (p / 4)) → T (not (split-desc z mag (suc b) p))
-      → test-desc z mag neg b p ≡ split-desc z mag b p ∷ []
+      → test-desc z mag b p ≡ split-desc z mag b p ∷ []
   unfolding test-desc
   test-desc-is p t n =
       rw (T-true (ltb p (D z) || split-grand z mag b (p / 4)) t, T-false (split-desc z mag (suc b) p) (T-not (split-desc z mag (suc b) p) n))
 
-  children-yes : (p : ℕ) → T (split-desc z mag b p) → T (not (split-desc z mag (suc b) p)) → children z mag neg b p ≡ each (4 * p) 4 (λ k. coded z mag neg b k)
+  children-yes : (p : ℕ) → T (split-desc z mag b p) → T (not (split-desc z mag (suc b) p)) → children z mag neg b p ≡ each (4 * p) 4 (λ k. coded mag neg b k)
   unfolding children
   children-yes p t n = rw (T-true (split-desc z mag b p) t, T-false (split-desc z mag (suc b) p) (T-not (split-desc z mag (suc b) p) n))
 
@@ -390,18 +374,18 @@ module _ (z : Size) (mag : ℕ → ℕ) (neg : ℕ → Bool) (b : ℕ) where
       mark = md-mark m p (suc p) (4 * p) e l st w
 
       tell : (t : Bool) → split-desc z mag b p ≡ t
-          → Res (suc f) m (4 * p) (test-desc z mag neg b p ++ (children z mag neg b p ++ each (suc p) (Q z - suc p) (λ k. group z mag neg b k)))
+          → Res (suc f) m (4 * p) (test-desc z mag b p ++ (children z mag neg b p ++ each (suc p) (Q z - suc p) (λ k. group z mag neg b k)))
       tell true o =
           let y : T (split-desc z mag b p) = of-true (split-desc z mag b p) o in
           let sp = md-step m p mark new true o in
-          let w′ : State (suc p) (suc p) (4 * p) (open-desc z mag neg b m (4 * p)) =
+          let w′ : State (suc p) (suc p) (4 * p) (open-desc z m (4 * p)) =
           same-marks z (flip p (sdt p)) (sgt (suc p)) (sdt (suc p)) (sgt (suc p)) (λ k u. flip-d p y k) (λ k u. refl)
-          (λ x. cond (eqb (x / 4) p) 4 (cst (4 * p) x)) (λ x. cst (4 * p) x) (open-desc z mag neg b m (4 * p))
+          (λ x. cond (eqb (x / 4) p) 4 (cst (4 * p) x)) (λ x. cst (4 * p) x) (open-desc z m (4 * p))
           (λ x u t. fresh x (eqb (x / 4) p) refl)
-          (desc-opens z mag neg b (sdt p) (sgt (suc p)) (closed-1 (suc p) p (le-refl _)) (closed-2 (suc p) p (omega arith)) (λ x. cst (4 * p) x) m p e st w) in
-          let r = s2 p (4 * p) 3 (open-desc z mag neg b m (4 * p)) (omega arith) e l y new (le-refl _) (omega arith) w′ in
+          (desc-opens z (sdt p) (sgt (suc p)) (closed-1 (suc p) p (le-refl _)) (closed-2 (suc p) p (omega arith)) (λ x. cst (4 * p) x) m p e st w) in
+          let r = s2 p (4 * p) 3 (open-desc z m (4 * p)) (omega arith) e l y new (le-refl _) (omega arith) w′ in
           rw (test-desc-is p known new, o, children-yes p y new)
-          (res-on f m (open-desc z mag neg b m (4 * p)) (4 * p) (4 * p) (true ∷ []) (each (4 * p) 4 (λ k. coded z mag neg b k) ++ R)
+          (res-on f m (open-desc z m (4 * p)) (4 * p) (4 * p) (true ∷ []) (each (4 * p) 4 (λ k. coded mag neg b k) ++ R)
           (omega arith) (sp .0) (sp .1) (sp .2) r)
         where
           fresh : (x : ℕ) (t : Bool) → eqb (x / 4) p ≡ t → cond (eqb (x / 4) p) 4 (cst (4 * p) x) ≡ cst (4 * p) x
@@ -434,7 +418,7 @@ module _ (z : Size) (mag : ℕ → ℕ) (neg : ℕ → Bool) (b : ℕ) where
   both : (s t : Bool) → T s → T t → s ≡ t
   both s t x y = T-true s x ∙ sym (T-true t y)
 
-  -- A COEFFICIENT THAT STOOD ALONE
+  -- ---- a coefficient that stood alone
   alone0 : (f : ℕ) → S0 f → (p : ℕ) (m : Table) → 6 * (Q z - p) ≤ suc f → z .e ≤ p → p < Q z → Alone z (sdt p) (sgt p) (4 * p) → State p p (4 * p) m
       → Res (suc f) m (4 * p) (each p (Q z - p) (λ k. group z mag neg b k))
   alone0 f s0 p m h e l t w =
@@ -456,7 +440,7 @@ module _ (z : Size) (mag : ℕ → ℕ) (neg : ℕ → Bool) (b : ℕ) where
       same-marks z (sdt p) (sgt p) (sdt (suc p)) (sgt (suc p)) hd hg (λ x. cst (4 * p) x) (λ x. cst (4 * suc p) x) m
       (λ x u v. adv-c (4 * p) (4 * suc p) x (omega arith) (λ o o′. alone-was p p x o v)) w in
       let last : (4 * p + 3) / 4 ≡ p = omega arith in
-      let lone : Alone z (sdt p) (sgt p) (4 * p + 3) = or-true (ltb (4 * p + 3) (D z)) (sdt p ((4 * p + 3) / 4)) (rw (last, sdt-out p p (le-refl p)) y) in
+      let lone : Alone z (sdt p) (sgt p) (4 * p + 3) = T-or-right (ltb (4 * p + 3) (D z)) (sdt p ((4 * p + 3) / 4)) (rw (last, sdt-out p p (le-refl p)) y) in
       let at : Spot z (sdt p) (sgt p) (suc (4 * p + 3)) =
       after-alone z (sdt p) (sgt p) (closed-1 p p (omega arith)) (closed-2 p p (le-refl p)) (4 * p + 3) lone in
       let next : suc (4 * p + 3) ≡ 4 * suc p = omega arith in
@@ -475,7 +459,7 @@ module _ (z : Size) (mag : ℕ → ℕ) (neg : ℕ → Bool) (b : ℕ) where
   unfolding down
   down-two′ p a d = omega arith
 
-  test-desc-no : (p : ℕ) → D z ≤ p → T (not (split-grand z mag b (p / 4))) → test-desc z mag neg b p ≡ []
+  test-desc-no : (p : ℕ) → D z ≤ p → T (not (split-grand z mag b (p / 4))) → test-desc z mag b p ≡ []
   unfolding test-desc
   test-desc-no p h n = rw (le-ltb p (D z) h, T-false (split-grand z mag b (p / 4)) (T-not (split-grand z mag b (p / 4)) n))
 
@@ -489,9 +473,9 @@ module _ (z : Size) (mag : ℕ → ℕ) (neg : ℕ → Bool) (b : ℕ) where
       let high : D z ≤ y = omega (arith, up-le k (y / 4)) in
       (high, g, not-sd z (split-desc z mag b) (split-grand z mag b) (closed1 z mag b) (desc-known z mag b) y high g)
 
-  -- A TEST OF GRAND
+  -- ---- a test of GRAND
   mg-step : (m : Table) (p a : ℕ) → m (4 * p) ≡ 6 → p ≡ 4 * a → T (not (split-grand z mag (suc b) a)) → (t : Bool) → split-grand z mag b a ≡ t
-      → ((set-step z mag neg b m (4 * p)) .0 ≡ t ∷ []) × ((set-step z mag neg b m (4 * p)) .1 ≡ cond t (open-grand z mag neg b m (4 * p)) m)
+      → ((set-step z mag neg b m (4 * p)) .0 ≡ t ∷ []) × ((set-step z mag neg b m (4 * p)) .1 ≡ cond t (open-grand z m (4 * p)) m)
       × ((set-step z mag neg b m (4 * p)) .2 ≡ cond t (4 * p) (4 * p + 16))
   unfolding set-step
   mg-step m p a h d n t e =
@@ -517,14 +501,14 @@ module _ (z : Size) (mag : ℕ → ℕ) (neg : ℕ → Bool) (b : ℕ) where
           rw o (⊎-elim (λ r. sgt-out p y r ∙ sym (sgt-out (suc p) y (omega (arith, ne)))) (λ r. sgt-in p y r ∙ sym (sgt-in (suc p) y (omega arith))) (order p (4 * y)))
 
   group-grand : (p a : ℕ) → z .e ≤ a → p ≡ 4 * a → T (split-desc z mag b a) → T (not (split-grand z mag (suc b) a))
-      → group z mag neg b p ≡ split-grand z mag b a ∷ (test-desc z mag neg b p ++ children z mag neg b p)
+      → group z mag neg b p ≡ split-grand z mag b a ∷ (test-desc z mag b p ++ children z mag neg b p)
   unfolding group test-grand
   group-grand p a v d y n =
       let up-is : p / 4 ≡ a = omega arith in
       let even : p % 4 ≡ 0 = omega arith in
       rw (le-leb (D z) p (omega arith), even, up-is, T-true (split-desc z mag b a) y, T-false (split-grand z mag (suc b) a) (T-not (split-grand z mag (suc b) a) n))
 
-  -- A RUN
+  -- ---- a run
   module _ (f : ℕ) (s0 : S0 f) (s1 : S1 f) (s1′ : S1 (suc f)) (p : ℕ) (m : Table) (h : 6 * (Q z - p) ≤ suc f) (e : z .e ≤ p) (l : p < Q z) (w : State p p (4 * p) m) where
     -- DESC(p), to be tested
     md0 : StandsD z (sdt p) (sgt p) p → Res (suc f) m (4 * p) (each p (Q z - p) (λ k. group z mag neg b k))
@@ -536,14 +520,14 @@ module _ (z : Size) (mag : ℕ → ℕ) (neg : ℕ → Bool) (b : ℕ) where
         let g : T (split-grand z mag (suc b) k) =
         rw (sgt-out p k v) at (rw s at (or-out (ltb p (D z)) (sgt p (p / 4)) (of-false (ltb p (D z)) (le-ltb p (D z) (omega arith))) (st .1))) in
         both (split-grand z mag b k) (split-grand z mag (suc b) k) (grand-shrinks z mag b k g) g) in
-        let none : cond (leb (D z) p && eqb (p % 4) 0) (test-grand z mag neg b (p / 4)) [] ≡ [] =
+        let none : cond (leb (D z) p && eqb (p % 4) 0) (test-grand z mag b (p / 4)) [] ≡ [] =
         quiet-grand p e
         (λ o r. inr (rw (sgt-out p (p / 4) (omega arith)) at (or-out (ltb p (D z)) (sgt p (p / 4)) (of-false (ltb p (D z)) (le-ltb p (D z) o)) (st .1)))) in
         let st′ : StandsD z (sdt p) (sgt (suc p)) p =
         same-desc z (sdt p) (sgt p) (sdt p) (sgt (suc p)) (λ k u. refl) hg p e st in
         let w′ : State (suc p) p (4 * p) m =
         same-marks z (sdt p) (sgt p) (sdt p) (sgt (suc p)) (λ k u. refl) hg (λ x. cst (4 * p) x) (λ x. cst (4 * p) x) m (λ x u v. refl) w in
-        rw (out-cons p l, none, append-assoc (test-desc z mag neg b p) (children z mag neg b p) (each (suc p) (Q z - suc p) (λ k. group z mag neg b k)))
+        rw (out-cons p l, none, append-assoc (test-desc z mag b p) (children z mag neg b p) (each (suc p) (Q z - suc p) (λ k. group z mag neg b k)))
         (s1′ p m (omega arith) e l st′ w′)
 
     -- GRAND(a), to be tested
@@ -574,18 +558,18 @@ module _ (z : Size) (mag : ℕ → ℕ) (neg : ℕ → Bool) (b : ℕ) where
             let y : T (split-grand z mag b a) = of-true (split-grand z mag b a) o in
             let sp = mg-step m p a mark d not-g true o in
             let sixteen : 4 * p ≡ 16 * a = omega arith in
-            let w′ : State (suc p) p (4 * p) (open-grand z mag neg b m (4 * p)) =
+            let w′ : State (suc p) p (4 * p) (open-grand z m (4 * p)) =
             same-marks z (sdt p) (flip a (sgt p)) (sdt p) (sgt (suc p)) (λ k u. refl) (λ k u. flip-g p a d y k)
-            (λ x. cst (4 * p) x) (λ x. cst (4 * p) x) (open-grand z mag neg b m (4 * p)) (λ x u t. refl)
+            (λ x. cst (4 * p) x) (λ x. cst (4 * p) x) (open-grand z m (4 * p)) (λ x u t. refl)
             (rw sixteen
-            (rw sixteen at (grand-opens z mag neg b (sdt p) (sgt p) (closed-1 p p (omega arith)) (closed-2 p p (le-refl p)) (λ x. cst (4 * p) x) m a v st w))) in
+            (rw sixteen at (grand-opens z (sdt p) (sgt p) (closed-1 p p (omega arith)) (closed-2 p p (le-refl p)) (λ x. cst (4 * p) x) m a v st w))) in
             let st′ : StandsD z (sdt p) (sgt (suc p)) p = (
               rw (sdt-out p p (le-refl p)) (old-kid p (omega arith) (omega arith)),
-              or-true (ltb p (D z)) (sgt (suc p) (p / 4)) (rw (up-is, sgt-in (suc p) a (omega arith)) y),
+              T-or-right (ltb p (D z)) (sgt (suc p) (p / 4)) (rw (up-is, sgt-in (suc p) a (omega arith)) y),
             ) in
-            let r = s1 p (open-grand z mag neg b m (4 * p)) h e l st′ w′ in
-            rw (out-cons p l, group-grand p a v d yes-d not-g, o, append-assoc (test-desc z mag neg b p) (children z mag neg b p) R)
-            (res-on f m (open-grand z mag neg b m (4 * p)) (4 * p) (4 * p) (true ∷ []) (test-desc z mag neg b p ++ (children z mag neg b p ++ R))
+            let r = s1 p (open-grand z m (4 * p)) h e l st′ w′ in
+            rw (out-cons p l, group-grand p a v d yes-d not-g, o, append-assoc (test-desc z mag b p) (children z mag neg b p) R)
+            (res-on f m (open-grand z m (4 * p)) (4 * p) (4 * p) (true ∷ []) (test-desc z mag b p ++ (children z mag neg b p ++ R))
             (omega arith) (sp .0) (sp .1) (sp .2) r)
         tell false o =
             let ng : T (not (split-grand z mag b a)) = of-false (split-grand z mag b a) o in
@@ -744,11 +728,11 @@ module _ (z : Size) (mag : ℕ → ℕ) (neg : ℕ → Bool) (b : ℕ) where
       let e : suc n + f ≡ suc (n + f) = omega arith in
       let next : 4 * p + 4 ≡ 4 * suc p = omega arith in
       let lone : Alone z (split-desc z mag (suc b)) (split-grand z mag (suc b)) (4 * p) =
-      or-left (ltb (4 * p) (D z)) (split-desc z mag (suc b) (4 * p / 4)) (lt→ltb (4 * p) (D z) (omega arith)) in
+      T-or (ltb (4 * p) (D z)) (split-desc z mag (suc b) (4 * p / 4)) (lt→ltb (4 * p) (D z) (omega arith)) in
       let st = coef-step m (4 * p) (found z mag b (4 * p)) (w .coef (4 * p) (omega arith) lone) (found-le (4 * p)) in
       rw e (res-on (n + f) m m (4 * p) (4 * suc p) [] o (omega arith) (st .0) (st .1) (st .2 ∙ next) (before n (suc p) f m o (omega arith) w r))
 
-  -- SET PASS
+  -- the set pass
   pub set-pass : (m : Table) → Marks z (split-desc z mag (suc b)) (split-grand z mag (suc b)) (λ x. found z mag b x) m
       → ((go z (set-step z mag neg b) (z .e + 12 * Q z) m 0) .0 ≡ each (z .e) (Q z - z .e) (λ p. group z mag neg b p))
       × Marks z (split-desc z mag b) (split-grand z mag b) (λ x. found z mag b x) ((go z (set-step z mag neg b) (z .e + 12 * Q z) m 0) .1)
@@ -759,7 +743,7 @@ module _ (z : Size) (mag : ℕ → ℕ) (neg : ℕ → Bool) (b : ℕ) where
       (λ y u. sym (sdt-out (z .e) y u)) (λ y u. sym (sgt-out (z .e) y (omega arith)))
       (λ x. found z mag b x) (λ x. cst (4 * z .e) x) m (λ x u t. sym (cst-was (4 * z .e) x t)) w in
       let last : Alone z (sdt (z .e)) (sgt (z .e)) (4 * z .e - 1) =
-      or-left (ltb (4 * z .e - 1) (D z)) (sdt (z .e) ((4 * z .e - 1) / 4)) (lt→ltb (4 * z .e - 1) (D z) (omega arith)) in
+      T-or (ltb (4 * z .e - 1) (D z)) (sdt (z .e) ((4 * z .e - 1) / 4)) (lt→ltb (4 * z .e - 1) (D z) (omega arith)) in
       let at : Spot z (sdt (z .e)) (sgt (z .e)) (suc (4 * z .e - 1)) =
       after-alone z (sdt (z .e)) (sgt (z .e)) (closed-1 (z .e) (z .e) (omega arith)) (closed-2 (z .e) (z .e) (le-refl _)) (4 * z .e - 1) last in
       let here : suc (4 * z .e - 1) ≡ 4 * z .e = omega arith in

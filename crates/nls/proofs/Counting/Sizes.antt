@@ -1,15 +1,13 @@
 -- The sizes of the parts that stand add up to I; so there are at most I of them.
--- Assumes nothing.
-use Prim.Native.Nat.{ℕ, zero, suc, _+_, _*_, _-_, _^_, _/_, _%_, _≤_, _<_}
+use Prim.Native.Nat.{ℕ, _+_, _*_, _-_, _/_, _≤_, _<_}
 use mathlib.Core.Path.{_≡_, refl, ap, sym, _∙_}
 use mathlib.Core.Bool.{Bool, true, false, not, _&&_, _||_, cond}
-use native.Mathlib.Nat.{le-trans, zero-add, pow-succ'}
 use native.Mathlib.Omega.{arith}
-use borrow.Author.Tests.{lt-ltb, le-ltb, leb-true, leb-false, le-leb, lt-leb, ne-eqb}
-use lib.Dec.{T, ltb, leb, eqb, leb→le, le→leb, ltb→lt, lt→ltb, nleb→lt, nltb→le, T-not, not-T}
-use Rattle.nls.proofs.Counting.Sums.{sum, sum-cong, sum-le, sum-add, sum-const, sum-zero, sum-split, sum-at, sum-four, sum-tail, sum-cond, sum-two, by-four}
-use Rattle.nls.proofs.Counting.Tree.{Size, D, Q, I, desc, grand, desc-none, grand-none, desc-step, desc-le}
-use Rattle.nls.proofs.Counting.Parts.{ι, over-desc, over-grand, over-all, big, split-desc, split-grand, alone, stands-desc, stands-grand, parts, sizes, splits, bigs}
+use borrow.Author.Tests.{lt-ltb, le-ltb}
+use lib.Dec.{T, ltb}
+use Rattle.nls.proofs.Counting.Sums.{sum, sum-cong, sum-le, sum-add, sum-const, sum-zero, sum-split, sum-at, sum-four, by-four}
+use Rattle.nls.proofs.Counting.Tree.{Size, D, Q, I, desc, grand, grand-none, desc-step, desc-le}
+use Rattle.nls.proofs.Counting.Parts.{ι, over-desc, over-grand, over-all, split-desc, split-grand, alone, stands-desc, stands-grand, parts, sizes}
 use Rattle.nls.proofs.Counting.Count.{by-parent, desc-known, grand-splits}
 
 alone-law : (d s : Bool) → ι (d || s) ≡ ι d + cond (not d && s) 1 0
@@ -164,7 +162,7 @@ module _ (z : Size) where
               (λ i u v. let t : ltb i (D z) ≡ false = le-ltb i (D z) (omega arith) in rw t),
         )
 
-    -- THE SIZES OF THE PARTS ADD UP TO I
+    -- the sizes of the parts add up to I
     pub sizes-all : sizes z mag b ≡ I z
     unfolding sizes
     sizes-all = omega (arith, alones, descs, grands, known, roots)

@@ -1,17 +1,17 @@
 -- The scan with a table of marks (document 01, "Marks" and "The three passes"), and a scan that goes over a table at rest.
--- Assumes nothing.
-use Prim.Native.Nat.{ℕ, zero, suc, _+_, _*_, _-_, _^_, _/_, _%_, _≤_, _<_}
+use Prim.Native.Nat.{ℕ, zero, suc, _+_, _*_, _-_, _^_, _/_, _≤_, _<_}
 use mathlib.Core.Path.{_≡_, refl, ap, sym, subst, _∙_}
-use mathlib.Core.Bool.{Bool, true, false, not, _&&_, _||_, cond}
+use mathlib.Core.Bool.{Bool, true, false, _&&_, _||_, cond}
 use mathlib.Core.List.{List, [], _∷_, _++_}
-use mathlib.Core.Logic.{_⊎_, inl, inr, ⊎-elim}
-use native.Mathlib.Nat.{le-trans, le-refl, zero-add, add-zero, pow-succ', pow-le-pow-right}
+use mathlib.Core.Logic.{inl, inr, ⊎-elim}
+use native.Mathlib.Nat.{le-refl}
 use native.Mathlib.Omega.{arith}
-use borrow.Author.Tests.{lt-ltb, le-ltb, ltb-true, ltb-false, eqb-true, eqb-false, le-leb, lt-leb, eq-eqb, ne-eqb}
-use lib.Dec.{T, ltb, leb, eqb, ltb→lt, nltb→le, lt→ltb, T-not, not-T}
-use Rattle.nls.proofs.Counting.Sums.{each, each-at, each-skip, each-cons, each-none, each-jump, order}
-use Rattle.nls.proofs.Counting.Tree.{Size, D, Q, I}
-use Rattle.nls.proofs.Counting.Parts.{bit, coded}
+use borrow.Author.Tests.{lt-ltb, le-ltb, eqb-true, eqb-false, le-leb, lt-leb, eq-eqb, ne-eqb}
+use lib.Dec.{T, ltb, leb, eqb, ltb→lt, T-not}
+use Rattle.bits.specs.Bits.{bit}
+use Rattle.nls.proofs.Counting.Sums.{each, each-at, each-cons, each-none, each-jump, order}
+use Rattle.nls.proofs.Counting.Tree.{Size, D, I}
+use Rattle.nls.proofs.Counting.Parts.{coded}
 use Rattle.nls.proofs.Counting.Summary.{has-desc, has-grand}
 use Rattle.nls.proofs.Counting.Tiles.{up, down, up-down, in-run, pow4-pos, Alone, StandsD, StandsG, Cov, Spot, covered, after-alone, after-run}
 
@@ -37,16 +37,7 @@ go z s (suc f) m i =
     cond (leb (I z) i) ([], m)
     ((s m i) .0 ++ (go z s f ((s m i) .1) ((s m i) .2)) .0, (go z s f ((s m i) .1) ((s m i) .2)) .1)
 
-module _ (z : Size) (mag : ℕ → ℕ) (neg : ℕ → Bool) (b : ℕ) where
-  unfoldable pub pixel-step : Table → ℕ → Step
-  pixel-step m i =
-      cond (eqb (m i) 1) (coded z mag neg b i, cond (bit z mag neg b i) (put m i 2) m, suc i) ([], m, i + skip (m i))
-
-  unfoldable pub refine-step : Table → ℕ → Step
-  refine-step m i =
-      cond (eqb (m i) 3) (bit z mag neg b i ∷ [], m, suc i)
-      (cond (eqb (m i) 2) ([], put m i 3, suc i) ([], m, i + skip (m i)))
-
+module _ (z : Size) where
   -- 4 i, 16 i, .. become MN2, MN3, ..: from place w on, with code c
   unfoldable pub push : ℕ → ℕ → ℕ → Table → Table
   push zero c w m = m
@@ -63,13 +54,23 @@ module _ (z : Size) (mag : ℕ → ℕ) (neg : ℕ → Bool) (b : ℕ) where
   unfoldable pub open-grand : Table → ℕ → Table
   open-grand m i = pushed (pushed (pushed (pushed m i) (i + 4)) (i + 8)) (i + 12)
 
+unfoldable pub pixel-step : (ℕ → ℕ) → (ℕ → Bool) → ℕ → Table → ℕ → Step
+pixel-step mag neg b m i =
+    cond (eqb (m i) 1) (coded mag neg b i, cond (bit (mag i) b) (put m i 2) m, suc i) ([], m, i + skip (m i))
+
+unfoldable pub refine-step : (ℕ → ℕ) → ℕ → Table → ℕ → Step
+refine-step mag b m i =
+    cond (eqb (m i) 3) (bit (mag i) b ∷ [], m, suc i)
+    (cond (eqb (m i) 2) ([], put m i 3, suc i) ([], m, i + skip (m i)))
+
+module _ (z : Size) (mag : ℕ → ℕ) (neg : ℕ → Bool) (b : ℕ) where
   unfoldable pub set-step : Table → ℕ → Step
   set-step m i =
       cond (eqb (m i) 5)
-      (has-desc z mag b (i / 4) ∷ [], cond (has-desc z mag b (i / 4)) (open-desc m i) m, cond (has-desc z mag b (i / 4)) i (i + 4))
+      (has-desc z mag b (i / 4) ∷ [], cond (has-desc z mag b (i / 4)) (open-desc z m i) m, cond (has-desc z mag b (i / 4)) i (i + 4))
       (cond (eqb (m i) 6)
-      (has-grand z mag b (i / 16) ∷ [], cond (has-grand z mag b (i / 16)) (open-grand m i) m, cond (has-grand z mag b (i / 16)) i (i + 16))
-      (cond (eqb (m i) 4) (coded z mag neg b i, put m i (cond (bit z mag neg b i) 2 1), suc i)
+      (has-grand z mag b (i / 16) ∷ [], cond (has-grand z mag b (i / 16)) (open-grand z m i) m, cond (has-grand z mag b (i / 16)) i (i + 16))
+      (cond (eqb (m i) 4) (coded mag neg b i, put m i (cond (bit (mag i) b) 2 1), suc i)
       ([], m, i + cond (leb (m i) 3) 4 (skip (m i)))))
 
 -- the mark of a set, k steps down: of DESC, and of GRAND
@@ -115,10 +116,6 @@ put-same m x v = rw (eq-eqb x x refl)
 
 pub put-other : (m : Table) (x v y : ℕ) → (y ≡ x → ⊥) → put m x v y ≡ m y
 put-other m x v y h = rw (ne-eqb y x h)
-
-decide : (t : Bool) → (t ≡ true) ⊎ (t ≡ false)
-decide true = inl refl
-decide false = inr refl
 
 -- the marks of the coefficients when a scan is at i
 abbrev pub halfway : (ℕ → ℕ) → (ℕ → ℕ) → ℕ → ℕ → ℕ

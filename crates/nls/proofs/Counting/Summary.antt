@@ -1,17 +1,16 @@
 -- The summaries: the bitwise OR of the magnitudes over DESC(i) and GRAND(i). They tell what is split.
--- Assumes nothing.
-use Prim.Native.Nat.{ℕ, zero, suc, _+_, _*_, _-_, _^_, _/_, _%_, _≤_, _<_}
-use mathlib.Core.Path.{_≡_, refl, ap, sym, subst, _∙_}
-use mathlib.Core.Bool.{Bool, true, false, not, _&&_, _||_, cond}
-use native.Mathlib.Nat.{le-trans, le-refl, pow-succ', div-eq-of-lt, div-eq-of-lt-le}
+use Prim.Native.Nat.{ℕ, zero, suc, _+_, _*_, _^_}
+use mathlib.Core.Path.{_≡_, refl, sym, _∙_}
+use mathlib.Core.Bool.{Bool, true, false, _||_, cond}
 use native.Mathlib.Omega.{arith}
 use borrow.Author.Tests.{lt-ltb, le-ltb, ltb-true, ltb-false, leb-true, leb-false, le-leb, lt-leb}
-use lib.Dec.{T, ltb, leb, eqb, nleb→lt}
+use lib.Dec.{ltb, leb}
 use lib.Pow.{pow-pos}
-use lib.Bits.{bitOr, bitAnd, or-lt, or-add-and, and-le-l, and-le-r}
+use lib.Bits.{bitOr, or-lt, or-add-and, and-le-l, and-le-r}
+use Rattle.bits.specs.Bits.{bit}
 use Rattle.nls.proofs.Counting.Sums.{sum}
-use Rattle.nls.proofs.Counting.Tree.{Size, D, Q, I, tree, within, desc, grand}
-use Rattle.nls.proofs.Counting.Parts.{ι, big, split-desc, split-grand}
+use Rattle.nls.proofs.Counting.Tree.{Size, I, tree, within, desc, grand}
+use Rattle.nls.proofs.Counting.Parts.{ι, big, split-desc, split-grand, top-bit}
 
 -- f a | f (a + 1) | .. , n terms
 unfoldable pub join : ℕ → ℕ → (ℕ → ℕ) → ℕ
@@ -60,7 +59,7 @@ tree-big n (suc d) g h e i =
     (λ c. or-big n (g c) (or-tree d g c) ∙ rw (e c, tree-big n d g h e c) (sym (pos-add (h c) (tree d h c))))
 
 module _ (z : Size) (mag : ℕ → ℕ) where
-  within-big : (n c : ℕ) → leb (2 ^ n) (within z mag c) ≡ ltb 0 (within z (λ k. ι (big z mag n k)) c)
+  within-big : (n c : ℕ) → leb (2 ^ n) (within z mag c) ≡ ltb 0 (within z (λ k. ι (big mag n k)) c)
   unfolding within big
   within-big n c = tell (ltb c (I z)) (leb (2 ^ n) (mag c)) refl
     where
@@ -71,29 +70,19 @@ module _ (z : Size) (mag : ℕ → ℕ) where
 
   pub desc-summary : (n i : ℕ) → leb (2 ^ n) (or-desc z mag i) ≡ split-desc z mag n i
   unfolding or-desc split-desc desc
-  desc-summary n i = tree-big n (z .deep) (within z mag) (within z (λ k. ι (big z mag n k))) (within-big n) i
+  desc-summary n i = tree-big n (z .deep) (within z mag) (within z (λ k. ι (big mag n k))) (within-big n) i
 
   pub grand-summary : (n i : ℕ) → leb (2 ^ n) (or-grand z mag i) ≡ split-grand z mag n i
   unfolding or-grand split-desc split-grand grand
-  grand-summary n i = join-big n (4 * i) 4 (λ c. or-desc z mag c) (λ c. desc z (λ k. ι (big z mag n k)) c) (λ c. desc-summary n c)
+  grand-summary n i = join-big n (4 * i) 4 (λ c. or-desc z mag c) (λ c. desc z (λ k. ι (big mag n k)) c) (λ c. desc-summary n c)
 
--- below 2 ^ (b + 1), bit b of a number says whether it is at least 2 ^ b
-pub top-bit : (b x : ℕ) → leb (2 ^ suc b) x ≡ false → eqb (x / 2 ^ b % 2) 1 ≡ leb (2 ^ b) x
-top-bit b x h = tell (leb (2 ^ b) x) refl
-  where
-    tell : (s : Bool) → leb (2 ^ b) x ≡ s → eqb (x / 2 ^ b % 2) 1 ≡ leb (2 ^ b) x
-    tell true e =
-        let one : x / 2 ^ b ≡ 1 = div-eq-of-lt-le (2 ^ b) (omega (arith, leb-true (2 ^ b) x e)) (omega (arith, leb-false (2 ^ suc b) x h, pow-succ' 2 b)) in
-        rw (e, one)
-    tell false e = let none : x / 2 ^ b ≡ 0 = div-eq-of-lt (leb-false (2 ^ b) x e) in rw (e, none)
-
--- THE BIT THAT A TEST WRITES
+-- the bit that a test writes
 module _ (z : Size) (mag : ℕ → ℕ) where
   unfoldable pub has-desc : ℕ → ℕ → Bool
-  has-desc b i = eqb (or-desc z mag i / 2 ^ b % 2) 1
+  has-desc b i = bit (or-desc z mag i) b
 
   unfoldable pub has-grand : ℕ → ℕ → Bool
-  has-grand b i = eqb (or-grand z mag i / 2 ^ b % 2) 1
+  has-grand b i = bit (or-grand z mag i) b
 
   pub has-desc-is : (b i : ℕ) → split-desc z mag (suc b) i ≡ false → has-desc b i ≡ split-desc z mag b i
   unfolding has-desc

@@ -1,14 +1,15 @@
 -- The parts that stand lie in the linear order as runs, one for each level of a set. A scan goes from run to run.
--- Assumes nothing.
-use Prim.Native.Nat.{ℕ, zero, suc, _+_, _*_, _-_, _^_, _/_, _%_, _≤_, _<_}
-use mathlib.Core.Path.{_≡_, refl, ap, sym, subst, _∙_}
-use mathlib.Core.Bool.{Bool, true, false, not, _&&_, _||_, cond}
+use Prim.Native.Nat.{ℕ, zero, suc, _+_, _*_, _-_, _^_, _/_, _≤_, _<_}
+use mathlib.Core.Path.{_≡_, refl, sym, subst, _∙_}
+use mathlib.Core.Bool.{Bool, true, false, not, _||_}
 use mathlib.Core.Logic.{_⊎_, inl, inr, ⊎-elim}
-use native.Mathlib.Nat.{le-trans, le-refl, zero-add, add-zero, pow-succ', pow-le-pow-right}
+use native.Mathlib.Nat.{le-refl, zero-add, pow-succ', one-le-pow}
 use native.Mathlib.Omega.{arith}
-use borrow.Author.Tests.{lt-ltb, le-ltb, ltb-true, ltb-false, eqb-true, eqb-false}
-use lib.Dec.{T, ltb, leb, eqb, ltb→lt, nltb→le, lt→ltb, T-not, not-T}
-use Rattle.nls.proofs.Counting.Tree.{Size, D, Q, I}
+use borrow.Author.Tests.{eqb-true, eqb-false}
+use lib.Dec.{T, ltb, eqb, ltb→lt, nltb→le, lt→ltb, T-not, not-T}
+use Rattle.nls.proofs.Counting.Sums.{order}
+use Rattle.nls.proofs.Booleans.{T-or, bool}
+use Rattle.nls.proofs.Counting.Tree.{Size, D}
 
 -- k steps up from x, and k steps down by first children
 unfoldable pub up : ℕ → ℕ → ℕ
@@ -51,7 +52,7 @@ in-run zero a x p q = omega arith
 in-run (suc k) a x p q = in-run k a (x / 4) (omega arith) (omega (arith, pow-succ' 4 k))
 
 pub pow4-pos : (k : ℕ) → 1 ≤ 4 ^ k
-pow4-pos k = pow-le-pow-right {n = 4} (omega arith) {i = 0} {j = k} (omega arith)
+pow4-pos k = one-le-pow k 4 (omega arith)
 
 pub up-down : (k a : ℕ) → up k (down k a) ≡ a
 up-down k a = in-run k a (down k a) (le-refl _) (omega (arith, pow4-pos k))
@@ -68,14 +69,6 @@ nor-left false t h = tt
 nor-right : (s t : Bool) → T (not (s || t)) → T (not t)
 nor-right true t h = absurd h
 nor-right false t h = h
-
-or-left : (s t : Bool) → T s → T (s || t)
-or-left true t h = tt
-or-left false t h = absurd h
-
-bool : (t : Bool) → T t ⊎ T (not t)
-bool true = inl tt
-bool false = inr tt
 
 module _ (z : Size) (sd sg : ℕ → Bool) where
   -- a coefficient that stands alone; DESC(a), GRAND(a) that stands; a set over what is k steps down from a
@@ -140,15 +133,12 @@ module _ (z : Size) (sd sg : ℕ → Bool) where
         (c .2)
 
     pub unique : (k k′ x : ℕ) → Cov k (up k x) → Cov k′ (up k′ x) → k ≡ k′
-    unique k k′ x c c′ = ⊎-elim (λ l. absurd (lower k k′ l c c′)) (λ r. ⊎-elim (λ l. absurd (lower k′ k l c′ c)) (λ r′. omega arith) (less k′ k)) (less k k′)
+    unique k k′ x c c′ = ⊎-elim (λ r. ⊎-elim (λ r′. omega arith) (λ l. absurd (lower k′ k l c′ c)) (order k k′)) (λ l. absurd (lower k k′ l c c′)) (order k′ k)
       where
         lower : (k k′ : ℕ) → k < k′ → Cov k (up k x) → Cov k′ (up k′ x) → ⊥
         lower k k′ l c c′ =
             let e : k′ ≡ k + suc (k′ - suc k) = omega arith in
             once k (k′ - suc k) x c (subst (λ (n : ℕ). Cov n (up n x)) e c′)
-
-        less : (m n : ℕ) → (m < n) ⊎ (n ≤ m)
-        less m n = ⊎-elim (λ t. inl (ltb→lt m n t)) (λ t. inr (nltb→le m n t)) (bool (ltb m n))
 
     -- what does not stand alone is covered
     climb : (f k x : ℕ) → up k x ≤ f → 1 ≤ k → z .e ≤ up k x → T (not (sd (up k x))) → (n : ℕ) × Cov n (up n x)
@@ -184,7 +174,7 @@ module _ (z : Size) (sd sg : ℕ → Bool) where
             absurd (h k c (in-run k (up k (suc x)) x (omega (arith, ne)) (omega arith)))
 
     pub first-spot : Spot 0
-    first-spot = inl (or-left (ltb 0 (D z)) (sd (0 / 4)) (lt→ltb 0 (D z) (omega arith)))
+    first-spot = inl (T-or (ltb 0 (D z)) (sd (0 / 4)) (lt→ltb 0 (D z) (omega arith)))
 
     pub after-alone : (x : ℕ) → Alone x → Spot (suc x)
     after-alone x t =

@@ -1,12 +1,11 @@
 -- The tree of places: sums over the descendants of a place.
--- Assumes nothing.
-use Prim.Native.Nat.{ℕ, zero, suc, _+_, _*_, _-_, _^_, _/_, _≤_, _<_}
-use mathlib.Core.Path.{_≡_, refl, ap, sym, _∙_}
-use mathlib.Core.Bool.{Bool, true, false, not, _&&_, _||_, cond}
-use native.Mathlib.Nat.{add-zero, add-suc, zero-add, mul-suc, pow-succ', le-mul-of-pos-right, mul-le-mul-right, mul-le-mul-left, mul-assoc}
+use Prim.Native.Nat.{ℕ, zero, suc, _+_, _*_, _^_, _≤_, _<_}
+use mathlib.Core.Path.{_≡_, refl, ap, _∙_}
+use mathlib.Core.Bool.{Bool, true, false, cond}
+use native.Mathlib.Nat.{pow-succ', le-mul-of-pos-right, mul-le-mul-left}
 use native.Mathlib.Omega.{arith}
 use borrow.Author.Tests.{lt-ltb, le-ltb, ltb-true, ltb-false}
-use lib.Dec.{T, ltb, leb}
+use lib.Dec.{ltb}
 use Rattle.nls.proofs.Counting.Sums.{sum, sum-cong, sum-le, sum-add, sum-zero, le-sum}
 
 -- The sizes: `e` is D / 4 and `j` is I / 16; `deep` bounds the depth of the tree.

@@ -1,17 +1,13 @@
 -- One state leads to another, by the bits that an array answers on the way.
--- Assumes nothing.
-use Prim.Native.Nat.{ℕ, zero, suc, _+_, _*_, _-_, _^_, _/_, _%_, _≤_, _<_}
+use Prim.Native.Nat.{ℕ, zero, suc, _^_}
 use mathlib.Core.Path.{_≡_, refl, ap, sym, subst, _∙_}
-use mathlib.Core.Bool.{Bool, true, false}
+use mathlib.Core.Bool.{Bool}
 use mathlib.Core.Option.{Option, none, some}
 use mathlib.Core.List.{List, [], _∷_, _++_}
-use native.Mathlib.Omega.{arith}
-use lib.ListN.{length, take}
-use lib.Seq.{take-nil}
+use lib.ListN.{take}
 use Rattle.nls.specs.Scan.{State, Look, over, silent, asks, Question, look, tell, settle, ask, asked, next, reach}
-use Rattle.nls.proofs.Arrays.{answersOf, Bits, ans}
-use Rattle.nls.proofs.Judging.Most.{Fits, told}
-use Rattle.nls.proofs.Machine.Run.{Fit, settle-hush, settle-asks, settle-over, reach-append, fit-append}
+use Rattle.nls.proofs.Arrays.{answersOf, Bits, ans, told, Fit}
+use Rattle.nls.proofs.Machine.Run.{settle-hush, settle-asks, settle-over, reach-append, fit-append}
 
 -- each question of a run comes while k planes are left
 abbrev pub In : ℕ → ℕ → State → List Bool → Type 0

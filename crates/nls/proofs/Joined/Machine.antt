@@ -1,15 +1,14 @@
 -- The machine's passes, planes and whole run write what the magnitudes say.
--- Assumes nothing.
-use Prim.Native.Nat.{ℕ, zero, suc, _+_, _*_, _-_, _^_, _/_, _%_, _≤_, _<_}
-use mathlib.Core.Path.{_≡_, refl, ap, sym, subst, _∙_}
-use mathlib.Core.Bool.{Bool, true, false, cond}
-use mathlib.Core.List.{List, [], _∷_, _++_, append-assoc}
-use mathlib.Core.Logic.{_⊎_, inl, inr, ⊎-elim}
+use Prim.Native.Nat.{ℕ, zero, suc, _+_, _*_, _-_, _^_, _≤_, _<_}
+use mathlib.Core.Path.{_≡_, refl, sym, subst, _∙_}
+use mathlib.Core.Bool.{Bool, false}
+use mathlib.Core.List.{List, _++_}
+use mathlib.Core.Logic.{⊎-elim}
 use native.Mathlib.Omega.{arith}
-use borrow.Author.Tests.{lt-ltb, le-ltb, le-leb, lt-leb}
-use lib.Dec.{ltb, leb, eqb}
-use lib.ListN.{length, getD, set, replicate, length-replicate, getD-replicate, List·getD-append}
-use Rattle.nls.specs.Scan.{State, Look, over, silent, asks, Pass, pixels, sets, refining, at, look}
+use borrow.Author.Tests.{le-ltb, le-leb, lt-leb}
+use lib.Dec.{ltb}
+use lib.ListN.{length, getD, replicate, length-replicate, getD-replicate, List·getD-append}
+use Rattle.nls.specs.Scan.{State, Pass, pixels, sets, refining, at}
 use Rattle.nls.proofs.Arrays.{Arr, Bits, bits-of}
 use Rattle.nls.proofs.Counting.Sums.{order}
 use Rattle.nls.proofs.Counting.Tree.{Size, D, Q, I}
@@ -18,7 +17,7 @@ use Rattle.nls.proofs.Counting.Passes.{rest}
 use Rattle.nls.proofs.Counting.Steps.{Table, Marks}
 use Rattle.nls.proofs.Counting.Steps as C
 use Rattle.nls.proofs.Counting.Whole as W
-use Rattle.nls.proofs.Counting.Lists.{LStep, go-l, pixel-l, refine-l, set-l, scan-plane-l, scan-l, start-from-l, start-l, Rep, like-go, like-pixel, like-refine, like-set, rep-start}
+use Rattle.nls.proofs.Counting.Lists.{LStep, go-l, pixel-l, refine-l, set-l, scan-plane-l, start-from-l, start-l, Rep, like-go, like-pixel, like-refine, like-set, rep-start}
 use Rattle.nls.proofs.Joined.Leads.{Leads, Runs, runs-none, runs-then, leads-none, leads-then, leads-hushed}
 use Rattle.nls.proofs.Joined.Visits.{Low, rank, again-low, low-pixel, low-refine, low-set, falls-pixel, falls-refine, falls-set, visit-pixel, visit-refine, visit-set, pushed-miss}
 
@@ -65,12 +64,12 @@ module _ (z : Size) (full : I z ≡ 4 ^ z .deep) (A : Arr) (b : ℕ) where
   past-end i h = le-ltb i K (omega (arith, h, full))
 
   pixels-lead : (l : List ℕ) → Low l
-      → Leads N B (suc b) (at (suc b) pixels 0 l) ((go-l z (pixel-l z (A .mag) (A .neg) b) (I z) l 0) .0) (at (suc b) sets 0 ((go-l z (pixel-l z (A .mag) (A .neg) b) (I z) l 0) .1))
-      × Low ((go-l z (pixel-l z (A .mag) (A .neg) b) (I z) l 0) .1)
+      → Leads N B (suc b) (at (suc b) pixels 0 l) ((go-l z (pixel-l (A .mag) (A .neg) b) (I z) l 0) .0) (at (suc b) sets 0 ((go-l z (pixel-l (A .mag) (A .neg) b) (I z) l 0) .1))
+      × Low ((go-l z (pixel-l (A .mag) (A .neg) b) (I z) l 0) .1)
   pixels-lead l w =
-      let o : (List Bool) × (List ℕ) = go-l z (pixel-l z (A .mag) (A .neg) b) (I z) l 0 in
+      let o : (List Bool) × (List ℕ) = go-l z (pixel-l (A .mag) (A .neg) b) (I z) l 0 in
       let r : Went z A b pixels (at (suc b) pixels 0 l) o =
-      pass-leads pixels (pixel-l z (A .mag) (A .neg) b) (λ l i. I z - i) (λ l i u w. visit-pixel z full A b l i u) (low-pixel z (A .mag) (A .neg) b)
+      pass-leads pixels (pixel-l (A .mag) (A .neg) b) (λ l i. I z - i) (λ l i u w. visit-pixel z full A b l i u) (low-pixel z (A .mag) (A .neg) b)
       (λ l i u w. falls-pixel z (A .mag) (A .neg) b l i u) (I z) l 0 (omega arith) w in
       (leads-hushed N B (suc b) (at (suc b) pixels 0 l) (at (suc b) pixels (r .to) (o .1)) (at (suc b) sets 0 (o .1)) (o .0) (r .leads) (rw (past-end (r .to) (r .past))), r .low)
 
@@ -85,24 +84,24 @@ module _ (z : Size) (full : I z ≡ 4 ^ z .deep) (A : Arr) (b : ℕ) where
       (leads-hushed N B (suc b) (at (suc b) sets 0 l) (at (suc b) sets (r .to) (o .1)) (at (suc b) refining 0 (o .1)) (o .0) (r .leads) (rw (past-end (r .to) (r .past))), r .low)
 
   fines-lead : (l : List ℕ) → Low l
-      → Leads N B (suc b) (at (suc b) refining 0 l) ((go-l z (refine-l z (A .mag) (A .neg) b) (I z) l 0) .0) (at b pixels 0 ((go-l z (refine-l z (A .mag) (A .neg) b) (I z) l 0) .1))
-      × Low ((go-l z (refine-l z (A .mag) (A .neg) b) (I z) l 0) .1)
+      → Leads N B (suc b) (at (suc b) refining 0 l) ((go-l z (refine-l (A .mag) b) (I z) l 0) .0) (at b pixels 0 ((go-l z (refine-l (A .mag) b) (I z) l 0) .1))
+      × Low ((go-l z (refine-l (A .mag) b) (I z) l 0) .1)
   fines-lead l w =
-      let o : (List Bool) × (List ℕ) = go-l z (refine-l z (A .mag) (A .neg) b) (I z) l 0 in
+      let o : (List Bool) × (List ℕ) = go-l z (refine-l (A .mag) b) (I z) l 0 in
       let r : Went z A b refining (at (suc b) refining 0 l) o =
-      pass-leads refining (refine-l z (A .mag) (A .neg) b) (λ l i. I z - i) (λ l i u w. visit-refine z full A b l i u) (low-refine z (A .mag) (A .neg) b)
+      pass-leads refining (refine-l (A .mag) b) (λ l i. I z - i) (λ l i u w. visit-refine z full A b l i u) (low-refine z (A .mag) (A .neg) b)
       (λ l i u w. falls-refine z (A .mag) (A .neg) b l i u) (I z) l 0 (omega arith) w in
       (leads-hushed N B (suc b) (at (suc b) refining 0 l) (at (suc b) refining (r .to) (o .1)) (at b pixels 0 (o .1)) (o .0) (r .leads) (rw (past-end (r .to) (r .past))), r .low)
 
-  -- ONE PLANE of the machine is one plane over a list
+  -- one plane of the machine is one plane over a list
   pub plane-leads : (l : List ℕ) → Low l
       → Leads N B (suc b) (at (suc b) pixels 0 l) ((scan-plane-l z (A .mag) (A .neg) b l) .0) (at b pixels 0 ((scan-plane-l z (A .mag) (A .neg) b l) .1))
       × Low ((scan-plane-l z (A .mag) (A .neg) b l) .1)
   unfolding scan-plane-l
   plane-leads l w =
-      let o1 : (List Bool) × (List ℕ) = go-l z (pixel-l z (A .mag) (A .neg) b) (I z) l 0 in
+      let o1 : (List Bool) × (List ℕ) = go-l z (pixel-l (A .mag) (A .neg) b) (I z) l 0 in
       let o2 : (List Bool) × (List ℕ) = go-l z (set-l z (A .mag) (A .neg) b) (z .e + 12 * Q z) (o1 .1) 0 in
-      let o3 : (List Bool) × (List ℕ) = go-l z (refine-l z (A .mag) (A .neg) b) (I z) (o2 .1) 0 in
+      let o3 : (List Bool) × (List ℕ) = go-l z (refine-l (A .mag) b) (I z) (o2 .1) 0 in
       let r1 = pixels-lead l w in
       let r2 = sets-lead (o1 .1) (r1 .1) in
       let r3 = fines-lead (o2 .1) (r2 .1) in (
@@ -132,14 +131,14 @@ unfolding scan-plane-l W.scan-plane
 plane-list z mag neg b l h =
     let m : Table = λ y. getD l y 0 in
     let r : Rep z l m = record { long = h .long; same = λ y u. refl } in
-    let one = like-go z (pixel-l z mag neg b) (C.pixel-step z mag neg b) (like-pixel z mag neg b) (I z) l m 0 r in
+    let one = like-go z (pixel-l mag neg b) (C.pixel-step mag neg b) (like-pixel z mag neg b) (I z) l m 0 r in
     let two = like-go z (set-l z mag neg b) (C.set-step z mag neg b) (like-set z mag neg b) (z .e + 12 * Q z) _ _ 0 (one .1) in
-    let three = like-go z (refine-l z mag neg b) (C.refine-step z mag neg b) (like-refine z mag neg b) (I z) _ _ 0 (two .1) in
+    let three = like-go z (refine-l mag b) (C.refine-step mag b) (like-refine z mag neg b) (I z) _ _ 0 (two .1) in
     let w = W.plane-scan z mag neg b m (h .marks) in
     (rw (one .0, two .0, three .0) (w .0), (three .1) .long, marks-rep z (split-desc z mag b) (split-grand z mag b) (λ x. rest z mag b x) _ _ (three .1) (w .1))
 
 module _ (z : Size) (full : I z ≡ 4 ^ z .deep) (A : Arr) where
-  -- ONE PLANE OF THE MACHINE, from the magnitudes
+  -- one plane of the machine, from the magnitudes
   pub machine-plane : (b : ℕ) (l : List ℕ) → Held z (A .mag) (suc b) l
       → (m : List ℕ) × Leads (z .deep) (bits-of A) (suc b) (at (suc b) pixels 0 l) (plane z (A .mag) (A .neg) b) (at b pixels 0 m) × Held z (A .mag) b m
   machine-plane b l h =
@@ -150,50 +149,7 @@ module _ (z : Size) (full : I z ≡ 4 ^ z .deep) (A : Arr) where
         record { long = q .1; low = r .1; marks = q .2 },
       )
 
-  -- planes b + k - 1 to b
-  unfoldable pub upto : ℕ → ℕ → List Bool
-  upto zero b = []
-  upto (suc k) b = plane z (A .mag) (A .neg) (k + b) ++ upto k b
-
-  pub machine-planes : (k b : ℕ) (l : List ℕ) → Held z (A .mag) (k + b) l
-      → (m : List ℕ) × Runs (z .deep) (bits-of A) (at (k + b) pixels 0 l) (upto k b) (at b pixels 0 m) × Held z (A .mag) b m
-  unfolding upto
-  machine-planes zero b l h =
-      let e : 0 + b ≡ b = omega arith in (
-        l,
-        subst (λ (n : ℕ). Runs (z .deep) (bits-of A) (at n pixels 0 l) [] (at b pixels 0 l)) (sym e) (runs-none (z .deep) (bits-of A) (at b pixels 0 l)),
-        subst (λ (n : ℕ). Held z (A .mag) n l) e h,
-      )
-  machine-planes (suc k) b l h =
-      let e : suc k + b ≡ suc (k + b) = omega arith in
-      let p = machine-plane (k + b) l (subst (λ (n : ℕ). Held z (A .mag) n l) e h) in
-      let q = machine-planes k b (p .0) (p .2) in (
-        q .0,
-        subst (λ (n : ℕ). Runs (z .deep) (bits-of A) (at n pixels 0 l) (plane z (A .mag) (A .neg) (k + b) ++ upto k b) (at b pixels 0 (q .0))) (sym e)
-            (runs-then (z .deep) (bits-of A) (at (suc (k + b)) pixels 0 l) (at (k + b) pixels 0 (p .0)) (at b pixels 0 (q .0)) (plane z (A .mag) (A .neg) (k + b)) (upto k b) (p .1 .runs) (q .1)),
-        q .2,
-      )
-
-  pub body-upto : (k b : ℕ) → body z (A .mag) (A .neg) (k + b) ≡ upto k b ++ body z (A .mag) (A .neg) b
-  unfolding upto body
-  body-upto zero b = ap (λ (n : ℕ). body z (A .mag) (A .neg) n) {x = 0 + b} {y = b} (omega arith)
-  body-upto (suc k) b =
-      ap (λ (n : ℕ). body z (A .mag) (A .neg) n) {x = suc k + b} {y = suc (k + b)} (omega arith)
-      ∙ ap (λ (u : List Bool). plane z (A .mag) (A .neg) (k + b) ++ u) (body-upto k b)
-      ∙ sym (append-assoc (plane z (A .mag) (A .neg) (k + b)) (upto k b) (body z (A .mag) (A .neg) b))
-
-  -- and as the scan over a list, which is how the marks come out
-  pub machine-list : (n : ℕ) (l : List ℕ) → Low l
-      → Runs (z .deep) (bits-of A) (at n pixels 0 l) ((scan-l z (A .mag) (A .neg) n l) .0) (at 0 pixels 0 ((scan-l z (A .mag) (A .neg) n l) .1))
-  unfolding scan-l
-  machine-list zero l w = runs-none (z .deep) (bits-of A) (at 0 pixels 0 l)
-  machine-list (suc b) l w =
-      let p = plane-leads z full A b l w in
-      let m : List ℕ = (scan-plane-l z (A .mag) (A .neg) b l) .1 in
-      runs-then (z .deep) (bits-of A) (at (suc b) pixels 0 l) (at b pixels 0 m) (at 0 pixels 0 ((scan-l z (A .mag) (A .neg) b m) .1))
-      ((scan-plane-l z (A .mag) (A .neg) b l) .0) ((scan-l z (A .mag) (A .neg) b m) .0) (p .0 .runs) (machine-list b m (p .1))
-
-  -- ALL PLANES
+  -- all planes
   pub machine-body : (n : ℕ) (l : List ℕ) → Held z (A .mag) n l
       → (m : List ℕ) × Runs (z .deep) (bits-of A) (at n pixels 0 l) (body z (A .mag) (A .neg) n) (at 0 pixels 0 m) × Held z (A .mag) 0 m
   unfolding body
@@ -206,22 +162,18 @@ module _ (z : Size) (full : I z ≡ 4 ^ z .deep) (A : Arr) where
         q .2,
       )
 
-  -- THE START
-  pub start-low : (n : ℕ) → getD (start-from-l z (A .mag) (A .neg) n) 0 0 ≡ 1
+  -- ---- the start
+  pub start-low : (n : ℕ) → getD (start-from-l z n) 0 0 ≡ 1
   unfolding start-from-l
   start-low zero =
       List·getD-append (replicate (D z) 1) (replicate (I z - D z) 0) 0 0 (omega (arith, length-replicate {A = ℕ} (D z) 1))
       ∙ getD-replicate (D z) 0 1 0 (omega arith)
-  start-low (suc n) = pushed-miss z (A .mag) (A .neg) 0 (start-from-l z (A .mag) (A .neg) n) (4 * (z .e + n)) 0 (omega arith) ∙ start-low n
+  start-low (suc n) = pushed-miss z (start-from-l z n) (4 * (z .e + n)) 0 (omega arith) ∙ start-low n
 
-  pub start-is-low : Low (start-l z (A .mag) (A .neg))
-  unfolding start-l
-  start-is-low = omega (arith, start-low (3 * z .e))
-
-  pub start-held : (P : ℕ) → ((i : ℕ) → i < I z → A .mag i < 2 ^ P) → Held z (A .mag) P (start-l z (A .mag) (A .neg))
+  pub start-held : (P : ℕ) → ((i : ℕ) → i < I z → A .mag i < 2 ^ P) → Held z (A .mag) P (start-l z)
   unfolding start-l W.start
   start-held P small =
-      let r = rep-start z (A .mag) (A .neg) (3 * z .e) in
+      let r = rep-start z (3 * z .e) in
       record {
         long = r .long;
         low = omega (arith, start-low (3 * z .e));

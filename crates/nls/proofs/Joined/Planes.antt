@@ -1,24 +1,18 @@
 -- The bits that a run takes in one plane.
--- Assumes nothing.
-use Prim.Native.Nat.{ℕ, zero, suc, _+_, _*_, _-_, _^_, _/_, _%_, _≤_, _<_}
-use mathlib.Core.Path.{_≡_, refl, ap, sym, subst, _∙_}
+use Prim.Native.Nat.{ℕ, zero, suc, _^_, _≤_, _<_}
+use mathlib.Core.Path.{_≡_, refl, ap, subst, _∙_}
 use mathlib.Core.Bool.{Bool, true, false, cond}
 use mathlib.Core.List.{List, [], _∷_, _++_, append-nil}
-use mathlib.Core.Logic.{_⊎_, inl, inr, ⊎-elim}
 use native.Mathlib.Omega.{arith}
 use borrow.Author.Tests.{eq-eqb, ne-eqb, eqb-true, eqb-false}
 use lib.Dec.{eqb}
+use Rattle.nls.specs.Stream.{during}
 use Rattle.nls.specs.Scan.{State, pixels, at, settle, next, reach}
 use Rattle.nls.proofs.Arrays.{Arr, bits-of}
 use Rattle.nls.proofs.Counting.Tree.{Size, I}
 use Rattle.nls.proofs.Counting.Parts.{plane, body}
 use Rattle.nls.proofs.Joined.Leads.{In, Leads}
 use Rattle.nls.proofs.Joined.Machine.{Held, machine-plane}
-
--- the bits of u, read from s on, that are taken while plane b is in progress
-unfoldable pub during : ℕ → ℕ → State → List Bool → List Bool
-during N b s [] = []
-during N b s (a ∷ u) = cond (eqb (s .left) (suc b)) (a ∷ during N b (next (4 ^ N) s a) u) (during N b (next (4 ^ N) s a) u)
 
 module _ (N b : ℕ) where
   during-append : (s : State) (u v : List Bool) → during N b s (u ++ v) ≡ during N b s u ++ during N b (reach (4 ^ N) s u) v
@@ -74,7 +68,7 @@ module _ (z : Size) (full : I z ≡ 4 ^ z .deep) (A : Arr) where
       ∙ ap (λ (r : List Bool). r ++ during N b (from c (p .0)) (body z (A .mag) (A .neg) c)) one
       ∙ during-none c b (p .0) (omega arith) (p .2)
 
-  -- WHAT THE MACHINE WRITES IN PLANE b IS PLANE b OF THE MAGNITUDES
+  -- what the machine writes in plane b is plane b of the magnitudes
   pub during-plane : (n b : ℕ) (l : List ℕ) → b < n → Held z (A .mag) n l → during N b (from n l) (body z (A .mag) (A .neg) n) ≡ plane z (A .mag) (A .neg) b
   unfolding body
   during-plane zero b l h w = absurd (omega arith)

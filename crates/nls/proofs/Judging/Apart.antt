@@ -1,10 +1,10 @@
 -- Sets that stand have no place in common.
-use mathlib.Core.Path.{_≡_, refl, sym, ap, subst, _∙_}
-use mathlib.Core.Bool.{Bool, true, false, true≢false, false≢true}
-use mathlib.Core.Logic.{_⊎_, inl, inr}
-use Prim.Native.Nat.{ℕ, zero, suc, _+_, _*_, _-_, _/_, _%_, _^_, _≤_, _<_}
+use mathlib.Core.Path.{_≡_, sym, ap, subst, _∙_}
+use mathlib.Core.Bool.{true, false, true≢false}
+use Prim.Native.Nat.{ℕ, _*_, _/_, _≤_}
 use native.Mathlib.Omega.{arith}
-use Rattle.nls.proofs.Machine.Table.{Cfg, alone, stands, Ok, alone-no, no-alone, stands-no, no-stands, no-gd, no-dg, low}
+use Rattle.nls.proofs.Tiled.{Tiled}
+use Rattle.nls.proofs.Machine.Table.{Cfg, alone, stands, Ok, no-alone, stands-no, no-gd}
 use Rattle.nls.proofs.Machine.Cover.{Under, kid, far}
 use Rattle.nls.proofs.Judging.Clash.{dead-D, dead-G, via}
 
@@ -24,10 +24,7 @@ pub grand-of : (q h j : ℕ) → h / 4 ≡ q → Under h j → Under q (j / 4)
 grand-of q h j e (kid z) = kid (ap (λ (x : ℕ). x / 4) z ∙ e)
 grand-of q h j e (far u) = far (grand-of q h (j / 4) e u)
 
-module _ (N D P : ℕ) (D-big : 4 ≤ D) (D-4 : D % 4 ≡ 0) (I-16 : 4 ^ N % 16 ≡ 0) (D-I : 4 * D ≤ 4 ^ N) (c : Cfg) (o : Ok D (4 ^ N) c) where
-  abbrev I : ℕ
-  I = 4 ^ N
-
+module _ {D I : ℕ} (sz : Tiled D I) (c : Cfg) (o : Ok D I c) where
   not-first : (g : ℕ) → alone D I c g ≡ false → stands D I c g ≡ false
   not-first g a = let r : (D ≤ g) × (c .sD (g / 4) ≡ false) = no-alone D I c g a in stands-no D I c g (r .0) (no-gd D I c o (g / 4) (r .1))
 
@@ -37,8 +34,8 @@ module _ (N D P : ℕ) (D-big : 4 ≤ D) (D-4 : D % 4 ≡ 0) (I-16 : 4 ^ N % 16 
     where
       go : Cmp h g → h ≡ g
       go (same e) = e
-      go (over w) = absurd (true≢false (sym sg ∙ not-first g (dead-D N D P D-big D-4 I-16 D-I c o h g a nh w)))
-      go (below w) = absurd (true≢false (sym sh ∙ not-first h (dead-D N D P D-big D-4 I-16 D-I c o g h b ng w)))
+      go (over w) = absurd (true≢false (sym sg ∙ not-first g (dead-D sz c o h g a nh w)))
+      go (below w) = absurd (true≢false (sym sh ∙ not-first h (dead-D sz c o g h b ng w)))
 
   -- GRAND(q) and DESC(g)
   pub apart-GD : (q g j : ℕ) → D ≤ 4 * q → c .sD q ≡ true → c .sG q ≡ false → D ≤ 4 * g → stands D I c g ≡ true → c .sD g ≡ false → Under q (j / 4) → Under g j → ⊥
@@ -46,11 +43,11 @@ module _ (N D P : ℕ) (D-big : 4 ≤ D) (D-4 : D % 4 ≡ 0) (I-16 : 4 ^ N % 16 
     where
       at : (x : ℕ) → Under g x → c .sD x ≡ true → ⊥
       at x w d = true≢false (sym d ∙ subst (λ (y : ℕ). c .sD y ≡ false) {x = 4 * x / 4} {y = x} (omega arith)
-          ((no-alone D I c (4 * x) (dead-D N D P D-big D-4 I-16 D-I c o g (4 * x) b ng (far {i = 4 * x} (subst (λ (y : ℕ). Under g y) {x = x} {y = 4 * x / 4} (omega arith) w)))) .1))
+          ((no-alone D I c (4 * x) (dead-D sz c o g (4 * x) b ng (far {i = 4 * x} (subst (λ (y : ℕ). Under g y) {x = x} {y = 4 * x / 4} (omega arith) w)))) .1))
 
       go : (h : ℕ) → h / 4 ≡ q → Cmp h g → ⊥
       go h e (same z) = true≢false (sym sg ∙ stands-no D I c g (omega arith) (subst (λ (x : ℕ). c .sG x ≡ false) {x = q} {y = g / 4} (omega arith) nq))
-      go h e (over w) = true≢false (sym sg ∙ not-first g (dead-G N D P D-big D-4 I-16 D-I c o q g a nq (grand-of q h g e w)))
+      go h e (over w) = true≢false (sym sg ∙ not-first g (dead-G sz c o q g a nq (grand-of q h g e w)))
       go h e (below (kid z)) = true≢false (sym (subst (λ (x : ℕ). c .sD x ≡ true) (sym e ∙ z) dq) ∙ ng)
       go h e (below (far w)) = at q (subst (λ (x : ℕ). Under g x) e w) dq
 
@@ -60,7 +57,7 @@ module _ (N D P : ℕ) (D-big : 4 ≤ D) (D-4 : D % 4 ≡ 0) (I-16 : 4 ^ N % 16 
     where
       at : (x y : ℕ) → D ≤ 4 * x → c .sG x ≡ false → Under x y → c .sD y ≡ true → ⊥
       at x y lo n w d = true≢false (sym d ∙ subst (λ (z : ℕ). c .sD z ≡ false) {x = 4 * y / 4} {y = y} (omega arith)
-          ((no-alone D I c (4 * y) (dead-G N D P D-big D-4 I-16 D-I c o x (4 * y) lo n (subst (λ (z : ℕ). Under x z) {x = y} {y = 4 * y / 4} (omega arith) w))) .1))
+          ((no-alone D I c (4 * y) (dead-G sz c o x (4 * y) lo n (subst (λ (z : ℕ). Under x z) {x = y} {y = 4 * y / 4} (omega arith) w))) .1))
 
       go : Cmp q p → q ≡ p
       go (same e) = e

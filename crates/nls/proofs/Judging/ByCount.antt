@@ -1,53 +1,39 @@
--- THE COUNT: at the last root of the first plane D + 3D/4 - 1 bits were used exactly if no 1 was read. So the decoder needs the count and no flag.
+-- The clash at the last root by a count: there D + 3D/4 - 1 bits were used in the first plane exactly if no 1 was read.
 use mathlib.Core.Path.{_≡_, refl, sym, ap, subst, _∙_}
-use mathlib.Core.Bool.{Bool, true, false, not, _&&_, _||_, true≢false, false≢true}
+use mathlib.Core.Bool.{Bool, true, false, not, _||_, true≢false, false≢true, or-true, or-false, or-assoc}
 use mathlib.Core.Logic.{_⊎_, inl, inr}
-use mathlib.Core.Option.{Option, none, some}
-use mathlib.Core.List.{List, [], _∷_, _++_}
+use mathlib.Core.Option.{some}
+use mathlib.Core.List.{List, [], _∷_}
 use Prim.Native.Nat.{ℕ, zero, suc, _+_, _*_, _-_, _/_, _%_, _^_, _≤_, _<_}
 use native.Mathlib.Omega.{arith}
 use native.Mathlib.Decide.{decLt, ℕ-discrete}
-use lib.ListN.{length, getD, set, take}
-use lib.Dec.{ltb, eqb, lit<, lit≤}
+use lib.ListN.{length, getD}
+use lib.Dec.{ltb, eqb}
 use borrow.Author.Tests.{ltb-true, ltb-false, eqb-true, eqb-false, eq-eqb}
+use Rattle.tree.proofs.Lists.{or-left}
 use Rattle.nls.specs.Marks.{skip, setSkip, startMarks}
-use Rattle.nls.specs.Scan.{State, Look, over, silent, asks, Question, bitOf, signOf, inDesc, inGrand, Pass, pixels, sets, refining, at, look, lookAt, lookPixels, lookSets, lookRefining, tell, tellAt, tellSets, silently, settle, movesLeft, ask, asked, next, reach, start}
-use Rattle.nls.proofs.Arrays.{Bits, ans}
-use Rattle.nls.proofs.Judging.Most.{_⊑_, told, Fits, most, afterO}
+use Rattle.nls.specs.Scan.{State, Look, over, silent, asks, Question, Pass, pixels, sets, refining, at, look, lookAt, lookPixels, lookSets, lookRefining, tell, tellAt, tellSets, silently, settle, movesLeft, ask, asked, next, reach, start}
+use Rattle.nls.proofs.Tiled.{Tiled}
+use Rattle.nls.proofs.Arrays.{Bits, _⊑_, told, Fit}
+use Rattle.nls.proofs.Judging.Most.{most, afterO}
 use Rattle.nls.proofs.Reading.Know.{least, knowO, belowO}
 use Rattle.nls.proofs.Machine.Table.{Cfg, alone, stands, no-alone, no-stands, alone-no}
 use Rattle.nls.proofs.Machine.Cover.{Core, is-alone, is-D, is-G, mark-D, sskip-small}
-use Rattle.nls.proofs.Machine.Steps.{Fam, preds, Good, Good-at, good-next, good-mono}
+use Rattle.nls.proofs.Machine.Steps.{Good, Good-at, good-next, good-mono}
 use Rattle.nls.proofs.Judging.Clash.{Valid}
 use Rattle.nls.proofs.Machine.Start.{nothing, good-start, first}
-use Rattle.nls.proofs.Judging.Open.{All, All-at, All-look, Owing, all-next, all-look, all-tell, all-run, all-start, all-first}
+use Rattle.nls.proofs.Judging.Open.{All, All-at, All-look, Owing, all-next, all-look, all-tell, all-start, all-first}
 use Rattle.nls.proofs.Judging.Refuse.{Clash-at, Clashes, owing}
 use Rattle.nls.proofs.Judging.Owed.{Owed}
 use Rattle.nls.proofs.Judging.Decide.{clash-by, None, clash-to, clash-from}
-use Rattle.nls.proofs.Judging.Flag.{F1, Fl, on-ask1, Blank, blank-run, flag-to, flag-of, z, g1}
-use Rattle.nls.proofs.Judging.Decoder.{lit, Right, Some}
-
-t-or : (x y : Bool) → x ≡ true → (x || y) ≡ true
-t-or true y e = refl
-t-or false y e = absurd (false≢true e)
-
-or-t : (x : Bool) → (x || true) ≡ true
-or-t true = refl
-or-t false = refl
+use Rattle.nls.proofs.Judging.Flag.{F1, Fl, on-ask1, Blank, blank-run, flag-to, flag-of, z, g1, lit}
+use Rattle.nls.proofs.Judging.Decoder.{Right, Some}
 
 f-or : (x : Bool) → x ≡ false → (x || false) ≡ false
 f-or true e = absurd (true≢false e)
 f-or false e = refl
 
-or-nil : (x : Bool) → (x || false) ≡ x
-or-nil true = refl
-or-nil false = refl
-
-or-step : (x a y : Bool) → ((x || a) || y) ≡ (x || (a || y))
-or-step true a y = refl
-or-step false a y = refl
-
-module _ (N D P : ℕ) (D-big : 4 ≤ D) (D-4 : D % 4 ≡ 0) (I-16 : 4 ^ N % 16 ≡ 0) (D-I : 4 * D ≤ 4 ^ N) where
+module _ (N : ℕ) {D : ℕ} (P : ℕ) (sz : Tiled D (4 ^ N)) where
   abbrev I : ℕ
   I = 4 ^ N
 
@@ -71,7 +57,7 @@ module _ (N D P : ℕ) (D-big : 4 ≤ D) (D-4 : D % 4 ≡ 0) (I-16 : 4 ^ N % 16 
 
   module _ (A k w : Bits) (O : Question → Type 0) (kc : (j e : ℕ) → k .has j e ≡ true → e < P) where
     abbrev AA : ℕ → Pass → ℕ → Bool → List ℕ → Type 0
-    AA l p i s m = All-at N D P D-big D-4 I-16 D-I A false k w O l p i s m
+    AA l p i s m = All-at N P sz A false k w O l p i s m
 
     module _ (n : ℕ) (hit : Bool) where
       abbrev JL : Look → Type 0
@@ -117,7 +103,7 @@ module _ (N D P : ℕ) (D-big : 4 ≤ D) (D-4 : D % 4 ≡ 0) (I-16 : 4 ^ N % 16 
           hi : i < I
           hi = ltb-true i I ex
 
-          kk : Core D I D-big D-4 I-16 (z .1 .0) m
+          kk : Core sz (z .1 .0) m
           kk = z .1 .1 .g .core
 
           four : i % 4 ≡ 0
@@ -143,7 +129,7 @@ module _ (N D P : ℕ) (D-big : 4 ≤ D) (D-4 : D % 4 ≡ 0) (I-16 : 4 ^ N % 16 
               pick : (x : Bool) → alone D I (z .1 .0) i ≡ x → ⊥
               pick true a = eqb-false _ _ ec (kk .tab .solo i hi a ∙ a4)
               pick false a = true≢false (sym s ∙ (no-alone D I (z .1 .0) i a) .1)
-          mid e lo h false s = eqb-false _ _ ed (ap (λ (y : ℕ). getD m y 0) {x = i} {y = 4 * (i / 4)} (omega (arith, four)) ∙ mark-D D I D-big D-4 I-16 (z .1 .0) m kk (i / 4) (omega (arith, four)) (omega (arith, four)) (st (stands D I (z .1 .0) (i / 4)) refl) s)
+          mid e lo h false s = eqb-false _ _ ed (ap (λ (y : ℕ). getD m y 0) {x = i} {y = 4 * (i / 4)} (omega (arith, four)) ∙ mark-D sz (z .1 .0) m kk (i / 4) (omega (arith, four)) (omega (arith, four)) (st (stands D I (z .1 .0) (i / 4)) refl) s)
             where
               st : (x : Bool) → stands D I (z .1 .0) (i / 4) ≡ x → stands D I (z .1 .0) (i / 4) ≡ true
               st true y = y
@@ -167,17 +153,17 @@ module _ (N D P : ℕ) (D-big : 4 ≤ D) (D-4 : D % 4 ≡ 0) (I-16 : 4 ^ N % 16 
       j-look (suc b) sets i false m z j = j-sets b i m (ltb i I) (eqb (getD m i 0) 5) (eqb (getD m i 0) 6) (eqb (getD m i 0) 4) refl refl refl refl z j
       j-look (suc b) refining i false m z j = j-fine b i m (ltb i I) (eqb (getD m i 0) 3) (eqb (getD m i 0) 2) z
 
-      j-quiet : (x : ℕ) (s : State) → All N D P D-big D-4 I-16 D-I A false k w O s → J n hit s → J n hit (silently I x s)
+      j-quiet : (x : ℕ) (s : State) → All N P sz A false k w O s → J n hit s → J n hit (silently I x s)
       unfolding silently
       j-quiet zero s z j = j
-      j-quiet (suc x) s z j = go (look I s) (all-look N D P D-big D-4 I-16 D-I A false k w O (s .left) (s .pass) (s .place) (s .pending) (s .marks) z) (j-look (s .left) (s .pass) (s .place) (s .pending) (s .marks) z j) (j-quiet x)
+      j-quiet (suc x) s z j = go (look I s) (all-look N P sz A false k w O (s .left) (s .pass) (s .place) (s .pending) (s .marks) z) (j-look (s .left) (s .pass) (s .place) (s .pending) (s .marks) z j) (j-quiet x)
         where
-          go : (L : Look) → All-look N D P D-big D-4 I-16 D-I A false k w O L → JL L → ((t : State) → All N D P D-big D-4 I-16 D-I A false k w O t → J n hit t → J n hit (silently I x t)) → J n hit (elim L as (λ _. State) [ over ↦ s | silent t ↦ silently I x t | asks q ↦ s ])
+          go : (L : Look) → All-look N P sz A false k w O L → JL L → ((t : State) → All N P sz A false k w O t → J n hit t → J n hit (silently I x t)) → J n hit (elim L as (λ _. State) [ over ↦ s | silent t ↦ silently I x t | asks q ↦ s ])
           go over y u ih = j
           go (silent t) y u ih = ih t y u
           go (asks q) y u ih = j
 
-      j-settle : (s : State) → All N D P D-big D-4 I-16 D-I A false k w O s → J n hit s → J n hit (settle I s)
+      j-settle : (s : State) → All N P sz A false k w O s → J n hit s → J n hit (settle I s)
       unfolding settle
       j-settle s z j = j-quiet (movesLeft I s) s z j
 
@@ -189,42 +175,42 @@ module _ (N D P : ℕ) (D-big : 4 ≤ D) (D-4 : D % 4 ≡ 0) (I-16 : 4 ^ N % 16 
 
       on-0 : (x y : ℕ) → y ≡ x + 1 → Tally n hit x → Tally (n + 1) (hit || false) y
       on-0 x y e (inl t) = inl (f-or hit (t .0), omega (arith, t .1))
-      on-0 x y e (inr t) = inr (t-or hit false (t .0), omega (arith, t .1))
+      on-0 x y e (inr t) = inr (or-left hit false (t .0), omega (arith, t .1))
 
       jt-pix : (b i : ℕ) (m : List ℕ) (x y a : Bool) → ltb i I ≡ x → eqb (getD m i 0) 1 ≡ y → AA (suc b) pixels i false m → J-at n hit (suc b) pixels i false m → told N A (asked I (lookPixels b i m x y)) a
           → J (n + 1) (hit || a) (tellAt I (suc b) pixels i false m a)
       jt-pix b i m false y a ex ey z j t = absurd t
       jt-pix b i m true false a ex ey z j t = absurd t
-      jt-pix b i m true true true ex ey z j t = λ e. (or-t hit, over1 (D - (D - i)) (j e))
+      jt-pix b i m true true true ex ey z j t = λ e. (or-true hit, over1 (D - (D - i)) (j e))
       jt-pix b i m true true false ex ey z j t = λ e. on-0 (D - (D - i)) (D - (D - (i + 1))) (omega (arith, low e (decLt i D))) (j e)
         where
           mk : getD m i 0 ≡ 1
           mk = eqb-true _ _ ey
 
           it : (alone D I (z .1 .0) i ≡ true) × ((z .1 .0) .al i ≡ getD m i 0)
-          it = is-alone D I D-big D-4 I-16 (z .1 .0) m (z .1 .1 .g .core) i (ltb-true i I ex) (omega (arith, mk)) (omega (arith, mk))
+          it = is-alone sz (z .1 .0) m (z .1 .1 .g .core) i (ltb-true i I ex) (omega (arith, mk)) (omega (arith, mk))
 
           low : suc b ≡ P → Dec (i < D) → i < D
           low e (yes h) = h
           low e (no h) = absurd (true≢false (sym (it .0) ∙ alone-no D I (z .1 .0) i (omega arith) (z .1 .1 .np e (i / 4))))
 
       jt-sets : (b i : ℕ) (m : List ℕ) (x d g c a : Bool) → ltb i I ≡ x → eqb (getD m i 0) 5 ≡ d → eqb (getD m i 0) 6 ≡ g → eqb (getD m i 0) 4 ≡ c → AA (suc b) sets i false m
-          → Good-at D I D-big D-4 I-16 P (F1 fl) (suc b) sets i false m → J-at n hit (suc b) sets i false m → told N A (asked I (lookSets b i m x d g c)) a → J (n + 1) (hit || a) (tellSets I (suc b) i m a d g)
+          → Good-at sz P (F1 fl) (suc b) sets i false m → J-at n hit (suc b) sets i false m → told N A (asked I (lookSets b i m x d g c)) a → J (n + 1) (hit || a) (tellSets I (suc b) i m a d g)
       jt-sets b i m false d g c a ex ed eg ec z f j t = absurd t
       jt-sets b i m true false false false a ex ed eg ec z f j t = absurd t
-      jt-sets b i m true true g c true ex ed eg ec z f j t = λ e l. inr (or-t hit, over1 (D + (i / 4 - D / 4)) (j e l))
+      jt-sets b i m true true g c true ex ed eg ec z f j t = λ e l. inr (or-true hit, over1 (D + (i / 4 - D / 4)) (j e l))
       jt-sets b i m true true g c false ex ed eg ec z f j t = λ e l.
-          (let is : (i % 4 ≡ 0) × (stands D I (z .1 .0) (i / 4) ≡ true) × ((z .1 .0) .sD (i / 4) ≡ false) × (D ≤ i) = is-D D I D-big D-4 I-16 (z .1 .0) m (z .1 .1 .g .core) i (ltb-true i I ex) (eqb-true _ _ ed) in
+          (let is : (i % 4 ≡ 0) × (stands D I (z .1 .0) (i / 4) ≡ true) × ((z .1 .0) .sD (i / 4) ≡ false) × (D ≤ i) = is-D sz (z .1 .0) m (z .1 .1 .g .core) i (ltb-true i I ex) (eqb-true _ _ ed) in
           on-0 (D + (i / 4 - D / 4)) (D + ((i + 4) / 4 - D / 4)) (omega (arith, is .0, is .3)) (j e (omega arith)))
-      jt-sets b i m true false true c true ex ed eg ec z f j t = λ e l. absurd (far (is-G D I D-big D-4 I-16 (z .1 .0) m (z .1 .1 .g .core) i (ltb-true i I ex) (eqb-true _ _ eg)) l)
+      jt-sets b i m true false true c true ex ed eg ec z f j t = λ e l. absurd (far (is-G sz (z .1 .0) m (z .1 .1 .g .core) i (ltb-true i I ex) (eqb-true _ _ eg)) l)
         where
           far : (i ≡ 16 * (i / 16)) × ((z .1 .0) .sD (i / 16) ≡ true) × ((z .1 .0) .sG (i / 16) ≡ false) × (D ≤ 4 * (i / 16)) × (alone D I (z .1 .0) i ≡ false) → i < 4 * D → ⊥
           far r l = omega (arith, r .0, r .3)
-      jt-sets b i m true false true c false ex ed eg ec z f j t = λ e l. absurd (far (is-G D I D-big D-4 I-16 (z .1 .0) m (z .1 .1 .g .core) i (ltb-true i I ex) (eqb-true _ _ eg)) l)
+      jt-sets b i m true false true c false ex ed eg ec z f j t = λ e l. absurd (far (is-G sz (z .1 .0) m (z .1 .1 .g .core) i (ltb-true i I ex) (eqb-true _ _ eg)) l)
         where
           far : (i ≡ 16 * (i / 16)) × ((z .1 .0) .sD (i / 16) ≡ true) × ((z .1 .0) .sG (i / 16) ≡ false) × (D ≤ 4 * (i / 16)) × (alone D I (z .1 .0) i ≡ false) → i + 16 < 4 * D → ⊥
           far r l = omega (arith, r .0, r .3)
-      jt-sets b i m true false false true true ex ed eg ec z f j t = λ e l. (or-t hit, over1 (D + (i / 4 - D / 4)) (j e l))
+      jt-sets b i m true false false true true ex ed eg ec z f j t = λ e l. (or-true hit, over1 (D + (i / 4 - D / 4)) (j e l))
       jt-sets b i m true false false true false ex ed eg ec z f j t = λ e l. go (j e (omega arith))
         where
           mk : getD m i 0 ≡ 4
@@ -237,7 +223,7 @@ module _ (N D P : ℕ) (D-big : 4 ≤ D) (D-4 : D % 4 ≡ 0) (I-16 : 4 ^ N % 16 
           lo = (z .1 .1 .fr .c4 hi mk) .0
 
           it : (alone D I (f .1 .0) i ≡ true) × ((f .1 .0) .al i ≡ getD m i 0)
-          it = is-alone D I D-big D-4 I-16 (f .1 .0) m (f .1 .1 .core) i hi (omega (arith, mk)) (omega (arith, mk))
+          it = is-alone sz (f .1 .0) m (f .1 .1 .core) i hi (omega (arith, mk)) (omega (arith, mk))
 
           was : (x : Bool) → (f .1 .0) .sD (i / 4) ≡ x → fl
           was true s = f .1 .1 .more .qD (i / 4) s
@@ -245,15 +231,12 @@ module _ (N D P : ℕ) (D-big : 4 ≤ D) (D-4 : D % 4 ≡ 0) (I-16 : 4 ^ N % 16 
 
           go : Tally n hit (D + (i / 4 - D / 4)) → Tally (n + 1) (hit || false) (D + ((i + 1) / 4 - D / 4))
           go (inl r) = absurd (fn (r .0) (was ((f .1 .0) .sD (i / 4)) refl))
-          go (inr r) = inr (t-or hit false (r .0), omega (arith, r .1))
+          go (inr r) = inr (or-left hit false (r .0), omega (arith, r .1))
 
-      jt-fine : (b i : ℕ) (m : List ℕ) (a : Bool) → J (n + 1) (hit || a) (at (suc b) refining (i + 1) m)
-      jt-fine b i m a = tt
-
-      jt : (l : ℕ) (p : Pass) (i : ℕ) (s : Bool) (m : List ℕ) (a : Bool) → AA l p i s m → Good-at D I D-big D-4 I-16 P (F1 fl) l p i s m → J-at n hit l p i s m → told N A (asked I (lookAt I l p i s m)) a → J (n + 1) (hit || a) (tellAt I l p i s m a)
+      jt : (l : ℕ) (p : Pass) (i : ℕ) (s : Bool) (m : List ℕ) (a : Bool) → AA l p i s m → Good-at sz P (F1 fl) l p i s m → J-at n hit l p i s m → told N A (asked I (lookAt I l p i s m)) a → J (n + 1) (hit || a) (tellAt I l p i s m a)
       jt zero p i s m a z f j t = absurd t
-      jt (suc b) pixels i true m a z f j t = λ e. inr (t-or hit a ((j e) .0), omega (arith, (j e) .1))
-      jt (suc b) sets i true m a z f j t = λ e l. inr (t-or hit a ((j e (omega arith)) .0), omega (arith, (j e (omega arith)) .1))
+      jt (suc b) pixels i true m a z f j t = λ e. inr (or-left hit a ((j e) .0), omega (arith, (j e) .1))
+      jt (suc b) sets i true m a z f j t = λ e l. inr (or-left hit a ((j e (omega arith)) .0), omega (arith, (j e (omega arith)) .1))
       jt (suc b) refining i true m a z f j t = absurd z
       jt (suc b) pixels i false m a z f j t = jt-pix b i m (ltb i I) (eqb (getD m i 0) 1) a refl refl z j t
       jt (suc b) sets i false m a z f j t = jt-sets b i m (ltb i I) (eqb (getD m i 0) 5) (eqb (getD m i 0) 6) (eqb (getD m i 0) 4) a refl refl refl refl z f j t
@@ -264,47 +247,47 @@ module _ (N D P : ℕ) (D-big : 4 ≤ D) (D-4 : D % 4 ≡ 0) (I-16 : 4 ^ N % 16 
     unfolding _⊑_
     capk k l j e h = va .cap j e (l j e h)
 
-    j-next : (k w : Bits) (O : Question → Type 0) (n : ℕ) (hit : Bool) (fl : Type 0) → (hit ≡ false → fl → ⊥) → (s : State) (a : Bool) → k ⊑ A → All N D P D-big D-4 I-16 D-I A false k w O s → Good D I D-big D-4 I-16 P (F1 fl) s → J n hit s → told N A (ask I s) a
+    j-next : (k w : Bits) (O : Question → Type 0) (n : ℕ) (hit : Bool) (fl : Type 0) → (hit ≡ false → fl → ⊥) → (s : State) (a : Bool) → k ⊑ A → All N P sz A false k w O s → Good sz P (F1 fl) s → J n hit s → told N A (ask I s) a
         → J (n + 1) (hit || a) (next I s a)
     unfolding next ask
     j-next k w O n hit fl fn s a l z f j t =
-        j-settle A (knowO (ask I s) a k) (afterO N (ask I s) a w) (λ p. O p ⊎ ((a ≡ true) × (ask I s ≡ some p))) (capk (knowO (ask I s) a k) (belowO N State (ask I) (next I) A k (ask I s) a t l)) (n + 1) (hit || a) (tell I s a)
-        (all-tell N D P D-big D-4 I-16 D-I A false k w O (λ p. O p ⊎ ((a ≡ true) × (ask I s ≡ some p))) (s .left) (s .pass) (s .place) (s .pending) (s .marks) a z t (λ p x. x))
+        j-settle A (knowO (ask I s) a k) (afterO N (ask I s) a w) (λ p. O p ⊎ ((a ≡ true) × (ask I s ≡ some p))) (capk (knowO (ask I s) a k) (belowO N A k (ask I s) a t l)) (n + 1) (hit || a) (tell I s a)
+        (all-tell N P sz A false k w O (λ p. O p ⊎ ((a ≡ true) × (ask I s ≡ some p))) (s .left) (s .pass) (s .place) (s .pending) (s .marks) a z t (λ p x. x))
         (jt A k w O (capk k l) n hit fl fn (s .left) (s .pass) (s .place) (s .pending) (s .marks) a z f j t)
 
-    good1 : (s : State) (a : Bool) (fl : Type 0) → Good D I D-big D-4 I-16 P (F1 fl) s → told N A (ask I s) a → Good D I D-big D-4 I-16 P (F1 (fl ⊎ (a ≡ true))) (next I s a)
+    good1 : (s : State) (a : Bool) (fl : Type 0) → Good sz P (F1 fl) s → told N A (ask I s) a → Good sz P (F1 (fl ⊎ (a ≡ true))) (next I s a)
     unfolding ask
-    good1 s a fl g t = good-next D I D-big D-4 I-16 P (F1 (fl ⊎ (a ≡ true))) (λ j. ⊥) s a
-        (good-mono D I D-big D-4 I-16 P (F1 fl) (F1 (fl ⊎ (a ≡ true))) (λ b j x. x) (λ j x. x) (λ b j x. inl x) (λ b j x. inl x) (λ j z. z) s g) (on-ask1 N D P D-big D-4 I-16 D-I A fl a (look I s) t)
+    good1 s a fl g t = good-next sz P (F1 (fl ⊎ (a ≡ true))) (λ j. ⊥) s a
+        (good-mono sz P (F1 fl) (F1 (fl ⊎ (a ≡ true))) (λ b j x. x) (λ j x. x) (λ b j x. inl x) (λ b j x. inl x) (λ j z. z) s g) (on-ask1 N P sz A fl a (look I s) t)
 
     fn-next : (hit a : Bool) (fl : Type 0) → (hit ≡ false → fl → ⊥) → (hit || a) ≡ false → fl ⊎ (a ≡ true) → ⊥
     fn-next true a fl n e x = true≢false e
     fn-next false a fl n e (inl x) = n refl x
     fn-next false a fl n e (inr x) = true≢false (sym x ∙ e)
 
-    j-run : (k w : Bits) (O : Question → Type 0) (n : ℕ) (hit : Bool) (fl : Type 0) → (hit ≡ false → fl → ⊥) → (s : State) (u : List Bool) → k ⊑ A → All N D P D-big D-4 I-16 D-I A false k w O s → Good D I D-big D-4 I-16 P (F1 fl) s → J n hit s
-        → Fits N State (ask I) (next I) A s u → J (n + length u) (hit || lit u) (reach (4 ^ N) s u)
+    j-run : (k w : Bits) (O : Question → Type 0) (n : ℕ) (hit : Bool) (fl : Type 0) → (hit ≡ false → fl → ⊥) → (s : State) (u : List Bool) → k ⊑ A → All N P sz A false k w O s → Good sz P (F1 fl) s → J n hit s
+        → Fit N A s u → J (n + length u) (hit || lit u) (reach (4 ^ N) s u)
     unfolding reach lit
-    j-run k w O n hit fl fn s [] l z g j f = subst (λ (x : Bool). J (n + 0) x s) (sym (or-nil hit)) (subst (λ (x : ℕ). J x hit s) {x = n} {y = n + 0} (omega arith) j)
+    j-run k w O n hit fl fn s [] l z g j f = subst (λ (x : Bool). J (n + 0) x s) (sym (or-false hit)) (subst (λ (x : ℕ). J x hit s) {x = n} {y = n + 0} (omega arith) j)
     j-run k w O n hit fl fn s (a ∷ u) l z g j f =
-        subst (λ (x : Bool). J (n + suc (length u)) x (reach (4 ^ N) (next I s a) u)) (or-step hit a (lit u))
+        subst (λ (x : Bool). J (n + suc (length u)) x (reach (4 ^ N) (next I s a) u)) (or-assoc hit a (lit u))
         (subst (λ (x : ℕ). J x ((hit || a) || lit u) (reach (4 ^ N) (next I s a) u)) {x = (n + 1) + length u} {y = n + suc (length u)} (omega arith)
         (j-run (knowO (ask I s) a k) (afterO N (ask I s) a w) (λ p. O p ⊎ ((a ≡ true) × (ask I s ≡ some p))) (n + 1) (hit || a) (fl ⊎ (a ≡ true)) (fn-next hit a fl fn) (next I s a) u
-        (belowO N State (ask I) (next I) A k (ask I s) a (f .0) l) (all-next N D P D-big D-4 I-16 D-I A false k w O s a z (f .0)) (good1 s a fl g (f .0)) (j-next k w O n hit fl fn s a l z g j (f .0)) (f .1)))
+        (belowO N A k (ask I s) a (f .0) l) (all-next N P sz A false k w O s a z (f .0)) (good1 s a fl g (f .0)) (j-next k w O n hit fl fn s a l z g j (f .0)) (f .1)))
 
     j-start : J 0 false (start I D P)
     unfolding start startMarks
-    j-start = j-settle A nothing (record { has = λ i b. ltb b P; neg = λ i. false }) (λ p. ⊥) (λ j e h. absurd (false≢true h)) 0 false (at P pixels 0 (first D I D-big D-4 I-16 D-I)) (all-first N D P D-big D-4 I-16 D-I A false) (go P)
+    j-start = j-settle A nothing (record { has = λ i b. ltb b P; neg = λ i. false }) (λ p. ⊥) (λ j e h. absurd (false≢true h)) 0 false (at P pixels 0 (first sz)) (all-first N P sz A false) (go P)
       where
-        go : (l : ℕ) → J 0 false (at l pixels 0 (first D I D-big D-4 I-16 D-I))
+        go : (l : ℕ) → J 0 false (at l pixels 0 (first sz))
         go zero = tt
         go (suc b) = λ e. inl (refl, omega arith)
 
-    pub tally : (u : List Bool) → Fits N State (ask I) (next I) A (start I D P) u → J (length u) (lit u) (reach (4 ^ N) (start I D P) u)
+    pub tally : (u : List Bool) → Fit N A (start I D P) u → J (length u) (lit u) (reach (4 ^ N) (start I D P) u)
     unfolding _⊑_
     tally u f = subst (λ (x : ℕ). J x (lit u) (reach (4 ^ N) (start I D P) u)) {x = 0 + length u} {y = length u} (omega arith)
-        (j-run nothing (record { has = λ i b. ltb b P; neg = λ i. false }) (λ p. ⊥) 0 false ⊥ (λ e y. y) (start I D P) u (λ i b h. absurd (false≢true h)) (all-start N D P D-big D-4 I-16 D-I A false)
-        (good-start D I D-big D-4 I-16 D-I P (F1 ⊥) (λ j y. y)) j-start f)
+        (j-run nothing (record { has = λ i b. ltb b P; neg = λ i. false }) (λ p. ⊥) 0 false ⊥ (λ e y. y) (start I D P) u (λ i b h. absurd (false≢true h)) (all-start N P sz A false)
+        (good-start sz P (F1 ⊥) (λ j y. y)) j-start f)
 
 -- the clash, with the number of bits used
 abbrev pub count-st : ℕ → ℕ → ℕ → ℕ → ℕ → Pass → ℕ → Bool → List ℕ → Bool
@@ -317,7 +300,7 @@ count-st I D P used (suc b) sets i false m = clash-by I D P b i m (eqb used (D +
 unfoldable pub clash-count : ℕ → ℕ → ℕ → ℕ → State → Bool
 clash-count I D P used s = count-st I D P used (s .left) (s .pass) (s .place) (s .pending) (s .marks)
 
-module _ (N D P : ℕ) (D-big : 4 ≤ D) (D-4 : D % 4 ≡ 0) (I-16 : 4 ^ N % 16 ≡ 0) (D-I : 4 * D ≤ 4 ^ N) where
+module _ (N : ℕ) {D : ℕ} (P : ℕ) (sz : Tiled D (4 ^ N)) where
   abbrev II : ℕ
   II = 4 ^ N
 
@@ -329,20 +312,20 @@ module _ (N D P : ℕ) (D-big : 4 ≤ D) (D-4 : D % 4 ≡ 0) (I-16 : 4 ^ N % 16 
   counts n i hit te (inl t) = ((λ e. t .0), λ e. eq-eqb n (D + 3 * D / 4 - 1) (omega (arith, t .1)))
   counts n i hit te (inr t) = ((λ e. absurd (omega (arith, t .1, eqb-true n (D + 3 * D / 4 - 1) e))), λ e. absurd (true≢false (sym e ∙ ap not (t .0))))
 
-  module _ (A : Bits) (va : Valid II P A) (u : List Bool) (f : Fits N State (ask II) (next II) A (start II D P) u) (k w : Bits) (O : Question → Type 0) (nb : lit u ≡ false → Blank N D P D-big D-4 I-16 D-I k)
-      (ow : (p : Question) → Owed N State (ask II) (next II) (start II D P) u p → O p) where
-    ok : (b i : ℕ) (m : List ℕ) → All-at N D P D-big D-4 I-16 D-I A false k w O (suc b) sets i false m → Good-at D II D-big D-4 I-16 P (F1 (Fl u ⊥)) (suc b) sets i false m → J-at N D P D-big D-4 I-16 D-I (length u) (lit u) (suc b) sets i false m
+  module _ (A : Bits) (va : Valid II P A) (u : List Bool) (f : Fit N A (start II D P) u) (k w : Bits) (O : Question → Type 0) (nb : lit u ≡ false → Blank k)
+      (ow : (p : Question) → Owed N (start II D P) u p → O p) where
+    ok : (b i : ℕ) (m : List ℕ) → All-at N P sz A false k w O (suc b) sets i false m → Good-at sz P (F1 (Fl u ⊥)) (suc b) sets i false m → J-at N P sz (length u) (lit u) (suc b) sets i false m
         → getD m i 0 ≡ 5 → i + 4 ≡ 4 * D → suc b ≡ P → eqb (length u) (D + 3 * D / 4 - 1) ≡ true → None D i m
     ok b i m z g j a1 a2 a3 n =
         let h : lit u ≡ false = (counts (length u) i (lit u) a2 (j a3 (omega arith))) .0 n in
-        flag-to N D P D-big D-4 I-16 D-I A u f k w O b i m (omega arith) a1 a2 z g (nb h) h
+        flag-to N P sz A u f k w O b i m (omega arith) a1 a2 z g (nb h) h
 
-    ko : (b i : ℕ) (m : List ℕ) → All-at N D P D-big D-4 I-16 D-I A false k w O (suc b) sets i false m → J-at N D P D-big D-4 I-16 D-I (length u) (lit u) (suc b) sets i false m
+    ko : (b i : ℕ) (m : List ℕ) → All-at N P sz A false k w O (suc b) sets i false m → J-at N P sz (length u) (lit u) (suc b) sets i false m
         → getD m i 0 ≡ 5 → i + 4 ≡ 4 * D → suc b ≡ P → None D i m → eqb (length u) (D + 3 * D / 4 - 1) ≡ true
-    ko b i m z j a1 a2 a3 n = (counts (length u) i (lit u) a2 (j a3 (omega arith))) .1 (flag-of N D P D-big D-4 I-16 D-I A u f k w O b i m (omega arith) a1 a2 z ow n (lit u) refl)
+    ko b i m z j a1 a2 a3 n = (counts (length u) i (lit u) a2 (j a3 (omega arith))) .1 (flag-of N P sz A u f k w O b i m (omega arith) a1 a2 z ow n (lit u) refl)
 
-    both-at : (l : ℕ) (p : Pass) (i : ℕ) (s : Bool) (m : List ℕ) → All-at N D P D-big D-4 I-16 D-I A false k w O l p i s m → Good-at D II D-big D-4 I-16 P (F1 (Fl u ⊥)) l p i s m → J-at N D P D-big D-4 I-16 D-I (length u) (lit u) l p i s m
-        → (count-st II D P (length u) l p i s m ≡ true → Clash-at N D P D-big D-4 I-16 D-I l p i s m) × (Clash-at N D P D-big D-4 I-16 D-I l p i s m → count-st II D P (length u) l p i s m ≡ true)
+    both-at : (l : ℕ) (p : Pass) (i : ℕ) (s : Bool) (m : List ℕ) → All-at N P sz A false k w O l p i s m → Good-at sz P (F1 (Fl u ⊥)) l p i s m → J-at N P sz (length u) (lit u) l p i s m
+        → (count-st II D P (length u) l p i s m ≡ true → Clash-at N P sz l p i s m) × (Clash-at N P sz l p i s m → count-st II D P (length u) l p i s m ≡ true)
     both-at zero p i s m z g j = ((λ e. false≢true e), λ e. absurd e)
     both-at (suc b) pixels i s m z g j = ((λ e. false≢true e), λ e. absurd e)
     both-at (suc b) refining i s m z g j = ((λ e. false≢true e), λ e. absurd e)
@@ -352,14 +335,14 @@ module _ (N D P : ℕ) (D-big : 4 ≤ D) (D-4 : D % 4 ≡ 0) (I-16 : 4 ^ N % 16 
       λ e. clash-from D II P b i m (eqb (length u) (D + 3 * D / 4 - 1)) (ok b i m z g j) (ko b i m z j) e,
     )
 
-  both-of : (u : List Bool) → (w : Some N D P D-big D-4 I-16 D-I u) → (count-st II D P (length u) ((reach (4 ^ N) S u) .left) ((reach (4 ^ N) S u) .pass) ((reach (4 ^ N) S u) .place) ((reach (4 ^ N) S u) .pending) ((reach (4 ^ N) S u) .marks) ≡ true → Clashes N D P D-big D-4 I-16 D-I (reach (4 ^ N) S u))
-      × (Clashes N D P D-big D-4 I-16 D-I (reach (4 ^ N) S u) → count-st II D P (length u) ((reach (4 ^ N) S u) .left) ((reach (4 ^ N) S u) .pass) ((reach (4 ^ N) S u) .place) ((reach (4 ^ N) S u) .pending) ((reach (4 ^ N) S u) .marks) ≡ true)
-  both-of u w = both-at (w .0) (w .1) u (w .2) (least N State (ask II) (next II) S u nothing) (most N State (ask II) (next II) S u (record { has = λ i b. ltb b P; neg = λ i. false })) (Owing N D P D-big D-4 I-16 D-I (w .0) false S u (λ p. ⊥))
-      (λ h. blank-run N D P D-big D-4 I-16 D-I S u nothing h (λ j e y. false≢true y)) (λ p o. owing N D P D-big D-4 I-16 D-I (w .0) false S u (λ p. ⊥) p o)
+  both-of : (u : List Bool) → (w : Some N P sz u) → (count-st II D P (length u) ((reach (4 ^ N) S u) .left) ((reach (4 ^ N) S u) .pass) ((reach (4 ^ N) S u) .place) ((reach (4 ^ N) S u) .pending) ((reach (4 ^ N) S u) .marks) ≡ true → Clashes N P sz (reach (4 ^ N) S u))
+      × (Clashes N P sz (reach (4 ^ N) S u) → count-st II D P (length u) ((reach (4 ^ N) S u) .left) ((reach (4 ^ N) S u) .pass) ((reach (4 ^ N) S u) .place) ((reach (4 ^ N) S u) .pending) ((reach (4 ^ N) S u) .marks) ≡ true)
+  both-of u w = both-at (w .0) (w .1) u (w .2) (least N S u nothing) (most N S u (record { has = λ i b. ltb b P; neg = λ i. false })) (Owing N S u (λ p. ⊥))
+      (λ h. blank-run N S u nothing h (λ j e y. false≢true y)) (λ p o. owing N P sz (w .0) false S u (λ p. ⊥) p o)
       ((reach (4 ^ N) S u) .left) ((reach (4 ^ N) S u) .pass) ((reach (4 ^ N) S u) .place) ((reach (4 ^ N) S u) .pending) ((reach (4 ^ N) S u) .marks)
-      (z N D P D-big D-4 I-16 D-I (w .0) u (w .2)) (g1 N D P D-big D-4 I-16 D-I (w .0) u (w .2)) (tally N D P D-big D-4 I-16 D-I (w .0) (w .1) u (w .2))
+      (z N P sz (w .0) u (w .2)) (g1 N P sz (w .0) u (w .2)) (tally N P sz (w .0) (w .1) u (w .2))
 
-  -- THE COUNT DECIDES: the test with the number of bits used is the clash
-  pub right-count : Right N D P D-big D-4 I-16 D-I (λ used hit s. clash-count II D P used s)
+  -- the test with the number of bits used is the clash
+  pub right-count : Right N P sz (λ used s. clash-count II D P used s)
   unfolding clash-count
   right-count = record { to = λ u w e. (both-of u w) .0 e; of = λ u w e. (both-of u w) .1 e }

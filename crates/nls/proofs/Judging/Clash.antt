@@ -1,21 +1,20 @@
--- REFUSAL 12, one half: where the marks say so, every array that fits answers 1, so a 0 fits none.
-use mathlib.Core.Path.{_≡_, refl, sym, ap, subst, _∙_}
-use mathlib.Core.Bool.{Bool, true, false, not, _&&_, _||_, true≢false, false≢true}
-use mathlib.Core.Logic.{_⊎_, inl, inr}
-use mathlib.Core.List.{List, [], _∷_, _++_}
-use Prim.Native.Nat.{ℕ, zero, suc, _+_, _*_, _-_, _/_, _%_, _^_, _≤_, _<_}
+-- Refusal 12, one half: where the marks say so, every array that fits answers 1, so a 0 fits none.
+use mathlib.Core.Path.{_≡_, refl, sym, subst, _∙_}
+use mathlib.Core.Bool.{Bool, true, false, true≢false}
+use mathlib.Core.List.{List}
+use Prim.Native.Nat.{ℕ, zero, suc, _+_, _*_, _/_, _%_, _^_, _≤_, _<_}
 use native.Mathlib.Omega.{arith}
 use native.Mathlib.Decide.{decLt, ℕ-discrete}
-use lib.ListN.{length, getD, set, take}
-use lib.Dec.{ltb, eqb, lit<, lit≤}
-use borrow.Author.Tests.{ltb-true, ltb-false, lt-ltb}
-use Rattle.nls.specs.Scan.{State, Question, bitOf, signOf, inDesc, inGrand}
-use Rattle.nls.proofs.Arrays.{Bits, inside, ans, below, any}
-use Rattle.nls.proofs.Machine.Table.{Cfg, alone, stands, Ok, alone-no, no-alone, stands-no, no-stands, no-gd, no-dg, low}
-use Rattle.nls.proofs.Machine.Cover.{Under, kid, far, Core, More, Preds, Sets, is-alone, not-alone, is-D, is-G}
-use Rattle.nls.proofs.Machine.Steps.{Fam, preds, From}
-use Rattle.nls.proofs.Judging.Most.{and-i, member}
-use Rattle.nls.proofs.Reading.Whole.{fam, Known, under-below, under-ge}
+use lib.ListN.{getD}
+use borrow.Author.Tests.{lt-ltb}
+use Rattle.sizes.proofs.Laws.{both}
+use Rattle.nls.specs.Scan.{bitOf, inDesc, inGrand}
+use Rattle.nls.proofs.Tiled.{Tiled}
+use Rattle.nls.proofs.Arrays.{Bits, inside, ans, below, member}
+use Rattle.nls.proofs.Machine.Table.{Cfg, alone, stands, Ok, alone-no, no-alone, stands-no, no-dg, low}
+use Rattle.nls.proofs.Machine.Cover.{Under, kid, far, Core, Sets, is-alone, is-D, is-G}
+use Rattle.nls.proofs.Machine.Steps.{preds, From}
+use Rattle.nls.proofs.Reading.Told.{fam, Known, under-below, under-ge}
 
 -- An array of P planes: no bit from P on, and one in plane P - 1
 pub record Valid (I P : ℕ) (A : Bits) : Type 0 where
@@ -34,10 +33,7 @@ pub via : (q j : ℕ) → Under q (j / 4) → (h : ℕ) × (h / 4 ≡ q) × Unde
 via q j (kid e) = (j / 4, e, kid refl)
 via q j (far u) = let r : (h : ℕ) × (h / 4 ≡ q) × Under h (j / 4) = via q (j / 4) u in (r .0, r .1, far (r .2))
 
-module _ (N D P : ℕ) (D-big : 4 ≤ D) (D-4 : D % 4 ≡ 0) (I-16 : 4 ^ N % 16 ≡ 0) (D-I : 4 * D ≤ 4 ^ N) where
-  abbrev I : ℕ
-  I = 4 ^ N
-
+module _ {D I : ℕ} (sz : Tiled D I) where
   -- nothing in a set that stands is alone
   pub dead-D : (c : Cfg) → Ok D I c → (h j : ℕ) → D ≤ 4 * h → c .sD h ≡ false → Under h j → alone D I c j ≡ false
   dead-D c o h j a n (kid e) = alone-no D I c j (omega arith) (subst (λ (x : ℕ). c .sD x ≡ false) (sym e) n)
@@ -60,10 +56,14 @@ module _ (N D P : ℕ) (D-big : 4 ≤ D) (D-4 : D % 4 ≡ 0) (I-16 : 4 ^ N % 16 
       go (yes z) ih = (j / 4, omega arith, z, kid refl)
       go (no z) ih = let r : (h : ℕ) × (D ≤ 4 * h) × (h < D) × Under h (j / 4) = ih (omega arith) (omega arith) in (r .0, r .1, r .2, far (r .3))
 
+module _ (N : ℕ) {D : ℕ} (P : ℕ) (sz : Tiled D (4 ^ N)) where
+  abbrev I : ℕ
+  I = 4 ^ N
+
   module _ (A k : Bits) (va : Valid I P A) (b t : ℕ) (m : List ℕ) (c : Cfg) (ti : t < I)
-      (above : From D I D-big D-4 I-16 P (fam N D P D-big D-4 I-16 A k) (suc b))
-      (p : Sets D I D-big D-4 I-16 (preds (fam N D P D-big D-4 I-16 A k) b) (Known A k b) t c m) where
-    kk : Core D I D-big D-4 I-16 c m
+      (above : From sz P (fam N A k) (suc b))
+      (p : Sets sz (preds (fam N A k) b) (Known A k b) t c m) where
+    kk : Core sz c m
     kk = p .core
 
     -- a bit above plane b is known, so its place stands alone, with MNP or MSP
@@ -78,7 +78,7 @@ module _ (N D P : ℕ) (D-big : 4 ≤ D) (D-4 : D % 4 ≡ 0) (I-16 : 4 ^ N % 16 
     mip j e hj mk h a = go (ℕ-discrete e b)
       where
         it : (alone D I c j ≡ true) × (c .al j ≡ getD m j 0)
-        it = is-alone D I D-big D-4 I-16 c m kk j hj (omega arith) (omega arith)
+        it = is-alone sz c m kk j hj (omega arith) (omega arith)
 
         go : Dec (e ≡ b) → ⊥
         go (yes z) = omega (arith, it .1, known j hj (subst (λ (x : ℕ). A .has j x ≡ true) z a) (p .done j hj (it .0) (λ y. omega (arith, it .1)) (λ y. omega (arith, it .1))))
@@ -95,32 +95,32 @@ module _ (N D P : ℕ) (D-big : 4 ≤ D) (D-4 : D % 4 ≡ 0) (I-16 : 4 ^ N % 16 
     -- a set that was answered 0 in this plane has no bit b
     past-D : (h j : ℕ) → D ≤ 4 * h → 4 * h < t → getD m (4 * h) 0 ≡ 5 → j < I → Under h j → A .has j b ≡ true → ⊥
     past-D h j lo ht mk hj u a =
-        let is : (4 * h % 4 ≡ 0) × (stands D I c (4 * h / 4) ≡ true) × (c .sD (4 * h / 4) ≡ false) × (D ≤ 4 * h) = is-D D I D-big D-4 I-16 c m kk (4 * h) (omega arith) mk in
+        let is : (4 * h % 4 ≡ 0) × (stands D I c (4 * h / 4) ≡ true) × (c .sD (4 * h / 4) ≡ false) × (D ≤ 4 * h) = is-D sz c m kk (4 * h) (omega arith) mk in
         let st : stands D I c h ≡ true = subst (λ (x : ℕ). stands D I c x ≡ true) {x = 4 * h / 4} {y = h} (omega arith) (is .1) in
         let no : c .sD h ≡ false = subst (λ (x : ℕ). c .sD x ≡ false) {x = 4 * h / 4} {y = h} (omega arith) (is .2) in
-        true≢false (sym ((known j hj a (p .dD h lo (omega arith) ht st no j hj u)) .0) ∙ dead-D c (kk .ok) h j lo no u)
+        true≢false (sym ((known j hj a (p .dD h lo (omega arith) ht st no j hj u)) .0) ∙ dead-D sz c (kk .ok) h j lo no u)
 
     unsplit : (h : ℕ) → 4 * h < I → getD m (4 * h) 0 ≡ 5 → c .sD h ≡ false
-    unsplit h hi mk = subst (λ (x : ℕ). c .sD x ≡ false) {x = 4 * h / 4} {y = h} (omega arith) ((is-D D I D-big D-4 I-16 c m kk (4 * h) hi mk) .2)
+    unsplit h hi mk = subst (λ (x : ℕ). c .sD x ≡ false) {x = 4 * h / 4} {y = h} (omega arith) ((is-D sz c m kk (4 * h) hi mk) .2)
 
     yes-D : (g j : ℕ) → 1 ≤ g → j < I → Under g j → A .has j b ≡ true → ans N A (inDesc g b) ≡ true
     unfolding ans inside
-    yes-D g j g1 hj u a = member N (λ x. below N g x) A b j (and-i (ltb j I) (below N g j) (lt-ltb j I hj) (under-below N g j g1 hj u)) a
+    yes-D g j g1 hj u a = member N (λ x. below N g x) A b j (both (lt-ltb j I hj) (under-below N g j g1 hj u)) a
 
     yes-G : (q j : ℕ) → 1 ≤ q → j < I → Under q (j / 4) → A .has j b ≡ true → ans N A (inGrand q b) ≡ true
     unfolding ans inside
-    yes-G q j g1 hj u a = member N (λ x. below N q (x / 4)) A b j (and-i (ltb j I) (below N q (j / 4)) (lt-ltb j I hj) (under-below N q (j / 4) g1 (omega arith) u)) a
+    yes-G q j g1 hj u a = member N (λ x. below N q (x / 4)) A b j (both (lt-ltb j I hj) (under-below N q (j / 4) g1 (omega arith) u)) a
 
     pub clash-grand : getD m t 0 ≡ 6 → ((j : ℕ) → j / 4 ≡ t / 16 → getD m j 0 ≡ 1) → ans N A (inGrand (t / 16) b) ≡ true
     clash-grand mk f =
-        let is : (t ≡ 16 * (t / 16)) × (c .sD (t / 16) ≡ true) × (c .sG (t / 16) ≡ false) × (D ≤ 4 * (t / 16)) × (alone D I c t ≡ false) = is-G D I D-big D-4 I-16 c m kk t ti mk in
+        let is : (t ≡ 16 * (t / 16)) × (c .sD (t / 16) ≡ true) × (c .sG (t / 16) ≡ false) × (D ≤ 4 * (t / 16)) × (alone D I c t ≡ false) = is-G sz c m kk t ti mk in
         let r : (j : ℕ) × (e : ℕ) × (j < I) × Under (t / 16) j × (b ≤ e) × (A .has j e ≡ true) = p .more .qD (t / 16) (is .1) in
         go is (r .0) (r .1) (r .2) (r .3) (r .4) (r .5)
       where
         go : (t ≡ 16 * (t / 16)) × (c .sD (t / 16) ≡ true) × (c .sG (t / 16) ≡ false) × (D ≤ 4 * (t / 16)) × (alone D I c t ≡ false)
             → (j e : ℕ) → j < I → Under (t / 16) j → b ≤ e → A .has j e ≡ true → ans N A (inGrand (t / 16) b) ≡ true
         go is j e hj (kid z) h a = absurd (mip j e hj (f j z) h a)
-        go is j e hj (far u) h a = yes-G (t / 16) j (omega (arith, is .3)) hj u (only-b j e hj (dead-G c (kk .ok) (t / 16) j (is .3) (is .2) u) h a)
+        go is j e hj (far u) h a = yes-G (t / 16) j (omega (arith, is .3)) hj u (only-b j e hj (dead-G sz c (kk .ok) (t / 16) j (is .3) (is .2) u) h a)
 
     pub clash-child : getD m t 0 ≡ 4 → t % 4 ≡ 3 → I ≤ 16 * (t / 4) → ((j : ℕ) → j / 4 ≡ t / 4 → j < t → getD m j 0 ≡ 1) → ans N A (bitOf t b) ≡ true
     unfolding ans
@@ -129,7 +129,7 @@ module _ (N D P : ℕ) (D-big : 4 ≤ D) (D-4 : D % 4 ≡ 0) (I-16 : 4 ^ N % 16 
         go (r .0) (r .1) (r .2) (r .3) (r .4) (r .5)
       where
         it : (alone D I c t ≡ true) × (c .al t ≡ getD m t 0)
-        it = is-alone D I D-big D-4 I-16 c m kk t ti (omega arith) (omega arith)
+        it = is-alone sz c m kk t ti (omega arith) (omega arith)
 
         sd : c .sD (t / 4) ≡ true
         sd = pick (c .sD (t / 4)) refl
@@ -157,7 +157,7 @@ module _ (N D P : ℕ) (D-big : 4 ≤ D) (D-4 : D % 4 ≡ 0) (I-16 : 4 ^ N % 16 
         go (r .0) (r .1) (v .0) (r .2) (v .1) (v .2) (r .4) (r .5) (ℕ-discrete (v .0) (t / 4))
       where
         is : (t % 4 ≡ 0) × (stands D I c (t / 4) ≡ true) × (c .sD (t / 4) ≡ false) × (D ≤ t)
-        is = is-D D I D-big D-4 I-16 c m kk t ti mk
+        is = is-D sz c m kk t ti mk
 
         sg : c .sG (t / 4 / 4) ≡ true
         sg = pick (c .sG (t / 4 / 4)) refl
@@ -169,11 +169,11 @@ module _ (N D P : ℕ) (D-big : 4 ≤ D) (D-4 : D % 4 ≡ 0) (I-16 : 4 ^ N % 16 
         go : (j e h : ℕ) → j < I → h / 4 ≡ t / 4 / 4 → Under h j → b ≤ e → A .has j e ≡ true → Dec (h ≡ t / 4) → ans N A (inDesc (t / 4) b) ≡ true
         go j e h hj z u be a (yes q) =
             let u′ : Under (t / 4) j = subst (λ (x : ℕ). Under x j) q u in
-            yes-D (t / 4) j (omega arith) hj u′ (only-b j e hj (dead-D c (kk .ok) (t / 4) j (omega (arith, is .3)) (is .2) u′) be a)
+            yes-D (t / 4) j (omega arith) hj u′ (only-b j e hj (dead-D sz c (kk .ok) (t / 4) j (omega (arith, is .3)) (is .2) u′) be a)
         go j e h hj z u be a (no q) =
             let mh : getD m (4 * h) 0 ≡ 5 = f h z (omega arith) in
             let lo : D ≤ 4 * h = omega arith in
-            absurd (past-D h j lo (omega arith) mh hj u (only-b j e hj (dead-D c (kk .ok) h j lo (unsplit h (omega arith) mh) u) be a))
+            absurd (past-D h j lo (omega arith) mh hj u (only-b j e hj (dead-D sz c (kk .ok) h j lo (unsplit h (omega arith) mh) u) be a))
 
     pub clash-root : getD m t 0 ≡ 5 → t + 4 ≡ 4 * D → suc b ≡ P → ((j : ℕ) → j < D → getD m j 0 ≡ 1) → ((h : ℕ) → D ≤ 4 * h → 4 * h < t → getD m (4 * h) 0 ≡ 5) → ans N A (inDesc (t / 4) b) ≡ true
     clash-root mk te bp f1 f2 =
@@ -184,7 +184,7 @@ module _ (N D P : ℕ) (D-big : 4 ≤ D) (D-4 : D % 4 ≡ 0) (I-16 : 4 ^ N % 16 
         go : (j : ℕ) → j < I → A .has j b ≡ true → Dec (j < D) → ans N A (inDesc (t / 4) b) ≡ true
         go j hj a (yes z) = absurd (mip j b hj (f1 j z) (omega arith) a)
         go j hj a (no z) =
-            let r : (h : ℕ) × (D ≤ 4 * h) × (h < D) × Under h j = root j j (omega arith) (omega arith) in
+            let r : (h : ℕ) × (D ≤ 4 * h) × (h < D) × Under h j = root sz j j (omega arith) (omega arith) in
             at-root (r .0) (r .1) (r .2) (r .3) (ℕ-discrete (4 * r .0) t)
           where
             at-root : (h : ℕ) → D ≤ 4 * h → h < D → Under h j → Dec (4 * h ≡ t) → ans N A (inDesc (t / 4) b) ≡ true

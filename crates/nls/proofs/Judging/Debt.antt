@@ -1,15 +1,15 @@
 -- What was answered 1, what is known, and what is still open, from plane to plane: two small invariants by the split sets.
 use mathlib.Core.Path.{_≡_, refl, sym, ap, subst, _∙_}
-use mathlib.Core.Bool.{Bool, true, false, true≢false, false≢true}
+use mathlib.Core.Bool.{Bool, true, false, true≢false}
 use mathlib.Core.Logic.{_⊎_, inl, inr}
-use Prim.Native.Nat.{ℕ, zero, suc, _+_, _*_, _-_, _/_, _%_, _^_, _≤_, _<_}
+use Prim.Native.Nat.{ℕ, suc, _/_, _≤_, _<_}
 use native.Mathlib.Omega.{arith}
-use native.Mathlib.Decide.{decLt, ℕ-discrete}
-use Rattle.nls.specs.Scan.{Question, bitOf, signOf, inDesc, inGrand}
+use native.Mathlib.Decide.{ℕ-discrete}
+use Rattle.nls.specs.Scan.{Question, bitOf, inDesc, inGrand}
 use Rattle.nls.proofs.Arrays.{Bits}
-use Rattle.nls.proofs.Machine.Table.{Cfg, alone, stands}
-use Rattle.nls.proofs.Machine.Split.{withD, withG, withA, al-at, al-else, alone-A, same-D, same-G, sD-on, sD-off, sG-D, al-D-on, al-D-off, alone-on, alone-off}
-use Rattle.nls.proofs.Machine.Push.{sD-G, al-G, alone-G, sG-G-on, sG-G-off}
+use Rattle.nls.proofs.Machine.Table.{Cfg, alone}
+use Rattle.nls.proofs.Machine.Split.{withD, withG, withA, al-at, al-else, alone-A, sD-on, sD-off, sG-D, al-D-on, al-D-off, alone-off}
+use Rattle.nls.proofs.Machine.Push.{sD-G, al-G, alone-G, sG-on, sG-off}
 use Rattle.nls.proofs.Machine.Cover.{Under}
 
 module _ (D I P : ℕ) where
@@ -19,12 +19,6 @@ module _ (D I P : ℕ) where
     pub low : (j e : ℕ) → e < b → w .has j e ≡ true
     pub op : (j : ℕ) → alone D I c j ≡ true → c .al j ≡ 3 → z ≤ j → w .has j b ≡ true
     pub ng : (j : ℕ) → (alone D I c j ≡ true → 2 ≤ c .al j → c .al j ≤ 3 → ⊥) → w .neg j ≡ v
-
-  -- O, what was answered 1: sets are split since, in plane lo or before; none of their bits was known then
-  pub record Debt (O : Question → Type 0) (k : Bits) (b lo z : ℕ) (c : Cfg) : Type 0 where
-    pub oD : (h e : ℕ) → O (inDesc h e) → (c .sD h ≡ true) × (lo ≤ e) × ((j x : ℕ) → j < I → Under h j → k .has j x ≡ true → x ≤ e)
-    pub oG : (q e : ℕ) → O (inGrand q e) → (c .sG q ≡ true) × (lo ≤ e) × ((j x : ℕ) → j < I → Under q (j / 4) → k .has j x ≡ true → x ≤ e)
-    pub oO : (j e : ℕ) → O (bitOf j e) → (k .has j e ≡ true) × (b ≤ e) × (e ≡ b → c .al j ≡ 3 → j < z) × (j < I)
 
   -- w, z change, the split sets do not
   pub hold-w : (w w′ : Bits) (v : Bool) (b z z′ : ℕ) (c : Cfg) → Hold w v b z c → z ≤ z′ → ((j e : ℕ) → e < b → w .has j e ≡ true → w′ .has j e ≡ true)
@@ -89,6 +83,13 @@ module _ (D I P : ℕ) where
     op = λ j a x h. p .low j b₀ (omega arith);
     ng = p .ng;
   }
+
+module _ (I : ℕ) where
+  -- O, what was answered 1: sets are split since, in plane lo or before; none of their bits was known then
+  pub record Debt (O : Question → Type 0) (k : Bits) (b lo z : ℕ) (c : Cfg) : Type 0 where
+    pub oD : (h e : ℕ) → O (inDesc h e) → (c .sD h ≡ true) × (lo ≤ e) × ((j x : ℕ) → j < I → Under h j → k .has j x ≡ true → x ≤ e)
+    pub oG : (q e : ℕ) → O (inGrand q e) → (c .sG q ≡ true) × (lo ≤ e) × ((j x : ℕ) → j < I → Under q (j / 4) → k .has j x ≡ true → x ≤ e)
+    pub oO : (j e : ℕ) → O (bitOf j e) → (k .has j e ≡ true) × (b ≤ e) × (e ≡ b → c .al j ≡ 3 → j < z) × (j < I)
 
   pub debt-c : (O : Question → Type 0) (k : Bits) (b lo lo′ z z′ : ℕ) (c c′ : Cfg) → Debt O k b lo z c → lo′ ≤ lo → ((h : ℕ) → c .sD h ≡ true → c′ .sD h ≡ true) → ((h : ℕ) → c .sG h ≡ true → c′ .sG h ≡ true)
       → ((j : ℕ) → c′ .al j ≡ 3 → (c .al j ≡ 3 → j < z) → j < z′) → Debt O k b lo′ z′ c′
@@ -193,15 +194,15 @@ module _ (D I P : ℕ) where
   }
     where
       grow : (h : ℕ) → c .sG h ≡ true → Dec (h ≡ g) → (withG g c) .sG h ≡ true
-      grow h y (yes q) = sG-G-on g c h q
-      grow h y (no q) = sG-G-off g c h q ∙ y
+      grow h y (yes q) = sG-on g c h q
+      grow h y (no q) = sG-off g c h q ∙ y
 
       oG′ : (h e : ℕ) → O (inGrand h e) ⊎ (inGrand g b ≡ inGrand h e) → ((withG g c) .sG h ≡ true) × (b ≤ e) × ((j x : ℕ) → j < I → Under h (j / 4) → k .has j x ≡ true → x ≤ e)
       oG′ h e (inl o) = let r : (c .sG h ≡ true) × (b ≤ e) × ((j x : ℕ) → j < I → Under h (j / 4) → k .has j x ≡ true → x ≤ e) = p .oG h e o in (grow h (r .0) (ℕ-discrete h g), r .1, r .2)
       oG′ h e (inr y) =
           let e1 : g ≡ h = cc in
           let e2 : b ≡ e = cc in
-          (sG-G-on g c h (sym e1), omega arith, λ j x hj u w. absurd (new j x hj (subst (λ (y : ℕ). Under y (j / 4)) (sym e1) u) w))
+          (sG-on g c h (sym e1), omega arith, λ j x hj u w. absurd (new j x hj (subst (λ (y : ℕ). Under y (j / 4)) (sym e1) u) w))
 
       oD′ : (h e : ℕ) → O (inDesc h e) ⊎ (inGrand g b ≡ inDesc h e) → ((withG g c) .sD h ≡ true) × (b ≤ e) × ((j x : ℕ) → j < I → Under h j → k .has j x ≡ true → x ≤ e)
       oD′ h e (inr y) = absurd (let bad : _≡_ {A = ℕ} 0 1 = cc in omega arith)

@@ -1,34 +1,18 @@
 -- The clash as a test by the marks, and that it says what it should. The last part, about the whole array, is handed in as a test of its own.
-use mathlib.Core.Path.{_≡_, refl, sym, ap, subst, _∙_}
-use mathlib.Core.Bool.{Bool, true, false, not, _&&_, _||_, true≢false, false≢true}
+use mathlib.Core.Path.{_≡_, ap, _∙_}
+use mathlib.Core.Bool.{Bool, true, _&&_, _||_}
 use mathlib.Core.Logic.{_⊎_, inl, inr}
-use mathlib.Core.List.{List, [], _∷_, _++_}
-use Prim.Native.Nat.{ℕ, zero, suc, _+_, _*_, _-_, _/_, _%_, _^_, _≤_, _<_}
+use mathlib.Core.List.{List}
+use Prim.Native.Nat.{ℕ, suc, _+_, _*_, _-_, _/_, _%_, _≤_, _<_}
 use native.Mathlib.Omega.{arith}
-use native.Mathlib.Decide.{decLt, ℕ-discrete}
-use lib.ListN.{length, getD, set, take}
-use lib.Dec.{ltb, leb, eqb, lit<, lit≤}
-use borrow.Author.Tests.{ltb-true, ltb-false, lt-ltb, le-ltb, leb-true, le-leb, eqb-true, eqb-false, eq-eqb}
-use Rattle.nls.proofs.Judging.Most.{and-l, and-r, and-i, or-l, or-r, or-cases}
+use native.Mathlib.Decide.{ℕ-discrete}
+use lib.ListN.{getD}
+use lib.Dec.{leb, eqb}
+use borrow.Author.Tests.{leb-true, le-leb, eqb-true, eq-eqb}
+use Rattle.sizes.proofs.Laws.{both-left, both-right, both}
+use Rattle.tree.proofs.Lists.{or-left, or-right}
+use Rattle.nls.proofs.Booleans.{or-cases}
 use Rattle.nls.proofs.Judging.Clash.{Clash, last-child, last-grand, last-desc, last-root}
-
-unfoldable pub every : ℕ → (ℕ → Bool) → Bool
-every zero p = true
-every (suc n) p = p n && every n p
-
-pub every-at : (n : ℕ) (p : ℕ → Bool) → every n p ≡ true → (j : ℕ) → j < n → p j ≡ true
-unfolding every
-every-at zero p h j l = absurd (omega arith)
-every-at (suc n) p h j l = go (ℕ-discrete j n) (every-at n p (and-r (p n) (every n p) h) j)
-  where
-    go : Dec (j ≡ n) → (j < n → p j ≡ true) → p j ≡ true
-    go (yes e) ih = ap p e ∙ and-l (p n) (every n p) h
-    go (no e) ih = ih (omega arith)
-
-pub every-i : (n : ℕ) (p : ℕ → Bool) → ((j : ℕ) → j < n → p j ≡ true) → every n p ≡ true
-unfolding every
-every-i zero p f = refl
-every-i (suc n) p f = and-i (p n) (every n p) (f n (omega arith)) (every-i n p (λ j l. f j (omega arith)))
 
 -- place t has the mark v
 abbrev pub is : List ℕ → ℕ → ℕ → Bool
@@ -50,43 +34,20 @@ cb-root D P b t m none = is m t 5 && (eqb (t + 4) (4 * D) && (eqb (suc b) P && n
 unfoldable pub clash-by : ℕ → ℕ → ℕ → ℕ → ℕ → List ℕ → Bool → Bool
 clash-by I D P b t m none = cb-child I t m || (cb-grand t m || (cb-desc D t m || cb-root D P b t m none))
 
--- by the marks
-unfoldable pub none-marked : ℕ → ℕ → List ℕ → Bool
-none-marked D t m = every D (λ j. is m j 1) && every (t / 4) (λ h. ltb (4 * h) D || is m (4 * h) 5)
-
 abbrev pub None : ℕ → ℕ → List ℕ → Type 0
 None D t m = ((j : ℕ) → j < D → getD m j 0 ≡ 1) × ((h : ℕ) → D ≤ 4 * h → 4 * h < t → getD m (4 * h) 0 ≡ 5)
-
-pub marked-to : (D t : ℕ) (m : List ℕ) → t + 4 ≡ 4 * D → none-marked D t m ≡ true → None D t m
-unfolding none-marked
-marked-to D t m te e = (
-  (λ j h. eqb-true _ _ (every-at D (λ j. is m j 1) (and-l _ _ e) j h)),
-  λ h lo hi. pick h lo (or-cases (ltb (4 * h) D) (is m (4 * h) 5) (every-at (t / 4) (λ h. ltb (4 * h) D || is m (4 * h) 5) (and-r (every D (λ j. is m j 1)) _ e) h (omega arith))),
-)
-  where
-    pick : (h : ℕ) → D ≤ 4 * h → (ltb (4 * h) D ≡ true) ⊎ (is m (4 * h) 5 ≡ true) → getD m (4 * h) 0 ≡ 5
-    pick h lo (inl z) = absurd (omega (arith, ltb-true (4 * h) D z))
-    pick h lo (inr z) = eqb-true _ _ z
-
-pub marked-from : (D t : ℕ) (m : List ℕ) → None D t m → none-marked D t m ≡ true
-unfolding none-marked
-marked-from D t m n = and-i _ _ (every-i D (λ j. is m j 1) (λ j h. eq-eqb _ _ (n .0 j h))) (every-i (t / 4) (λ h. ltb (4 * h) D || is m (4 * h) 5) (λ h l. pick h l (decLt (4 * h) D)))
-  where
-    pick : (h : ℕ) → h < t / 4 → Dec (4 * h < D) → (ltb (4 * h) D || is m (4 * h) 5) ≡ true
-    pick h l (yes z) = or-l (ltb (4 * h) D) (is m (4 * h) 5) (lt-ltb (4 * h) D z)
-    pick h l (no z) = or-r (ltb (4 * h) D) (is m (4 * h) 5) (eq-eqb _ _ (n .1 h (omega arith) (omega arith)))
 
 module _ (D I P b t : ℕ) (m : List ℕ) where
   child-to : cb-child I t m ≡ true → Clash D I P b t m
   unfolding cb-child
   child-to e =
-      let e1 : (eqb (t % 4) 3 && (leb I (16 * (t / 4)) && (is m (t - 1) 1 && (is m (t - 2) 1 && is m (t - 3) 1)))) ≡ true = and-r (is m t 4) _ e in
-      let e2 : (leb I (16 * (t / 4)) && (is m (t - 1) 1 && (is m (t - 2) 1 && is m (t - 3) 1))) ≡ true = and-r (eqb (t % 4) 3) _ e1 in
-      let e3 : (is m (t - 1) 1 && (is m (t - 2) 1 && is m (t - 3) 1)) ≡ true = and-r (leb I (16 * (t / 4))) _ e2 in
-      let e4 : (is m (t - 2) 1 && is m (t - 3) 1) ≡ true = and-r (is m (t - 1) 1) _ e3 in
-      let t3 : t % 4 ≡ 3 = eqb-true _ _ (and-l (eqb (t % 4) 3) _ e1) in
-      last-child (eqb-true _ _ (and-l (is m t 4) _ e)) t3 (leb-true _ _ (and-l (leb I (16 * (t / 4))) _ e2))
-      (λ j ej lj. at j t3 ej lj (eqb-true _ _ (and-l (is m (t - 1) 1) _ e3)) (eqb-true _ _ (and-l (is m (t - 2) 1) _ e4)) (eqb-true _ _ (and-r (is m (t - 2) 1) _ e4)) (ℕ-discrete j (t - 1)) (ℕ-discrete j (t - 2)))
+      let e1 : (eqb (t % 4) 3 && (leb I (16 * (t / 4)) && (is m (t - 1) 1 && (is m (t - 2) 1 && is m (t - 3) 1)))) ≡ true = both-right (is m t 4) _ e in
+      let e2 : (leb I (16 * (t / 4)) && (is m (t - 1) 1 && (is m (t - 2) 1 && is m (t - 3) 1))) ≡ true = both-right (eqb (t % 4) 3) _ e1 in
+      let e3 : (is m (t - 1) 1 && (is m (t - 2) 1 && is m (t - 3) 1)) ≡ true = both-right (leb I (16 * (t / 4))) _ e2 in
+      let e4 : (is m (t - 2) 1 && is m (t - 3) 1) ≡ true = both-right (is m (t - 1) 1) _ e3 in
+      let t3 : t % 4 ≡ 3 = eqb-true _ _ (both-left (eqb (t % 4) 3) _ e1) in
+      last-child (eqb-true _ _ (both-left (is m t 4) _ e)) t3 (leb-true _ _ (both-left (leb I (16 * (t / 4))) _ e2))
+      (λ j ej lj. at j t3 ej lj (eqb-true _ _ (both-left (is m (t - 1) 1) _ e3)) (eqb-true _ _ (both-left (is m (t - 2) 1) _ e4)) (eqb-true _ _ (both-right (is m (t - 2) 1) _ e4)) (ℕ-discrete j (t - 1)) (ℕ-discrete j (t - 2)))
     where
       at : (j : ℕ) → t % 4 ≡ 3 → j / 4 ≡ t / 4 → j < t → getD m (t - 1) 0 ≡ 1 → getD m (t - 2) 0 ≡ 1 → getD m (t - 3) 0 ≡ 1 → Dec (j ≡ t - 1) → Dec (j ≡ t - 2) → getD m j 0 ≡ 1
       at j t3 ej lj a1 a2 a3 (yes z) y = ap (λ (x : ℕ). getD m x 0) z ∙ a1
@@ -96,11 +57,11 @@ module _ (D I P b t : ℕ) (m : List ℕ) where
   grand-to : cb-grand t m ≡ true → Clash D I P b t m
   unfolding cb-grand
   grand-to e =
-      let e1 : (is m (4 * (t / 16)) 1 && (is m (4 * (t / 16) + 1) 1 && (is m (4 * (t / 16) + 2) 1 && is m (4 * (t / 16) + 3) 1))) ≡ true = and-r (is m t 6) _ e in
-      let e2 : (is m (4 * (t / 16) + 1) 1 && (is m (4 * (t / 16) + 2) 1 && is m (4 * (t / 16) + 3) 1)) ≡ true = and-r (is m (4 * (t / 16)) 1) _ e1 in
-      let e3 : (is m (4 * (t / 16) + 2) 1 && is m (4 * (t / 16) + 3) 1) ≡ true = and-r (is m (4 * (t / 16) + 1) 1) _ e2 in
-      last-grand (eqb-true _ _ (and-l (is m t 6) _ e))
-      (λ j ej. at j ej (eqb-true _ _ (and-l (is m (4 * (t / 16)) 1) _ e1)) (eqb-true _ _ (and-l (is m (4 * (t / 16) + 1) 1) _ e2)) (eqb-true _ _ (and-l (is m (4 * (t / 16) + 2) 1) _ e3)) (eqb-true _ _ (and-r (is m (4 * (t / 16) + 2) 1) _ e3))
+      let e1 : (is m (4 * (t / 16)) 1 && (is m (4 * (t / 16) + 1) 1 && (is m (4 * (t / 16) + 2) 1 && is m (4 * (t / 16) + 3) 1))) ≡ true = both-right (is m t 6) _ e in
+      let e2 : (is m (4 * (t / 16) + 1) 1 && (is m (4 * (t / 16) + 2) 1 && is m (4 * (t / 16) + 3) 1)) ≡ true = both-right (is m (4 * (t / 16)) 1) _ e1 in
+      let e3 : (is m (4 * (t / 16) + 2) 1 && is m (4 * (t / 16) + 3) 1) ≡ true = both-right (is m (4 * (t / 16) + 1) 1) _ e2 in
+      last-grand (eqb-true _ _ (both-left (is m t 6) _ e))
+      (λ j ej. at j ej (eqb-true _ _ (both-left (is m (4 * (t / 16)) 1) _ e1)) (eqb-true _ _ (both-left (is m (4 * (t / 16) + 1) 1) _ e2)) (eqb-true _ _ (both-left (is m (4 * (t / 16) + 2) 1) _ e3)) (eqb-true _ _ (both-right (is m (4 * (t / 16) + 2) 1) _ e3))
       (ℕ-discrete j (4 * (t / 16))) (ℕ-discrete j (4 * (t / 16) + 1)) (ℕ-discrete j (4 * (t / 16) + 2)))
     where
       at : (j : ℕ) → j / 4 ≡ t / 16 → getD m (4 * (t / 16)) 0 ≡ 1 → getD m (4 * (t / 16) + 1) 0 ≡ 1 → getD m (4 * (t / 16) + 2) 0 ≡ 1 → getD m (4 * (t / 16) + 3) 0 ≡ 1
@@ -113,13 +74,13 @@ module _ (D I P b t : ℕ) (m : List ℕ) where
   desc-to : cb-desc D t m ≡ true → Clash D I P b t m
   unfolding cb-desc
   desc-to e =
-      let e1 : (leb (4 * D) t && (eqb (t / 4 % 4) 3 && (is m (4 * (t / 4 - 1)) 5 && (is m (4 * (t / 4 - 2)) 5 && is m (4 * (t / 4 - 3)) 5)))) ≡ true = and-r (is m t 5) _ e in
-      let e2 : (eqb (t / 4 % 4) 3 && (is m (4 * (t / 4 - 1)) 5 && (is m (4 * (t / 4 - 2)) 5 && is m (4 * (t / 4 - 3)) 5))) ≡ true = and-r (leb (4 * D) t) _ e1 in
-      let e3 : (is m (4 * (t / 4 - 1)) 5 && (is m (4 * (t / 4 - 2)) 5 && is m (4 * (t / 4 - 3)) 5)) ≡ true = and-r (eqb (t / 4 % 4) 3) _ e2 in
-      let e4 : (is m (4 * (t / 4 - 2)) 5 && is m (4 * (t / 4 - 3)) 5) ≡ true = and-r (is m (4 * (t / 4 - 1)) 5) _ e3 in
-      let t3 : t / 4 % 4 ≡ 3 = eqb-true _ _ (and-l (eqb (t / 4 % 4) 3) _ e2) in
-      last-desc (eqb-true _ _ (and-l (is m t 5) _ e)) (leb-true _ _ (and-l (leb (4 * D) t) _ e1)) t3
-      (λ j ej lj. at j t3 ej lj (eqb-true _ _ (and-l (is m (4 * (t / 4 - 1)) 5) _ e3)) (eqb-true _ _ (and-l (is m (4 * (t / 4 - 2)) 5) _ e4)) (eqb-true _ _ (and-r (is m (4 * (t / 4 - 2)) 5) _ e4)) (ℕ-discrete j (t / 4 - 1)) (ℕ-discrete j (t / 4 - 2)))
+      let e1 : (leb (4 * D) t && (eqb (t / 4 % 4) 3 && (is m (4 * (t / 4 - 1)) 5 && (is m (4 * (t / 4 - 2)) 5 && is m (4 * (t / 4 - 3)) 5)))) ≡ true = both-right (is m t 5) _ e in
+      let e2 : (eqb (t / 4 % 4) 3 && (is m (4 * (t / 4 - 1)) 5 && (is m (4 * (t / 4 - 2)) 5 && is m (4 * (t / 4 - 3)) 5))) ≡ true = both-right (leb (4 * D) t) _ e1 in
+      let e3 : (is m (4 * (t / 4 - 1)) 5 && (is m (4 * (t / 4 - 2)) 5 && is m (4 * (t / 4 - 3)) 5)) ≡ true = both-right (eqb (t / 4 % 4) 3) _ e2 in
+      let e4 : (is m (4 * (t / 4 - 2)) 5 && is m (4 * (t / 4 - 3)) 5) ≡ true = both-right (is m (4 * (t / 4 - 1)) 5) _ e3 in
+      let t3 : t / 4 % 4 ≡ 3 = eqb-true _ _ (both-left (eqb (t / 4 % 4) 3) _ e2) in
+      last-desc (eqb-true _ _ (both-left (is m t 5) _ e)) (leb-true _ _ (both-left (leb (4 * D) t) _ e1)) t3
+      (λ j ej lj. at j t3 ej lj (eqb-true _ _ (both-left (is m (4 * (t / 4 - 1)) 5) _ e3)) (eqb-true _ _ (both-left (is m (4 * (t / 4 - 2)) 5) _ e4)) (eqb-true _ _ (both-right (is m (4 * (t / 4 - 2)) 5) _ e4)) (ℕ-discrete j (t / 4 - 1)) (ℕ-discrete j (t / 4 - 2)))
     where
       at : (j : ℕ) → t / 4 % 4 ≡ 3 → j / 4 ≡ t / 4 / 4 → j < t / 4 → getD m (4 * (t / 4 - 1)) 0 ≡ 5 → getD m (4 * (t / 4 - 2)) 0 ≡ 5 → getD m (4 * (t / 4 - 3)) 0 ≡ 5 → Dec (j ≡ t / 4 - 1) → Dec (j ≡ t / 4 - 2) → getD m (4 * j) 0 ≡ 5
       at j t3 ej lj a1 a2 a3 (yes z) y = ap (λ (x : ℕ). getD m (4 * x) 0) z ∙ a1
@@ -131,12 +92,12 @@ module _ (D I P b t : ℕ) (m : List ℕ) where
     root-to : cb-root D P b t m none ≡ true → Clash D I P b t m
     unfolding cb-root
     root-to e =
-        let e1 : (eqb (t + 4) (4 * D) && (eqb (suc b) P && none)) ≡ true = and-r (is m t 5) _ e in
-        let e2 : (eqb (suc b) P && none) ≡ true = and-r (eqb (t + 4) (4 * D)) _ e1 in
-        let a1 : getD m t 0 ≡ 5 = eqb-true _ _ (and-l (is m t 5) _ e) in
-        let a2 : t + 4 ≡ 4 * D = eqb-true _ _ (and-l (eqb (t + 4) (4 * D)) _ e1) in
-        let a3 : suc b ≡ P = eqb-true _ _ (and-l (eqb (suc b) P) _ e2) in
-        let n : None D t m = ok a1 a2 a3 (and-r (eqb (suc b) P) none e2) in
+        let e1 : (eqb (t + 4) (4 * D) && (eqb (suc b) P && none)) ≡ true = both-right (is m t 5) _ e in
+        let e2 : (eqb (suc b) P && none) ≡ true = both-right (eqb (t + 4) (4 * D)) _ e1 in
+        let a1 : getD m t 0 ≡ 5 = eqb-true _ _ (both-left (is m t 5) _ e) in
+        let a2 : t + 4 ≡ 4 * D = eqb-true _ _ (both-left (eqb (t + 4) (4 * D)) _ e1) in
+        let a3 : suc b ≡ P = eqb-true _ _ (both-left (eqb (suc b) P) _ e2) in
+        let n : None D t m = ok a1 a2 a3 (both-right (eqb (suc b) P) none e2) in
         last-root a1 a2 a3 (n .0) (n .1)
 
     pub clash-to : clash-by I D P b t m none ≡ true → Clash D I P b t m
@@ -158,13 +119,13 @@ module _ (D I P b t : ℕ) (m : List ℕ) where
     pub clash-from : Clash D I P b t m → clash-by I D P b t m none ≡ true
     unfolding clash-by cb-child cb-grand cb-desc cb-root
     clash-from (last-child a t3 big f) =
-        or-l (cb-child I t m) _ (and-i _ _ (eq-eqb _ _ a) (and-i _ _ (eq-eqb _ _ t3) (and-i _ _ (le-leb _ _ big) (and-i _ _ (eq-eqb _ _ (f (t - 1) (omega arith) (omega arith)))
-        (and-i _ _ (eq-eqb _ _ (f (t - 2) (omega arith) (omega arith))) (eq-eqb _ _ (f (t - 3) (omega arith) (omega arith))))))))
+        or-left (cb-child I t m) _ (both (eq-eqb _ _ a) (both (eq-eqb _ _ t3) (both (le-leb _ _ big) (both (eq-eqb _ _ (f (t - 1) (omega arith) (omega arith)))
+        (both (eq-eqb _ _ (f (t - 2) (omega arith) (omega arith))) (eq-eqb _ _ (f (t - 3) (omega arith) (omega arith))))))))
     clash-from (last-grand a f) =
-        or-r (cb-child I t m) _ (or-l (cb-grand t m) _ (and-i _ _ (eq-eqb _ _ a) (and-i _ _ (eq-eqb _ _ (f (4 * (t / 16)) (omega arith))) (and-i _ _ (eq-eqb _ _ (f (4 * (t / 16) + 1) (omega arith)))
-        (and-i _ _ (eq-eqb _ _ (f (4 * (t / 16) + 2) (omega arith))) (eq-eqb _ _ (f (4 * (t / 16) + 3) (omega arith))))))))
+        or-right (cb-child I t m) _ (or-left (cb-grand t m) _ (both (eq-eqb _ _ a) (both (eq-eqb _ _ (f (4 * (t / 16)) (omega arith))) (both (eq-eqb _ _ (f (4 * (t / 16) + 1) (omega arith)))
+        (both (eq-eqb _ _ (f (4 * (t / 16) + 2) (omega arith))) (eq-eqb _ _ (f (4 * (t / 16) + 3) (omega arith))))))))
     clash-from (last-desc a big t3 f) =
-        or-r (cb-child I t m) _ (or-r (cb-grand t m) _ (or-l (cb-desc D t m) _ (and-i _ _ (eq-eqb _ _ a) (and-i _ _ (le-leb _ _ big) (and-i _ _ (eq-eqb _ _ t3) (and-i _ _ (eq-eqb _ _ (f (t / 4 - 1) (omega arith) (omega arith)))
-        (and-i _ _ (eq-eqb _ _ (f (t / 4 - 2) (omega arith) (omega arith))) (eq-eqb _ _ (f (t / 4 - 3) (omega arith) (omega arith))))))))))
+        or-right (cb-child I t m) _ (or-right (cb-grand t m) _ (or-left (cb-desc D t m) _ (both (eq-eqb _ _ a) (both (le-leb _ _ big) (both (eq-eqb _ _ t3) (both (eq-eqb _ _ (f (t / 4 - 1) (omega arith) (omega arith)))
+        (both (eq-eqb _ _ (f (t / 4 - 2) (omega arith) (omega arith))) (eq-eqb _ _ (f (t / 4 - 3) (omega arith) (omega arith))))))))))
     clash-from (last-root a te bp f1 f2) =
-        or-r (cb-child I t m) _ (or-r (cb-grand t m) _ (or-r (cb-desc D t m) _ (and-i _ _ (eq-eqb _ _ a) (and-i _ _ (eq-eqb _ _ te) (and-i _ _ (eq-eqb _ _ bp) (ko a te bp (f1, f2)))))))
+        or-right (cb-child I t m) _ (or-right (cb-grand t m) _ (or-right (cb-desc D t m) _ (both (eq-eqb _ _ a) (both (eq-eqb _ _ te) (both (eq-eqb _ _ bp) (ko a te bp (f1, f2)))))))

@@ -1,73 +1,34 @@
--- DEMAND 2 (iii): a decoder that stops at the clash accepts a list of bits exactly if some array of P planes has a stream that begins so; refusals 12 and 13.
-use mathlib.Core.Path.{_≡_, refl, sym, ap, subst, _∙_}
-use mathlib.Core.Bool.{Bool, true, false, not, _&&_, _||_, true≢false, false≢true}
-use mathlib.Core.Logic.{_⊎_, inl, inr}
+-- A decoder that stops at the clash: its verdict on a list of bits is the one that document 01 means, over arrays of bits.
+use mathlib.Core.Path.{_≡_, refl, sym, subst, _∙_}
+use mathlib.Core.Bool.{Bool, true, false, not, _&&_, true≢false, false≢true}
 use mathlib.Core.Option.{Option, none, some}
-use mathlib.Core.List.{List, [], _∷_, _++_}
-use Prim.Native.Nat.{ℕ, zero, suc, _+_, _*_, _-_, _/_, _%_, _^_, _≤_, _<_}
+use mathlib.Core.List.{List, [], _∷_, _++_, append-nil, append-assoc}
+use Prim.Native.Nat.{ℕ, zero, suc, _+_, _-_, _^_, _≤_}
 use native.Mathlib.Omega.{arith}
-use native.Mathlib.Decide.{decLt, ℕ-discrete}
-use lib.ListN.{length, getD, set, take, length-append}
-use lib.Dec.{ltb, eqb, lit<, lit≤}
-use borrow.Author.Tests.{ltb-true, ltb-false, lt-ltb, eqb-true, eqb-false, eq-eqb}
-use Rattle.nls.specs.Marks.{startMarks}
-use Rattle.nls.specs.Scan.{State, Look, over, silent, asks, Question, bitOf, signOf, inDesc, inGrand, Pass, pixels, sets, refining, look, lookAt, lookPixels, lookSets, lookRefining, ask, asked, next, reach, start}
-use Rattle.nls.proofs.Arrays.{Bits, ans}
-use Rattle.nls.proofs.Machine.Run.{fit-append, fit-prefix, reach-append}
-use Rattle.nls.proofs.Judging.Most.{told, Fits}
+use lib.ListN.{length, getD, length-append}
+use lib.Dec.{ltb, eqb}
+use borrow.Author.Tests.{ltb-true, lt-ltb, eqb-true}
+use Rattle.nls.specs.Judging.{Verdict, taken, contradiction, beyond}
+use Rattle.nls.specs.Scan.{State, Question, Pass, pixels, sets, refining, lookAt, lookSets, ask, asked, next, reach, start}
+use Rattle.nls.proofs.Tiled.{Tiled}
+use Rattle.nls.proofs.Arrays.{Bits, told, Fit}
+use Rattle.nls.proofs.Machine.Run.{fit-prefix, reach-append}
 use Rattle.nls.proofs.Reading.Know.{least}
-use Rattle.nls.proofs.Machine.Steps.{preds, From, Good, Good-at}
-use Rattle.nls.proofs.Reading.Whole.{fam, Known, run}
+use Rattle.nls.proofs.Machine.Steps.{Good-at}
+use Rattle.nls.proofs.Reading.Told.{fam, run}
 use Rattle.nls.proofs.Judging.Clash.{Valid, Clash, last-child, last-grand, last-desc, last-root, clash-child, clash-grand, clash-desc, clash-root}
 use Rattle.nls.proofs.Machine.Start.{nothing, good-start}
-use Rattle.nls.proofs.Judging.Refuse.{S0, Begins, Clash-at, Clashes, accepts}
-use Rattle.nls.proofs.Judging.Decide.{clash-by, none-marked, None, marked-to, marked-from, clash-to, clash-from}
+use Rattle.nls.proofs.Judging.Refuse.{Clash-at, Clashes, accepts}
 
-pub data Out : Type 0 where
-  here : State → Out
-  no12 : ℕ → Out
-  no13 : ℕ → Out
-
--- the decoder over a test for the clash, which may look at the number of bits used, and at whether one of them was a 1
-unfoldable pub decode : ℕ → (ℕ → Bool → State → Bool) → ℕ → Bool → State → List Bool → Out
-decode I cl used hit s [] = here s
-decode I cl used hit s (a ∷ u) = elim (ask I s) [
-  | none ↦ no13 used
-  | some q ↦ elim (not a && cl used hit s) [ true ↦ no12 used | false ↦ decode I cl (used + 1) (hit || a) (next I s a) u ]
+-- the verdict on the bits u from the settled state s on, by a test for the clash that may look at the number of bits used
+unfoldable pub decode : ℕ → (ℕ → State → Bool) → ℕ → State → List Bool → Verdict
+decode I cl used s [] = taken
+decode I cl used s (a ∷ u) = elim (ask I s) [
+  | none ↦ beyond used
+  | some q ↦ elim (not a && cl used s) [ true ↦ contradiction used | false ↦ decode I cl (used + 1) (next I s a) u ]
 ]
 
--- a 1 was read
-unfoldable pub lit : List Bool → Bool
-lit [] = false
-lit (a ∷ u) = a || lit u
-
-lit-snoc : (u : List Bool) (a : Bool) → lit (u ++ (a ∷ [])) ≡ (lit u || a)
-unfolding lit
-lit-snoc [] true = refl
-lit-snoc [] false = refl
-lit-snoc (true ∷ u) a = refl
-lit-snoc (false ∷ u) a = lit-snoc u a
-
--- the clash by the marks
-abbrev pub clash-st : ℕ → ℕ → ℕ → ℕ → Pass → ℕ → Bool → List ℕ → Bool
-clash-st I D P zero p i s m = false
-clash-st I D P (suc b) pixels i s m = false
-clash-st I D P (suc b) refining i s m = false
-clash-st I D P (suc b) sets i true m = false
-clash-st I D P (suc b) sets i false m = clash-by I D P b i m (none-marked D i m)
-
-unfoldable pub clash : ℕ → ℕ → ℕ → State → Bool
-clash I D P s = clash-st I D P (s .left) (s .pass) (s .place) (s .pending) (s .marks)
-
-app-assoc : (u : List Bool) (a : Bool) (v : List Bool) → (u ++ (a ∷ [])) ++ v ≡ u ++ (a ∷ v)
-app-assoc [] a v = refl
-app-assoc (x ∷ u) a v = ap {B = List Bool} (λ r. x ∷ r) (app-assoc u a v)
-
-app-nil : (u : List Bool) → u ++ [] ≡ u
-app-nil [] = refl
-app-nil (x ∷ u) = ap {B = List Bool} (λ r. x ∷ r) (app-nil u)
-
-module _ (N D P : ℕ) (D-big : 4 ≤ D) (D-4 : D % 4 ≡ 0) (I-16 : 4 ^ N % 16 ≡ 0) (D-I : 4 * D ≤ 4 ^ N) where
+module _ (N : ℕ) {D : ℕ} (P : ℕ) (sz : Tiled D (4 ^ N)) where
   abbrev I : ℕ
   I = 4 ^ N
 
@@ -75,40 +36,40 @@ module _ (N D P : ℕ) (D-big : 4 ≤ D) (D-4 : D % 4 ≡ 0) (I-16 : 4 ^ N % 16 
   S = start I D P
 
   abbrev pub Starts : Bits → List Bool → Type 0
-  Starts A u = Fits N State (ask I) (next I) A (start I D P) u
+  Starts A u = Fit N A (start I D P) u
 
   -- some array of P planes has a stream that begins with u
   abbrev pub Some : List Bool → Type 0
   Some u = (A : Bits) × Valid I P A × Starts A u
 
   abbrev Bad : State → Type 0
-  Bad s = Clashes N D P D-big D-4 I-16 D-I s
+  Bad s = Clashes N P sz s
 
-  fit-split : (A : Bits) (s : State) (u v : List Bool) → Fits N State (ask I) (next I) A s (u ++ v) → Fits N State (ask I) (next I) A (reach (4 ^ N) s u) v
+  fit-split : (A : Bits) (s : State) (u v : List Bool) → Fit N A s (u ++ v) → Fit N A (reach (4 ^ N) s u) v
   unfolding reach
   fit-split A s [] v f = f
   fit-split A s (a ∷ u) v f = fit-split A (next I s a) u v (f .1)
 
-  -- SOUND: at a clash every array that fits answers 1
+  -- at a clash every array that fits answers 1
   module _ (A k : Bits) (va : Valid I P A) where
     sound-sets : (b i : ℕ) (m : List ℕ) (x d g c : Bool) → ltb i I ≡ x → eqb (getD m i 0) 5 ≡ d → eqb (getD m i 0) 6 ≡ g → eqb (getD m i 0) 4 ≡ c
-        → Good-at D I D-big D-4 I-16 P (fam N D P D-big D-4 I-16 A k) (suc b) sets i false m → Clash D I P b i m → told N A (asked I (lookSets b i m x d g c)) false → ⊥
+        → Good-at sz P (fam N A k) (suc b) sets i false m → Clash D I P b i m → told N A (asked I (lookSets b i m x d g c)) false → ⊥
     sound-sets b i m false d g c ex ed eg ec z n t = t
     sound-sets b i m true false false false ex ed eg ec z n t = t
     sound-sets b i m true true g c ex ed eg ec z (last-child a n1 n2 n3) t = omega (arith, eqb-true (getD m i 0) 5 ed)
     sound-sets b i m true true g c ex ed eg ec z (last-grand a n1) t = omega (arith, eqb-true (getD m i 0) 5 ed)
-    sound-sets b i m true true g c ex ed eg ec z (last-desc a n1 n2 n3) t = true≢false (sym (clash-desc N D P D-big D-4 I-16 D-I A k va b i m (z .1 .0) (ltb-true i I ex) (z .0) (z .1 .1) a n1 n2 n3) ∙ t)
-    sound-sets b i m true true g c ex ed eg ec z (last-root a n1 n2 n3 n4) t = true≢false (sym (clash-root N D P D-big D-4 I-16 D-I A k va b i m (z .1 .0) (ltb-true i I ex) (z .0) (z .1 .1) a n1 n2 n3 n4) ∙ t)
+    sound-sets b i m true true g c ex ed eg ec z (last-desc a n1 n2 n3) t = true≢false (sym (clash-desc N P sz A k va b i m (z .1 .0) (ltb-true i I ex) (z .0) (z .1 .1) a n1 n2 n3) ∙ t)
+    sound-sets b i m true true g c ex ed eg ec z (last-root a n1 n2 n3 n4) t = true≢false (sym (clash-root N P sz A k va b i m (z .1 .0) (ltb-true i I ex) (z .0) (z .1 .1) a n1 n2 n3 n4) ∙ t)
     sound-sets b i m true false true c ex ed eg ec z (last-child a n1 n2 n3) t = omega (arith, eqb-true (getD m i 0) 6 eg)
-    sound-sets b i m true false true c ex ed eg ec z (last-grand a n1) t = true≢false (sym (clash-grand N D P D-big D-4 I-16 D-I A k va b i m (z .1 .0) (ltb-true i I ex) (z .0) (z .1 .1) a n1) ∙ t)
+    sound-sets b i m true false true c ex ed eg ec z (last-grand a n1) t = true≢false (sym (clash-grand N P sz A k va b i m (z .1 .0) (ltb-true i I ex) (z .0) (z .1 .1) a n1) ∙ t)
     sound-sets b i m true false true c ex ed eg ec z (last-desc a n1 n2 n3) t = omega (arith, eqb-true (getD m i 0) 6 eg)
     sound-sets b i m true false true c ex ed eg ec z (last-root a n1 n2 n3 n4) t = omega (arith, eqb-true (getD m i 0) 6 eg)
-    sound-sets b i m true false false true ex ed eg ec z (last-child a n1 n2 n3) t = true≢false (sym (clash-child N D P D-big D-4 I-16 D-I A k va b i m (z .1 .0) (ltb-true i I ex) (z .0) (z .1 .1) a n1 n2 n3) ∙ t)
+    sound-sets b i m true false false true ex ed eg ec z (last-child a n1 n2 n3) t = true≢false (sym (clash-child N P sz A k va b i m (z .1 .0) (ltb-true i I ex) (z .0) (z .1 .1) a n1 n2 n3) ∙ t)
     sound-sets b i m true false false true ex ed eg ec z (last-grand a n1) t = omega (arith, eqb-true (getD m i 0) 4 ec)
     sound-sets b i m true false false true ex ed eg ec z (last-desc a n1 n2 n3) t = omega (arith, eqb-true (getD m i 0) 4 ec)
     sound-sets b i m true false false true ex ed eg ec z (last-root a n1 n2 n3 n4) t = omega (arith, eqb-true (getD m i 0) 4 ec)
 
-    sound-at : (l : ℕ) (p : Pass) (i : ℕ) (s : Bool) (m : List ℕ) → Good-at D I D-big D-4 I-16 P (fam N D P D-big D-4 I-16 A k) l p i s m → Clash-at N D P D-big D-4 I-16 D-I l p i s m → told N A (asked I (lookAt I l p i s m)) false → ⊥
+    sound-at : (l : ℕ) (p : Pass) (i : ℕ) (s : Bool) (m : List ℕ) → Good-at sz P (fam N A k) l p i s m → Clash-at N P sz l p i s m → told N A (asked I (lookAt I l p i s m)) false → ⊥
     sound-at zero p i s m z n t = n
     sound-at (suc b) pixels i s m z n t = n
     sound-at (suc b) refining i s m z n t = n
@@ -120,63 +81,25 @@ module _ (N D P : ℕ) (D-big : 4 ≤ D) (D-4 : D % 4 ≡ 0) (I-16 : 4 ^ N % 16 
   refuses u n w =
       let f : Starts (w .0) u = fit-prefix N (w .0) S u (false ∷ []) (w .2) in
       let r : State = reach (4 ^ N) S u in
-      sound-at (w .0) (least N State (ask I) (next I) S u nothing) (w .1) (r .left) (r .pass) (r .place) (r .pending) (r .marks)
-      (run N D P D-big D-4 I-16 (w .0) nothing S u (good-start D I D-big D-4 I-16 D-I P (fam N D P D-big D-4 I-16 (w .0) nothing) (λ j z. false≢true (z .1))) f) n
+      sound-at (w .0) (least N S u nothing) (w .1) (r .left) (r .pass) (r .place) (r .pending) (r .marks)
+      (run N P sz (w .0) nothing S u (good-start sz P (fam N (w .0) nothing) (λ j z. false≢true (z .1))) f) n
       ((fit-split (w .0) S u (false ∷ []) (w .2)) .0)
 
-  -- THE TEST IS THE CLASH, after any bits that some array fits
-  pub record Right (cl : ℕ → Bool → State → Bool) : Type 0 where
-    pub to : (u : List Bool) → Some u → cl (length u) (lit u) (reach (4 ^ N) S u) ≡ true → Bad (reach (4 ^ N) S u)
-    pub of : (u : List Bool) → Some u → Bad (reach (4 ^ N) S u) → cl (length u) (lit u) (reach (4 ^ N) S u) ≡ true
+  -- the test is the clash, after any bits that some array fits
+  pub record Right (cl : ℕ → State → Bool) : Type 0 where
+    pub to : (u : List Bool) → Some u → cl (length u) (reach (4 ^ N) S u) ≡ true → Bad (reach (4 ^ N) S u)
+    pub of : (u : List Bool) → Some u → Bad (reach (4 ^ N) S u) → cl (length u) (reach (4 ^ N) S u) ≡ true
 
-  to-st : (l : ℕ) (p : Pass) (i : ℕ) (s : Bool) (m : List ℕ) → clash-st I D P l p i s m ≡ true → Clash-at N D P D-big D-4 I-16 D-I l p i s m
-  to-st zero p i s m e = false≢true e
-  to-st (suc b) pixels i s m e = false≢true e
-  to-st (suc b) refining i s m e = false≢true e
-  to-st (suc b) sets i true m e = false≢true e
-  to-st (suc b) sets i false m e = clash-to D I P b i m (none-marked D i m) (λ a1 a2 a3 n. marked-to D i m a2 n) (λ a1 a2 a3 n. marked-from D i m n) e
+  -- what the verdict means, for the whole list of bits
+  abbrev pub Means : List Bool → Verdict → Type 0
+  Means v taken = Some v
+  Means v (contradiction n) = (u : List Bool) × (a : Bool) × (r : List Bool) × (v ≡ u ++ (a ∷ r)) × (n ≡ length u) × Some u × (Some (u ++ (a ∷ [])) → ⊥) × ((q : Question) × (ask I (reach (4 ^ N) S u) ≡ some q))
+  Means v (beyond n) = (u : List Bool) × (a : Bool) × (r : List Bool) × (v ≡ u ++ (a ∷ r)) × (n ≡ length u) × Some u × (ask I (reach (4 ^ N) S u) ≡ none)
 
-  of-st : (l : ℕ) (p : Pass) (i : ℕ) (s : Bool) (m : List ℕ) → Clash-at N D P D-big D-4 I-16 D-I l p i s m → clash-st I D P l p i s m ≡ true
-  of-st zero p i s m e = absurd e
-  of-st (suc b) pixels i s m e = absurd e
-  of-st (suc b) refining i s m e = absurd e
-  of-st (suc b) sets i true m e = absurd e
-  of-st (suc b) sets i false m e = clash-from D I P b i m (none-marked D i m) (λ a1 a2 a3 n. marked-to D i m a2 n) (λ a1 a2 a3 n. marked-from D i m n) e
-
-  pub right-marks : Right (λ used hit s. clash I D P s)
-  unfolding clash
-  right-marks = record {
-    to = λ u w e. (let r : State = reach (4 ^ N) S u in to-st (r .left) (r .pass) (r .place) (r .pending) (r .marks) e);
-    of = λ u w e. (let r : State = reach (4 ^ N) S u in of-st (r .left) (r .pass) (r .place) (r .pending) (r .marks) e);
-  }
-
-  -- REFUSAL 12 for one bit: after bits that some array fits, with a question pending, a fits none exactly if it is 0 and the test says clash
-  pub refused12 : (cl : ℕ → Bool → State → Bool) → Right cl → (u : List Bool) → Some u → (q : Question) → ask I (reach (4 ^ N) S u) ≡ some q → (a : Bool)
-      → ((Some (u ++ (a ∷ [])) → ⊥) → (a ≡ false) × (cl (length u) (lit u) (reach (4 ^ N) S u) ≡ true)) × ((a ≡ false) × (cl (length u) (lit u) (reach (4 ^ N) S u) ≡ true) → Some (u ++ (a ∷ [])) → ⊥)
-  refused12 cl r u w q e a = (fwd a (cl (length u) (lit u) (reach (4 ^ N) S u)) refl, λ h. back (h .0) (h .1))
-    where
-      fwd : (a c : Bool) → cl (length u) (lit u) (reach (4 ^ N) S u) ≡ c → (Some (u ++ (a ∷ [])) → ⊥) → (a ≡ false) × (cl (length u) (lit u) (reach (4 ^ N) S u) ≡ true)
-      fwd false true ec n = (refl, ec)
-      fwd false false ec n = absurd (n (accepts N D P D-big D-4 I-16 D-I (w .0) (w .1) u (w .2) q e false (λ z b. true≢false (sym (r .of u w b) ∙ ec))))
-      fwd true c ec n = absurd (n (accepts N D P D-big D-4 I-16 D-I (w .0) (w .1) u (w .2) q e true (λ z b. true≢false z)))
-
-      back : a ≡ false → cl (length u) (lit u) (reach (4 ^ N) S u) ≡ true → Some (u ++ (a ∷ [])) → ⊥
-      back z h s = refuses u (r .to u w h) (subst (λ (x : Bool). Some (u ++ (x ∷ []))) z s)
-
-  -- REFUSAL 13: no question is left, so no further bit fits
-  pub refused13 : (u : List Bool) (a : Bool) → ask I (reach (4 ^ N) S u) ≡ none → Some (u ++ (a ∷ [])) → ⊥
-  refused13 u a e w = subst (λ (o : Option Question). told N (w .0) o a) e ((fit-split (w .0) S u (a ∷ []) (w .2)) .0)
-
-  -- WHAT THE DECODER'S ANSWER MEANS, for the whole list of bits
-  abbrev pub Means : List Bool → Out → Type 0
-  Means v (here s) = (s ≡ reach (4 ^ N) S v) × Some v
-  Means v (no12 n) = (u : List Bool) × (a : Bool) × (r : List Bool) × (v ≡ u ++ (a ∷ r)) × (n ≡ length u) × Some u × (Some (u ++ (a ∷ [])) → ⊥) × ((q : Question) × (ask I (reach (4 ^ N) S u) ≡ some q))
-  Means v (no13 n) = (u : List Bool) × (a : Bool) × (r : List Bool) × (v ≡ u ++ (a ∷ r)) × (n ≡ length u) × Some u × (ask I (reach (4 ^ N) S u) ≡ none)
-
-  decode-from : (cl : ℕ → Bool → State → Bool) → Right cl → (v u r : List Bool) → v ≡ u ++ r → Some u → Means v (decode I cl (length u) (lit u) (reach (4 ^ N) S u) r)
+  decode-from : (cl : ℕ → State → Bool) → Right cl → (v u r : List Bool) → v ≡ u ++ r → Some u → Means v (decode I cl (length u) (reach (4 ^ N) S u) r)
   unfolding decode
-  decode-from cl rt v u [] e w = (ap (λ (x : List Bool). reach (4 ^ N) S x) (sym (e ∙ app-nil u)), subst Some (sym (e ∙ app-nil u)) w)
-  decode-from cl rt v u (a ∷ r) e w = go (ask I (reach (4 ^ N) S u)) refl (decode-from cl rt v (u ++ (a ∷ [])) r (e ∙ sym (app-assoc u a r)))
+  decode-from cl rt v u [] e w = subst Some (sym (e ∙ append-nil u)) w
+  decode-from cl rt v u (a ∷ r) e w = go (ask I (reach (4 ^ N) S u)) refl (decode-from cl rt v (u ++ (a ∷ [])) r (e ∙ sym (append-assoc u (a ∷ []) r)))
     where
       len : length (u ++ (a ∷ [])) ≡ length u + 1
       len = length-append {A = Bool} u (a ∷ [])
@@ -184,45 +107,23 @@ module _ (N D P : ℕ) (D-big : 4 ≤ D) (D-4 : D % 4 ≡ 0) (I-16 : 4 ^ N % 16 
       step : reach (4 ^ N) S (u ++ (a ∷ [])) ≡ next I (reach (4 ^ N) S u) a
       step = reach-append N S u (a ∷ []) ∙ (unfold reach in refl)
 
-      go : (o : Option Question) → ask I (reach (4 ^ N) S u) ≡ o → (Some (u ++ (a ∷ [])) → Means v (decode I cl (length (u ++ (a ∷ []))) (lit (u ++ (a ∷ []))) (reach (4 ^ N) S (u ++ (a ∷ []))) r))
-          → Means v (elim o as (λ _. Out) [ none ↦ no13 (length u) | some q ↦ elim (not a && cl (length u) (lit u) (reach (4 ^ N) S u)) as (λ _. Out) [ true ↦ no12 (length u) | false ↦ decode I cl (length u + 1) (lit u || a) (next I (reach (4 ^ N) S u) a) r ] ])
+      go : (o : Option Question) → ask I (reach (4 ^ N) S u) ≡ o → (Some (u ++ (a ∷ [])) → Means v (decode I cl (length (u ++ (a ∷ []))) (reach (4 ^ N) S (u ++ (a ∷ []))) r))
+          → Means v (elim o as (λ _. Verdict) [ none ↦ beyond (length u) | some q ↦ elim (not a && cl (length u) (reach (4 ^ N) S u)) as (λ _. Verdict) [ true ↦ contradiction (length u) | false ↦ decode I cl (length u + 1) (next I (reach (4 ^ N) S u) a) r ] ])
       go none eo ih = (u, a, r, e, refl, w, eo)
-      go (some q) eo ih = pick a (cl (length u) (lit u) (reach (4 ^ N) S u)) refl refl
+      go (some q) eo ih = pick a (cl (length u) (reach (4 ^ N) S u)) refl refl
         where
-          more : Some (u ++ (a ∷ [])) → Means v (decode I cl (length u + 1) (lit u || a) (next I (reach (4 ^ N) S u) a) r)
-          more x = subst (λ (n : ℕ). Means v (decode I cl n (lit u || a) (next I (reach (4 ^ N) S u) a) r)) len (subst (λ (h : Bool). Means v (decode I cl (length (u ++ (a ∷ []))) h (next I (reach (4 ^ N) S u) a) r)) (lit-snoc u a) (subst (λ (s : State). Means v (decode I cl (length (u ++ (a ∷ []))) (lit (u ++ (a ∷ []))) s r)) step (ih x)))
+          more : Some (u ++ (a ∷ [])) → Means v (decode I cl (length u + 1) (next I (reach (4 ^ N) S u) a) r)
+          more x = subst (λ (n : ℕ). Means v (decode I cl n (next I (reach (4 ^ N) S u) a) r)) len (subst (λ (s : State). Means v (decode I cl (length (u ++ (a ∷ []))) s r)) step (ih x))
 
-          pick : (x y : Bool) → a ≡ x → cl (length u) (lit u) (reach (4 ^ N) S u) ≡ y → Means v (elim (not x && y) as (λ _. Out) [ true ↦ no12 (length u) | false ↦ decode I cl (length u + 1) (lit u || a) (next I (reach (4 ^ N) S u) a) r ])
-          pick true y ea ey = more (accepts N D P D-big D-4 I-16 D-I (w .0) (w .1) u (w .2) q eo a (λ z b. true≢false (sym ea ∙ z)))
-          pick false true ea ey = (u, a, r, e, refl, w, (refused12 cl rt u w q eo a) .1 (ea, ey), (q, eo))
-          pick false false ea ey = more (accepts N D P D-big D-4 I-16 D-I (w .0) (w .1) u (w .2) q eo a (λ z b. true≢false (sym (rt .of u w b) ∙ ey)))
+          pick : (x y : Bool) → a ≡ x → cl (length u) (reach (4 ^ N) S u) ≡ y → Means v (elim (not x && y) as (λ _. Verdict) [ true ↦ contradiction (length u) | false ↦ decode I cl (length u + 1) (next I (reach (4 ^ N) S u) a) r ])
+          pick true y ea ey = more (accepts N P sz (w .0) (w .1) u (w .2) q eo a (λ z b. true≢false (sym ea ∙ z)))
+          pick false true ea ey = (u, a, r, e, refl, w, (λ s. refuses u (rt .to u w ey) (subst (λ (x : Bool). Some (u ++ (x ∷ []))) ea s)), (q, eo))
+          pick false false ea ey = more (accepts N P sz (w .0) (w .1) u (w .2) q eo a (λ z b. true≢false (sym (rt .of u w b) ∙ ey)))
 
   -- an array of P planes
   first-one : 1 ≤ P → Some []
   first-one h = (record { has = λ i b. ltb b P; neg = λ i. false }, record { cap = λ j e y. ltb-true e P y; top = (0, P - 1, omega arith, omega arith, lt-ltb (P - 1) P (omega arith)) }, tt)
 
-  pub decode-means : (cl : ℕ → Bool → State → Bool) → Right cl → 1 ≤ P → (v : List Bool) → Means v (decode I cl 0 false S v)
-  unfolding reach lit
+  pub decode-means : (cl : ℕ → State → Bool) → Right cl → 1 ≤ P → (v : List Bool) → Means v (decode I cl 0 S v)
+  unfolding reach
   decode-means cl rt h v = decode-from cl rt v [] v refl (first-one h)
-
-  abbrev pub Taken : Out → Type 0
-  Taken (here s) = Unit {0}
-  Taken (no12 n) = ⊥
-  Taken (no13 n) = ⊥
-
-  -- DEMAND 2 (iii), WHOLE: accepted exactly if some array of P planes has a stream that begins so
-  pub accepted-iff : (cl : ℕ → Bool → State → Bool) → Right cl → 1 ≤ P → (v : List Bool) → (Taken (decode I cl 0 false S v) → Some v) × (Some v → Taken (decode I cl 0 false S v))
-  accepted-iff cl rt h v = (go1 (decode I cl 0 false S v) (decode-means cl rt h v), go2 (decode I cl 0 false S v) (decode-means cl rt h v))
-    where
-      go1 : (o : Out) → Means v o → Taken o → Some v
-      go1 (here s) m t = m .1
-      go1 (no12 n) m t = absurd t
-      go1 (no13 n) m t = absurd t
-
-      cut : (u : List Bool) (a : Bool) (r : List Bool) → v ≡ u ++ (a ∷ r) → Some v → Some (u ++ (a ∷ []))
-      cut u a r e w = (w .0, w .1, fit-prefix N (w .0) S (u ++ (a ∷ [])) r (subst (λ (x : List Bool). Starts (w .0) x) (e ∙ sym (app-assoc u a r)) (w .2)))
-
-      go2 : (o : Out) → Means v o → Some v → Taken o
-      go2 (here s) m w = tt
-      go2 (no12 n) m w = m .6 (cut (m .0) (m .1) (m .2) (m .3) w)
-      go2 (no13 n) m w = refused13 (m .0) (m .1) (m .6) (cut (m .0) (m .1) (m .2) (m .3) w)

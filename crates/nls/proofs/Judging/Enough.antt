@@ -1,23 +1,22 @@
--- REFUSAL 12, the other half: where there is no clash, clearing the question leaves every set that was answered 1 a member.
+-- Refusal 12, the other half: where there is no clash, clearing the question leaves every set that was answered 1 a member.
 use mathlib.Core.Path.{_≡_, refl, sym, ap, subst, _∙_}
-use mathlib.Core.Bool.{Bool, true, false, not, _&&_, _||_, true≢false, false≢true}
-use mathlib.Core.Logic.{_⊎_, inl, inr}
-use mathlib.Core.List.{List, [], _∷_, _++_}
-use Prim.Native.Nat.{ℕ, zero, suc, _+_, _*_, _-_, _/_, _%_, _^_, _≤_, _<_}
+use mathlib.Core.Bool.{Bool, true, false, true≢false}
+use mathlib.Core.List.{List}
+use Prim.Native.Nat.{ℕ, suc, _*_, _/_, _%_, _^_, _≤_, _<_}
 use native.Mathlib.Omega.{arith}
-use native.Mathlib.Decide.{decLt, ℕ-discrete}
-use lib.ListN.{length, getD, set, take}
-use lib.Dec.{ltb, eqb, lit<, lit≤}
-use Rattle.nls.specs.Scan.{Question, bitOf, signOf, inDesc, inGrand}
+use native.Mathlib.Decide.{decLt}
+use lib.ListN.{getD}
+use Rattle.nls.specs.Scan.{Question, bitOf, inDesc, inGrand}
+use Rattle.nls.proofs.Tiled.{Tiled}
 use Rattle.nls.proofs.Arrays.{Bits}
-use Rattle.nls.proofs.Machine.Table.{Cfg, alone, stands, Ok, alone-no, no-alone, stands-no, no-stands}
-use Rattle.nls.proofs.Machine.Cover.{Under, kid, far, Core, Preds, Sets, is-alone, is-D, is-G}
-use Rattle.nls.proofs.Machine.Steps.{Fam, preds, From}
-use Rattle.nls.proofs.Reading.Whole.{fam, Known, under-ge}
+use Rattle.nls.proofs.Machine.Table.{Cfg, alone, stands, Ok, alone-no, no-alone}
+use Rattle.nls.proofs.Machine.Cover.{Under, kid, far, is-alone, is-D, is-G}
+use Rattle.nls.proofs.Machine.Steps.{preds, From}
+use Rattle.nls.proofs.Reading.Told.{fam, under-ge}
 use Rattle.nls.proofs.Judging.Clash.{Clash, dead-D, dead-G, via}
 use Rattle.nls.proofs.Judging.Apart.{Cmp, same, over, below, cmp, grand-of}
 use Rattle.nls.proofs.Judging.Room.{Fresh, fresh-of, Spare, now, past, room-child, room-desc, room-grand, room-root}
-use Rattle.nls.proofs.Judging.Open.{InPix, InSets, InFine, G, FromK}
+use Rattle.nls.proofs.Judging.Open.{InPix, InSets, InFine}
 
 pub under-trans : (h g j : ℕ) → Under h g → Under g j → Under h j
 under-trans h g j u (kid e) = far (subst (λ (x : ℕ). Under h x) (sym e) u)
@@ -32,7 +31,11 @@ sibling : (h g g′ : ℕ) → g′ / 4 ≡ g / 4 → Under h g → Under h g′
 sibling h g g′ e (kid z) = kid (e ∙ z)
 sibling h g g′ e (far u) = far (subst (λ (x : ℕ). Under h x) (sym e) u)
 
-module _ (N D P : ℕ) (D-big : 4 ≤ D) (D-4 : D % 4 ≡ 0) (I-16 : 4 ^ N % 16 ≡ 0) (D-I : 4 * D ≤ 4 ^ N) where
+-- Some place of the question is open
+abbrev pub Open1 : ℕ → Bits → ℕ → (ℕ → Type 0) → Type 0
+Open1 N W b In = (j : ℕ) × (j < 4 ^ N) × In j × (W .has j b ≡ true)
+
+module _ (N : ℕ) {D : ℕ} (P : ℕ) (sz : Tiled D (4 ^ N)) where
   abbrev I : ℕ
   I = 4 ^ N
 
@@ -43,45 +46,41 @@ module _ (N D P : ℕ) (D-big : 4 ≤ D) (D-4 : D % 4 ≡ 0) (I-16 : 4 ^ N % 16 
     pub eG : (h x : ℕ) → O (inGrand h b) → Under h (x / 4) → In x → (j : ℕ) × (j < I) × Under h (j / 4) × (W .has j b ≡ true) × (In j → ⊥) × (1 ≤ h)
     pub eT : suc b ≡ P → (j : ℕ) × (j < I) × (W .has j b ≡ true) × (In j → ⊥)
 
-  -- Some place of the question is open
-  abbrev pub Open1 : Bits → ℕ → (ℕ → Type 0) → Type 0
-  Open1 W b In = (j : ℕ) × (j < I) × In j × (W .has j b ≡ true)
-
   -- what is inside a set that stands is not split
   module _ (c : Cfg) (o : Ok D I c) where
     pub whole-D : (g x : ℕ) → D ≤ 4 * g → c .sD g ≡ false → Under g x → c .sD x ≡ true → ⊥
     whole-D g x lo n w d = true≢false (sym d ∙ subst (λ (y : ℕ). c .sD y ≡ false) {x = 4 * x / 4} {y = x} (omega arith)
-        ((no-alone D I c (4 * x) (dead-D N D P D-big D-4 I-16 D-I c o g (4 * x) lo n (far {i = 4 * x} (subst (λ (y : ℕ). Under g y) {x = x} {y = 4 * x / 4} (omega arith) w)))) .1))
+        ((no-alone D I c (4 * x) (dead-D sz c o g (4 * x) lo n (far {i = 4 * x} (subst (λ (y : ℕ). Under g y) {x = x} {y = 4 * x / 4} (omega arith) w)))) .1))
 
     whole-G : (q x : ℕ) → D ≤ 4 * q → c .sG q ≡ false → Under q x → c .sD x ≡ true → ⊥
     whole-G q x lo n w d = true≢false (sym d ∙ subst (λ (y : ℕ). c .sD y ≡ false) {x = 4 * x / 4} {y = x} (omega arith)
-        ((no-alone D I c (4 * x) (dead-G N D P D-big D-4 I-16 D-I c o q (4 * x) lo n (subst (λ (y : ℕ). Under q y) {x = x} {y = 4 * x / 4} (omega arith) w))) .1))
+        ((no-alone D I c (4 * x) (dead-G sz c o q (4 * x) lo n (subst (λ (y : ℕ). Under q y) {x = x} {y = 4 * x / 4} (omega arith) w))) .1))
 
   module _ (W k : Bits) (vv : Bool) (O : Question → Type 0) (k⊑W : (j e : ℕ) → k .has j e ≡ true → W .has j e ≡ true) (cap : (j e : ℕ) → W .has j e ≡ true → e < P)
       (b t : ℕ) (m : List ℕ) (c : Cfg) (ti : t < I) where
     -- the pixel pass
-    module _ (p : InPix N D P D-big D-4 I-16 D-I W vv (preds (fam N D P D-big D-4 I-16 W k) b) k W O b t c m) (mk : getD m t 0 ≡ 1) where
+    module _ (p : InPix N P sz W vv (preds (fam N W k) b) k W O b t c m) (mk : getD m t 0 ≡ 1) where
       it-p : (alone D I c t ≡ true) × (c .al t ≡ getD m t 0)
-      it-p = is-alone D I D-big D-4 I-16 c m (p .g .core) t ti (omega (arith, mk)) (omega (arith, mk))
+      it-p = is-alone sz c m (p .g .core) t ti (omega (arith, mk)) (omega (arith, mk))
 
       pub enough-pix : Enough W O b (λ j. j ≡ t)
       enough-pix = record {
         eO = λ j hj o e. omega (arith, it-p .1, mk, p .g .more .zs t ti (b, subst (λ (x : ℕ). k .has x b ≡ true) e ((p .de .oO j b o) .0)));
         eD = λ h x o u e. absurd (omega (arith, (p .de .oD h b o) .1));
         eG = λ h x o u e. absurd (omega (arith, (p .de .oG h b o) .1));
-        eT = λ e. (D, omega arith, p .fr .todo D (omega arith) (λ l u z. true≢false (sym ((is-alone D I D-big D-4 I-16 c m (p .g .core) D (omega arith) l (omega (arith, u))) .0) ∙ alone-no D I c D (omega arith) (p .np e (D / 4)))), λ q. low e q (alone D I c t) refl);
+        eT = λ e. (D, omega arith, p .fr .todo D (omega arith) (λ l u z. true≢false (sym ((is-alone sz c m (p .g .core) D (omega arith) l (omega (arith, u))) .0) ∙ alone-no D I c D (omega arith) (p .np e (D / 4)))), λ q. low e q (alone D I c t) refl);
       }
         where
           low : suc b ≡ P → D ≡ t → (x : Bool) → alone D I c t ≡ x → ⊥
           low e q x z = true≢false (sym (it-p .0) ∙ alone-no D I c t (omega arith) (p .np e (t / 4)))
 
-      pub open-pix : Open1 W b (λ j. j ≡ t)
+      pub open-pix : Open1 N W b (λ j. j ≡ t)
       open-pix = (t, ti, refl, p .fr .todo t ti (λ l u z. omega arith))
 
     -- the refinement pass
-    module _ (p : InFine N D P D-big D-4 I-16 D-I W vv (preds (fam N D P D-big D-4 I-16 W k) b) k W O b t c m) (mk : getD m t 0 ≡ 3) where
+    module _ (p : InFine N P sz W vv (preds (fam N W k) b) k W O b t c m) (mk : getD m t 0 ≡ 3) where
       it-f : (alone D I c t ≡ true) × (c .al t ≡ getD m t 0)
-      it-f = is-alone D I D-big D-4 I-16 c m (p .g .core) t ti (omega (arith, mk)) (omega (arith, mk))
+      it-f = is-alone sz c m (p .g .core) t ti (omega (arith, mk)) (omega (arith, mk))
 
       was : (e : ℕ) × (b < e) × (k .has t e ≡ true)
       was = p .fr .m3u t ti (omega arith) mk
@@ -94,31 +93,31 @@ module _ (N D P : ℕ) (D-big : 4 ≤ D) (D-4 : D % 4 ≡ 0) (I-16 : 4 ^ N % 16 
         eT = λ e. absurd (omega (arith, was .1, cap t (was .0) (k⊑W t (was .0) (was .2))));
       }
 
-      pub open-fine : Open1 W b (λ j. j ≡ t)
+      pub open-fine : Open1 N W b (λ j. j ≡ t)
       open-fine = (t, ti, refl, p .ho .op t (it-f .0) (it-f .1 ∙ mk) (omega arith))
 
     -- the set pass
-    module _ (above : From D I D-big D-4 I-16 P (fam N D P D-big D-4 I-16 W k) (suc b)) (p : InSets N D P D-big D-4 I-16 D-I W vv (preds (fam N D P D-big D-4 I-16 W k) b) k W O b t c m) where
-      fs : Fresh N D P D-big D-4 I-16 D-I W k b t c
-      fs = fresh-of N D P D-big D-4 I-16 D-I W k b t c m ti (p .g .core) (p .fr)
+    module _ (above : From sz P (fam N W k) (suc b)) (p : InSets N P sz W vv (preds (fam N W k) b) k W O b t c m) where
+      fs : Fresh sz W k b t c
+      fs = fresh-of sz W k b t c m ti (p .g .core) (p .fr)
 
       -- a spare place that lies in every set round the question
-      useD : (Sp In : ℕ → Type 0) → Spare N D P D-big D-4 I-16 D-I W k b Sp → ((j : ℕ) → Sp j → In j → ⊥) → (h : ℕ) → O (inDesc h b) → ((j : ℕ) → Sp j → Under h j) → (j : ℕ) × (j < I) × Under h j × (W .has j b ≡ true) × (In j → ⊥) × (1 ≤ h)
+      useD : (Sp In : ℕ → Type 0) → Spare sz W k b Sp → ((j : ℕ) → Sp j → In j → ⊥) → (h : ℕ) → O (inDesc h b) → ((j : ℕ) → Sp j → Under h j) → (j : ℕ) × (j < I) × Under h j × (W .has j b ≡ true) × (In j → ⊥) × (1 ≤ h)
       useD Sp In (now j hj s w) n h o f = (j, hj, f j s, w, n j s, omega (arith, p .g .core .ok .lo h ((p .de .oD h b o) .0)))
       useD Sp In (past j e hj s l w) n h o f = absurd (omega (arith, l, (p .de .oD h b o) .2 j e hj (f j s) w))
 
-      useG : (Sp In : ℕ → Type 0) → Spare N D P D-big D-4 I-16 D-I W k b Sp → ((j : ℕ) → Sp j → In j → ⊥) → (h : ℕ) → O (inGrand h b) → ((j : ℕ) → Sp j → Under h (j / 4)) → (j : ℕ) × (j < I) × Under h (j / 4) × (W .has j b ≡ true) × (In j → ⊥) × (1 ≤ h)
+      useG : (Sp In : ℕ → Type 0) → Spare sz W k b Sp → ((j : ℕ) → Sp j → In j → ⊥) → (h : ℕ) → O (inGrand h b) → ((j : ℕ) → Sp j → Under h (j / 4)) → (j : ℕ) × (j < I) × Under h (j / 4) × (W .has j b ≡ true) × (In j → ⊥) × (1 ≤ h)
       useG Sp In (now j hj s w) n h o f = (j, hj, f j s, w, n j s, omega (arith, p .g .core .ok .lo h (p .g .core .ok .gd h ((p .de .oG h b o) .0))))
       useG Sp In (past j e hj s l w) n h o f = absurd (omega (arith, l, (p .de .oG h b o) .2 j e hj (f j s) w))
 
-      useT : (Sp In : ℕ → Type 0) → Spare N D P D-big D-4 I-16 D-I W k b Sp → ((j : ℕ) → Sp j → In j → ⊥) → suc b ≡ P → (j : ℕ) × (j < I) × (W .has j b ≡ true) × (In j → ⊥)
+      useT : (Sp In : ℕ → Type 0) → Spare sz W k b Sp → ((j : ℕ) → Sp j → In j → ⊥) → suc b ≡ P → (j : ℕ) × (j < I) × (W .has j b ≡ true) × (In j → ⊥)
       useT Sp In (now j hj s w) n e = (j, hj, w, n j s)
       useT Sp In (past j x hj s l w) n e = absurd (omega (arith, l, cap j x (k⊑W j x w)))
 
       -- MCP
       module _ (mk : getD m t 0 ≡ 4) where
         it-c : (alone D I c t ≡ true) × (c .al t ≡ getD m t 0)
-        it-c = is-alone D I D-big D-4 I-16 c m (p .g .core) t ti (omega (arith, mk)) (omega (arith, mk))
+        it-c = is-alone sz c m (p .g .core) t ti (omega (arith, mk)) (omega (arith, mk))
 
         abbrev SpC : ℕ → Type 0
         SpC j = Under (t / 4) j × (j ≡ t → ⊥)
@@ -131,20 +130,20 @@ module _ (N D P : ℕ) (D-big : 4 ≤ D) (D-4 : D % 4 ≡ 0) (I-16 : 4 ^ N % 16 
           eT = useT SpC (λ j. j ≡ t) sp (λ j s q. s .1 q);
         }
           where
-            sp : Spare N D P D-big D-4 I-16 D-I W k b SpC
-            sp = room-child N D P D-big D-4 I-16 D-I W k k⊑W cap b t m c ti above (p .g) fs mk n
+            sp : Spare sz W k b SpC
+            sp = room-child N P sz W k k⊑W cap b t m c ti above (p .g) fs mk n
 
             inD : (h j : ℕ) → Under h t → Under (t / 4) j → Under h j
             inD h j (kid z) v = subst (λ (y : ℕ). Under y j) z v
             inD h j (far u) v = under-trans h (t / 4) j u v
 
-        pub open-C : Open1 W b (λ j. j ≡ t)
+        pub open-C : Open1 N W b (λ j. j ≡ t)
         open-C = (t, ti, refl, p .fr .f4 t ti mk)
 
       -- MD
       module _ (mk : getD m t 0 ≡ 5) where
         is-d : (t % 4 ≡ 0) × (stands D I c (t / 4) ≡ true) × (c .sD (t / 4) ≡ false) × (D ≤ t)
-        is-d = is-D D I D-big D-4 I-16 c m (p .g .core) t ti mk
+        is-d = is-D sz c m (p .g .core) t ti mk
 
         lo-d : D ≤ 4 * (t / 4)
         lo-d = omega (arith, is-d .0, is-d .3)
@@ -169,10 +168,10 @@ module _ (N D P : ℕ) (D-big : 4 ≤ D) (D-4 : D % 4 ≡ 0) (I-16 : 4 ^ N % 16 
         }
           where
             known : (j : ℕ) → O (bitOf j b) → Under (t / 4) j → j < I → ⊥
-            known j o u hj = true≢false (sym ((p .g .more .zs j hj (b, (p .de .oO j b o) .0)) .0) ∙ dead-D N D P D-big D-4 I-16 D-I c (p .g .core .ok) (t / 4) j lo-d (is-d .2) u)
+            known j o u hj = true≢false (sym ((p .g .more .zs j hj (b, (p .de .oO j b o) .0)) .0) ∙ dead-D sz c (p .g .core .ok) (t / 4) j lo-d (is-d .2) u)
 
-            sp : 4 * D ≤ t → Spare N D P D-big D-4 I-16 D-I W k b SpD
-            sp h = room-desc N D P D-big D-4 I-16 D-I W k k⊑W cap b t m c ti above (p .g) fs mk h n
+            sp : 4 * D ≤ t → Spare sz W k b SpD
+            sp h = room-desc N P sz W k k⊑W cap b t m c ti above (p .g) fs mk h n
 
             doD : (h x : ℕ) → O (inDesc h b) → Under h x → Under (t / 4) x → Cmp h (t / 4) → (j : ℕ) × (j < I) × Under h j × (W .has j b ≡ true) × (Under (t / 4) j → ⊥) × (1 ≤ h)
             doD h x o u v (same e) = absurd (true≢false (sym ((p .de .oD h b o) .0) ∙ subst (λ (y : ℕ). c .sD y ≡ false) (sym e) (is-d .2)))
@@ -200,16 +199,16 @@ module _ (N D P : ℕ) (D-big : 4 ≤ D) (D-4 : D % 4 ≡ 0) (I-16 : 4 ^ N % 16 
                 at (below (far w)) = absurd (whole-D c (p .g .core .ok) (t / 4) h lo-d (is-d .2) (subst (λ (y : ℕ). Under (t / 4) y) e w) sd)
 
             doT : suc b ≡ P → Dec (t < 4 * D) → (j : ℕ) × (j < I) × (W .has j b ≡ true) × (Under (t / 4) j → ⊥)
-            doT e (yes z) = room-root N D P D-big D-4 I-16 D-I W k k⊑W cap b t m c ti above (p .g) fs mk z e n
+            doT e (yes z) = room-root N P sz W k k⊑W cap b t m c ti above (p .g) fs mk z e n
             doT e (no z) = useT SpD (λ j. Under (t / 4) j) (sp (omega arith)) (out-d (omega arith)) e
 
-        pub open-D : Open1 W b (λ j. Under (t / 4) j)
+        pub open-D : Open1 N W b (λ j. Under (t / 4) j)
         open-D = (t, ti, kid refl, p .fr .fD t ti (omega arith) mk t ti (kid refl))
 
       -- MG
       module _ (mk : getD m t 0 ≡ 6) where
         is-g : (t ≡ 16 * (t / 16)) × (c .sD (t / 16) ≡ true) × (c .sG (t / 16) ≡ false) × (D ≤ 4 * (t / 16)) × (alone D I c t ≡ false)
-        is-g = is-G D I D-big D-4 I-16 c m (p .g .core) t ti mk
+        is-g = is-G sz c m (p .g .core) t ti mk
 
         abbrev SpG : ℕ → Type 0
         SpG j = j / 4 ≡ t / 16
@@ -226,10 +225,10 @@ module _ (N D P : ℕ) (D-big : 4 ≤ D) (D-4 : D % 4 ≡ 0) (I-16 : 4 ^ N % 16 
         }
           where
             known : (j : ℕ) → O (bitOf j b) → Under (t / 16) (j / 4) → j < I → ⊥
-            known j o u hj = true≢false (sym ((p .g .more .zs j hj (b, (p .de .oO j b o) .0)) .0) ∙ dead-G N D P D-big D-4 I-16 D-I c (p .g .core .ok) (t / 16) j (is-g .3) (is-g .2) u)
+            known j o u hj = true≢false (sym ((p .g .more .zs j hj (b, (p .de .oO j b o) .0)) .0) ∙ dead-G sz c (p .g .core .ok) (t / 16) j (is-g .3) (is-g .2) u)
 
-            sp : Spare N D P D-big D-4 I-16 D-I W k b SpG
-            sp = room-grand N D P D-big D-4 I-16 D-I W k k⊑W cap b t m c ti above (p .g) fs mk n
+            sp : Spare sz W k b SpG
+            sp = room-grand N P sz W k k⊑W cap b t m c ti above (p .g) fs mk n
 
             doD : (h x : ℕ) → O (inDesc h b) → Under h x → Under (t / 16) (x / 4) → (j : ℕ) × (j < I) × Under h j × (W .has j b ≡ true) × (Under (t / 16) (j / 4) → ⊥) × (1 ≤ h)
             doD h x o (kid z) v = absurd (whole-G c (p .g .core .ok) (t / 16) h (is-g .3) (is-g .2) (subst (λ (y : ℕ). Under (t / 16) y) z v) ((p .de .oD h b o) .0))
@@ -245,5 +244,5 @@ module _ (N D P : ℕ) (D-big : 4 ≤ D) (D-4 : D % 4 ≡ 0) (I-16 : 4 ^ N % 16 
             doG h x o (over w) = useG SpG (λ j. Under (t / 16) (j / 4)) sp out-g h o (λ j s. subst (λ (y : ℕ). Under h y) (sym s) w)
             doG h x o (below w) = absurd (whole-G c (p .g .core .ok) (t / 16) h (is-g .3) (is-g .2) w (p .g .core .ok .gd h ((p .de .oG h b o) .0)))
 
-        pub open-G : Open1 W b (λ j. Under (t / 16) (j / 4))
+        pub open-G : Open1 N W b (λ j. Under (t / 16) (j / 4))
         open-G = (t, ti, kid {i = t / 4} (omega arith), p .fr .fG t ti (omega arith) mk t ti (kid {i = t / 4} (omega arith)))

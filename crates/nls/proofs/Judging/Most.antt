@@ -1,27 +1,19 @@
--- The greatest array that a run of answers allows. Nothing here looks at marks: it holds of any machine that asks.
+-- The greatest array that a run of answers allows.
 use mathlib.Core.Path.{_≡_, refl, sym, ap, subst, _∙_}
-use mathlib.Core.Bool.{Bool, true, false, not, _&&_, _||_, true≢false, false≢true}
+use mathlib.Core.Bool.{Bool, true, false, not, _&&_, true≢false, false≢true}
 use mathlib.Core.Option.{Option, none, some}
-use mathlib.Core.Logic.{_⊎_, inl, inr}
-use mathlib.Core.List.{List, [], _∷_, _++_}
-use Prim.Native.Nat.{ℕ, zero, suc, _+_, _*_, _-_, _/_, _%_, _^_, _≤_, _<_}
-use native.Mathlib.Omega.{arith}
+use mathlib.Core.List.{List, [], _∷_}
+use Prim.Native.Nat.{ℕ, _/_, _^_, _<_}
 use lib.Dec.{ltb, eqb}
-use borrow.Author.Tests.{eqb-true, eqb-false, eq-eqb, ltb-true, lt-ltb}
-use Rattle.nls.specs.Scan.{Question, bitOf, signOf, inDesc, inGrand}
-use Rattle.nls.proofs.Arrays.{below, any, Bits, inside, ans}
-
--- every bit of A is in B
-infixl 20 _⊑_
-unfoldable pub _⊑_ : Bits → Bits → Type 0
-_⊑_ A B = (i b : ℕ) → A .has i b ≡ true → B .has i b ≡ true
+use borrow.Author.Tests.{eqb-true, eq-eqb}
+use Rattle.sizes.proofs.Laws.{both-right}
+use Rattle.nls.specs.Scan.{Question, bitOf, signOf, inDesc, inGrand, State, ask, next}
+use Rattle.nls.proofs.Booleans.{not-true-false}
+use Rattle.nls.proofs.Arrays.{below, any, Bits, inside, ans, any-find, any-mono, sign, sign-self, sign-other, told, Fit, member, _⊑_}
 
 -- bit b goes at the places of q
 unfoldable pub clear : ℕ → Question → ℕ → Bits → Bits
 clear N q b w = record { has = λ j c. not (inside N q j && eqb c b) && w .has j c; neg = w .neg }
-
-unfoldable pub sign : ℕ → Bool → Bits → Bits
-sign i a w = record { has = w .has; neg = λ j. elim (eqb j i) [ true ↦ a | false ↦ w .neg j ] }
 
 -- what is left of the greatest array after an answer
 unfoldable pub after : ℕ → Question → Bool → Bits → Bits
@@ -34,83 +26,13 @@ after N (inDesc g b) false w = clear N (inDesc g b) b w
 after N (inGrand g b) true w = w
 after N (inGrand g b) false w = clear N (inGrand g b) b w
 
-pub and-l : (a b : Bool) → (a && b) ≡ true → a ≡ true
-and-l true b h = refl
-and-l false b h = h
-
-pub and-r : (a b : Bool) → (a && b) ≡ true → b ≡ true
-and-r true b h = h
-and-r false b h = absurd (false≢true h)
-
-pub and-i : (a b : Bool) → a ≡ true → b ≡ true → (a && b) ≡ true
-and-i true b h k = k
-and-i false b h k = h
-
-pub or-cases : (a b : Bool) → (a || b) ≡ true → (a ≡ true) ⊎ (b ≡ true)
-or-cases true b h = inl refl
-or-cases false b h = inr h
-
-pub or-l : (a b : Bool) → a ≡ true → (a || b) ≡ true
-or-l true b h = refl
-or-l false b h = absurd (false≢true h)
-
-pub or-r : (a b : Bool) → b ≡ true → (a || b) ≡ true
-or-r true b h = refl
-or-r false b h = h
-
-pub not-true-false : (a : Bool) → (a ≡ true → ⊥) → a ≡ false
-not-true-false true h = absurd (h refl)
-not-true-false false h = refl
-
-eqb-ne : (j n : ℕ) → eqb j n ≡ false → (j ≡ n → ⊥)
-eqb-ne j n q = eqb-false j n q
-
-pub any-some : (n : ℕ) (p : ℕ → Bool) (j : ℕ) → j < n → p j ≡ true → any n p ≡ true
-unfolding any
-any-some zero p j h e = absurd (omega arith)
-any-some (suc n) p j h e = go (eqb j n) refl (λ k. any-some n p j k e)
-  where
-    go : (t : Bool) → eqb j n ≡ t → (j < n → any n p ≡ true) → any (suc n) p ≡ true
-    go true q ih = or-l (p n) (any n p) (subst (λ (k : ℕ). p k ≡ true) (eqb-true j n q) e)
-    go false q ih = or-r (p n) (any n p) (ih (omega (arith, eqb-ne j n q)))
-
-pub any-find : (n : ℕ) (p : ℕ → Bool) → any n p ≡ true → (j : ℕ) × (j < n) × (p j ≡ true)
-unfolding any
-any-find zero p h = absurd (false≢true h)
-any-find (suc n) p h = go (or-cases (p n) (any n p) h) (any-find n p)
-  where
-    go : (p n ≡ true) ⊎ (any n p ≡ true) → (any n p ≡ true → (j : ℕ) × (j < n) × (p j ≡ true)) → (j : ℕ) × (j < suc n) × (p j ≡ true)
-    go (inl e) ih = (n, omega arith, e)
-    go (inr e) ih = let r : (j : ℕ) × (j < n) × (p j ≡ true) = ih e in (r .0, omega arith, r .2)
-
--- Answers grow with the array
-pub any-mono : (n : ℕ) (s p q : ℕ → Bool) → ((j : ℕ) → p j ≡ true → q j ≡ true) → any n (λ j. s j && p j) ≡ true → any n (λ j. s j && q j) ≡ true
-any-mono n s p q h e =
-    let r : (j : ℕ) × (j < n) × ((s j && p j) ≡ true) = any-find n (λ j. s j && p j) e in
-    any-some n (λ j. s j && q j) (r .0) (r .1) (and-i (s (r .0)) (q (r .0)) (and-l (s (r .0)) (p (r .0)) (r .2)) (h (r .0) (and-r (s (r .0)) (p (r .0)) (r .2))))
-
-pub sign-self : (i : ℕ) (a : Bool) (v : Bits) → (sign i a v) .neg i ≡ a
-unfolding sign
-sign-self i a v = pick (eqb i i) (eq-eqb i i refl)
-  where
-    pick : (t : Bool) → t ≡ true → (elim t as (λ _. Bool) [ true ↦ a | false ↦ v .neg i ]) ≡ a
-    pick true z = refl
-    pick false z = absurd (false≢true z)
-
-pub sign-other : (A k : Bits) (i : ℕ) (a : Bool) → A .neg i ≡ a → (j : ℕ) → k .neg j ≡ A .neg j → (sign i a k) .neg j ≡ A .neg j
-unfolding sign
-sign-other A k i a e j h = pick (eqb j i) refl
-  where
-    pick : (t : Bool) → eqb j i ≡ t → (elim t as (λ _. Bool) [ true ↦ a | false ↦ k .neg j ]) ≡ A .neg j
-    pick true z = sym e ∙ ap (λ (x : ℕ). A .neg x) (sym (eqb-true j i z))
-    pick false z = h
+-- a bit that is not about q at b stays
+pub stays : (x y v : Bool) → ((x ≡ true) → (y ≡ true) → ⊥) → v ≡ true → (not (x && y) && v) ≡ true
+stays true true v h e = absurd (h refl refl)
+stays true false v h e = e
+stays false y v h e = e
 
 module _ (N : ℕ) where
-  -- what A says to the question o, if there is one, is a
-  abbrev pub told : Bits → Option Question → Bool → Type 0
-  told A none a = ⊥
-  told A (some q) a = ans N A q ≡ a
-
   abbrev pub afterO : Option Question → Bool → Bits → Bits
   afterO none a w = w
   afterO (some q) a w = after N q a w
@@ -118,31 +40,19 @@ module _ (N : ℕ) where
   pub after-has : (q : Question) (a : Bool) (w : Bits) → after N q a w ⊑ w
   unfolding after clear sign _⊑_
   after-has (bitOf i b) true w j c h = h
-  after-has (bitOf i b) false w j c h = and-r (not (inside N (bitOf i b) j && eqb c b)) (w .has j c) h
+  after-has (bitOf i b) false w j c h = both-right (not (inside N (bitOf i b) j && eqb c b)) (w .has j c) h
   after-has (signOf i) true w j c h = h
   after-has (signOf i) false w j c h = h
   after-has (inDesc g b) true w j c h = h
-  after-has (inDesc g b) false w j c h = and-r (not (inside N (inDesc g b) j && eqb c b)) (w .has j c) h
+  after-has (inDesc g b) false w j c h = both-right (not (inside N (inDesc g b) j && eqb c b)) (w .has j c) h
   after-has (inGrand g b) true w j c h = h
-  after-has (inGrand g b) false w j c h = and-r (not (inside N (inGrand g b) j && eqb c b)) (w .has j c) h
-
-  -- A bit that is not about q at b stays
-  pub stays : (x y v : Bool) → ((x ≡ true) → (y ≡ true) → ⊥) → v ≡ true → (not (x && y) && v) ≡ true
-  stays true true v h e = absurd (h refl refl)
-  stays true false v h e = e
-  stays false y v h e = e
-
-  -- of a set: a member with bit b makes the answer 1
-  pub member : (s : ℕ → Bool) (A : Bits) (b j : ℕ) → (ltb j (4 ^ N) && s j) ≡ true → A .has j b ≡ true
-      → any (4 ^ N) (λ k. (ltb k (4 ^ N) && s k) && A .has k b) ≡ true
-  member s A b j m h = any-some (4 ^ N) (λ k. (ltb k (4 ^ N) && s k) && A .has k b) j
-      (ltb-true j (4 ^ N) (and-l (ltb j (4 ^ N)) (s j) m)) (and-i (ltb j (4 ^ N) && s j) (A .has j b) m h)
+  after-has (inGrand g b) false w j c h = both-right (not (inside N (inGrand g b) j && eqb c b)) (w .has j c) h
 
   set-keeps : (s : ℕ → Bool) (A w : Bits) (b : ℕ) → any (4 ^ N) (λ k. (ltb k (4 ^ N) && s k) && A .has k b) ≡ false
       → A ⊑ w → (j c : ℕ) → A .has j c ≡ true → (not ((ltb j (4 ^ N) && s j) && eqb c b) && w .has j c) ≡ true
   unfolding _⊑_
   set-keeps s A w b e l j c h = stays (ltb j (4 ^ N) && s j) (eqb c b) (w .has j c)
-      (λ m z. true≢false (sym (member s A b j m (subst (λ (k : ℕ). A .has j k ≡ true) (eqb-true c b z) h)) ∙ e)) (l j c h)
+      (λ m z. true≢false (sym (member N s A b j m (subst (λ (k : ℕ). A .has j k ≡ true) (eqb-true c b z) h)) ∙ e)) (l j c h)
 
   -- What A answers 0 to, A has none of: so A stays below
   after-keeps : (A w : Bits) (q : Question) (a : Bool) → ans N A q ≡ a → A ⊑ w → A ⊑ after N q a w
@@ -200,55 +110,49 @@ module _ (N : ℕ) where
   after-neg A w (signOf j) true e i h = sign-other A w j true e i h
   after-neg A w (signOf j) false e i h = sign-other A w j false e i h
 
-  module _ (S : Type 0) (ask : S → Option Question) (next : S → Bool → S) where
-    -- A's stream from s begins with u
-    abbrev pub Fits : Bits → S → List Bool → Type 0
-    Fits A s [] = Unit {0}
-    Fits A s (a ∷ u) = told A (ask s) a × Fits A (next s a) u
+  -- the greatest array below w that u allows
+  abbrev pub most : State → List Bool → Bits → Bits
+  most s [] w = w
+  most s (a ∷ u) w = most (next (4 ^ N) s a) u (afterO (ask (4 ^ N) s) a w)
 
-    -- the greatest array below w that u allows
-    abbrev pub most : S → List Bool → Bits → Bits
-    most s [] w = w
-    most s (a ∷ u) w = most (next s a) u (afterO (ask s) a w)
+  pub most-below : (s : State) (u : List Bool) (w : Bits) → most s u w ⊑ w
+  unfolding _⊑_
+  most-below s [] w i b h = h
+  most-below s (a ∷ u) w i b h = go (ask (4 ^ N) s) (most-below (next (4 ^ N) s a) u (afterO (ask (4 ^ N) s) a w) i b h)
+    where
+      go : (o : Option Question) → (afterO o a w) .has i b ≡ true → w .has i b ≡ true
+      go none k = k
+      go (some q) k = after-has q a w i b k
 
-    pub most-below : (s : S) (u : List Bool) (w : Bits) → most s u w ⊑ w
-    unfolding _⊑_
-    most-below s [] w i b h = h
-    most-below s (a ∷ u) w i b h = go (ask s) (most-below (next s a) u (afterO (ask s) a w) i b h)
-      where
-        go : (o : Option Question) → (afterO o a w) .has i b ≡ true → w .has i b ≡ true
-        go none k = k
-        go (some q) k = after-has q a w i b k
+  keepsO : (A w : Bits) (o : Option Question) (a : Bool) → told N A o a → A ⊑ w → A ⊑ afterO o a w
+  keepsO A w none a t l = l
+  keepsO A w (some q) a t l = after-keeps A w q a t l
 
-    keepsO : (A w : Bits) (o : Option Question) (a : Bool) → told A o a → A ⊑ w → A ⊑ afterO o a w
-    keepsO A w none a t l = l
-    keepsO A w (some q) a t l = after-keeps A w q a t l
+  negO : (A w : Bits) (o : Option Question) (a : Bool) → told N A o a → (i : ℕ) → w .neg i ≡ A .neg i → (afterO o a w) .neg i ≡ A .neg i
+  negO A w none a t i h = h
+  negO A w (some q) a t i h = after-neg A w q a t i h
 
-    negO : (A w : Bits) (o : Option Question) (a : Bool) → told A o a → (i : ℕ) → w .neg i ≡ A .neg i → (afterO o a w) .neg i ≡ A .neg i
-    negO A w none a t i h = h
-    negO A w (some q) a t i h = after-neg A w q a t i h
+  -- every array that fits lies below
+  pub most-keeps : (A : Bits) (s : State) (u : List Bool) (w : Bits) → Fit N A s u → A ⊑ w → A ⊑ most s u w
+  most-keeps A s [] w f l = l
+  most-keeps A s (a ∷ u) w f l = most-keeps A (next (4 ^ N) s a) u (afterO (ask (4 ^ N) s) a w) (f .1) (keepsO A w (ask (4 ^ N) s) a (f .0) l)
 
-    -- SOUND: every array that fits lies below
-    pub most-keeps : (A : Bits) (s : S) (u : List Bool) (w : Bits) → Fits A s u → A ⊑ w → A ⊑ most s u w
-    most-keeps A s [] w f l = l
-    most-keeps A s (a ∷ u) w f l = most-keeps A (next s a) u (afterO (ask s) a w) (f .1) (keepsO A w (ask s) a (f .0) l)
+  pub most-neg : (A : Bits) (s : State) (u : List Bool) (w : Bits) → Fit N A s u → (i : ℕ) → w .neg i ≡ A .neg i → (most s u w) .neg i ≡ A .neg i
+  most-neg A s [] w f i h = h
+  most-neg A s (a ∷ u) w f i h = most-neg A (next (4 ^ N) s a) u (afterO (ask (4 ^ N) s) a w) (f .1) i (negO A w (ask (4 ^ N) s) a (f .0) i h)
 
-    pub most-neg : (A : Bits) (s : S) (u : List Bool) (w : Bits) → Fits A s u → (i : ℕ) → w .neg i ≡ A .neg i → (most s u w) .neg i ≡ A .neg i
-    most-neg A s [] w f i h = h
-    most-neg A s (a ∷ u) w f i h = most-neg A (next s a) u (afterO (ask s) a w) (f .1) i (negO A w (ask s) a (f .0) i h)
+  answersO : (A w v : Bits) (o : Option Question) (a : Bool) → told N A o a → A ⊑ w → w ⊑ afterO o a v → ((i : ℕ) → (afterO o a v) .neg i ≡ A .neg i → w .neg i ≡ A .neg i) → told N w o a
+  answersO A w v none a t l k n = t
+  answersO A w v (some q) a t l k n = answers A w v q a t l k n
 
-    answersO : (A w v : Bits) (o : Option Question) (a : Bool) → told A o a → A ⊑ w → w ⊑ afterO o a v → ((i : ℕ) → (afterO o a v) .neg i ≡ A .neg i → w .neg i ≡ A .neg i) → told w o a
-    answersO A w v none a t l k n = t
-    answersO A w v (some q) a t l k n = answers A w v q a t l k n
-
-    -- COMPLETE: if any array fits, the greatest does
-    pub most-fits : (A : Bits) (s : S) (u : List Bool) (w : Bits) → Fits A s u → A ⊑ w → Fits (most s u w) s u
-    most-fits A s [] w f l = tt
-    most-fits A s (a ∷ u) w f l =
-        let l′ : A ⊑ afterO (ask s) a w = keepsO A w (ask s) a (f .0) l in (
-          answersO A (most (next s a) u (afterO (ask s) a w)) w (ask s) a (f .0)
-              (most-keeps A (next s a) u (afterO (ask s) a w) (f .1) l′)
-              (most-below (next s a) u (afterO (ask s) a w))
-              (most-neg A (next s a) u (afterO (ask s) a w) (f .1)),
-          most-fits A (next s a) u (afterO (ask s) a w) (f .1) l′,
-        )
+  -- if any array fits, the greatest does
+  pub most-fits : (A : Bits) (s : State) (u : List Bool) (w : Bits) → Fit N A s u → A ⊑ w → Fit N (most s u w) s u
+  most-fits A s [] w f l = tt
+  most-fits A s (a ∷ u) w f l =
+      let l′ : A ⊑ afterO (ask (4 ^ N) s) a w = keepsO A w (ask (4 ^ N) s) a (f .0) l in (
+        answersO A (most (next (4 ^ N) s a) u (afterO (ask (4 ^ N) s) a w)) w (ask (4 ^ N) s) a (f .0)
+            (most-keeps A (next (4 ^ N) s a) u (afterO (ask (4 ^ N) s) a w) (f .1) l′)
+            (most-below (next (4 ^ N) s a) u (afterO (ask (4 ^ N) s) a w))
+            (most-neg A (next (4 ^ N) s a) u (afterO (ask (4 ^ N) s) a w) (f .1)),
+        most-fits A (next (4 ^ N) s a) u (afterO (ask (4 ^ N) s) a w) (f .1) l′,
+      )

@@ -1,95 +1,28 @@
--- MAGNITUDES AS NUMBERS: arrays of numbers below 2^P and arrays of bits are the same, so what is proved of bits holds of numbers.
-use mathlib.Core.Path.{_≡_, refl, sym, ap, subst, _∙_}
-use mathlib.Core.Bool.{Bool, true, false, not, _&&_, _||_, true≢false, false≢true}
-use mathlib.Core.Logic.{_⊎_, inl, inr}
+-- Magnitudes as numbers: arrays of numbers below 2^P and arrays of bits are the same, so what is proved of bits holds of numbers.
+use mathlib.Core.Path.{_≡_, sym, subst, _∙_}
+use mathlib.Core.Bool.{Bool, true, true≢false}
 use mathlib.Core.Option.{Option, none, some}
-use mathlib.Core.List.{List, [], _∷_, _++_}
-use Prim.Native.Nat.{ℕ, zero, suc, _+_, _*_, _-_, _/_, _%_, _^_, _≤_, _<_}
+use mathlib.Core.List.{List, [], _∷_}
+use Prim.Native.Nat.{ℕ, suc, _^_, _≤_, _<_, _-_}
 use native.Mathlib.Omega.{arith}
-use native.Mathlib.Nat.{pow-suc, zero-div, div-one, div-eq-of-lt-le}
-use native.Mathlib.Decide.{decLt, ℕ-discrete}
-use lib.Pow.{shr-shr}
-use lib.Dec.{ltb, eqb, lit<, lit≤}
-use borrow.Author.Tests.{eqb-true, eqb-false, eq-eqb, ne-eqb}
-use Rattle.bits.specs.Bits.{bit}
-use Rattle.nls.specs.Marks.{startMarks}
-use Rattle.nls.specs.Scan.{State, Question, bitOf, signOf, inDesc, inGrand, ask, next, reach, start}
-use Rattle.nls.proofs.Arrays.{Arr, Bits, bits-of, ans, inside, any}
-use Rattle.nls.proofs.Judging.Most.{told, Fits, any-mono, not-true-false}
+use native.Mathlib.Decide.{decLt}
+use Rattle.bits.specs.Bits.{bit, number}
+use Rattle.bits.proofs.Laws.{bit-high, bit-top, number-lt, number-bit}
+use Rattle.nls.specs.Scan.{Question, bitOf, signOf, inDesc, inGrand, ask, next, State}
+use Rattle.nls.proofs.Booleans.{not-true-false, same-bool}
+use Rattle.nls.proofs.Arrays.{Arr, Bits, bits-of, ans, inside, told, any-mono, Fit}
 use Rattle.nls.proofs.Judging.Clash.{Valid}
-use Rattle.nls.proofs.Reading.Prefix.{agree}
-
-pub bit-0 : (x : ℕ) → bit x 0 ≡ eqb (x % 2) 1
-unfolding bit
-bit-0 x = ap (λ (y : ℕ). eqb (y % 2) 1) (div-one x)
-
-pub bit-suc : (x b : ℕ) → bit x (suc b) ≡ bit (x / 2) b
-unfolding bit
-bit-suc x b = ap (λ (y : ℕ). eqb (y % 2) 1) (ap (λ (e : ℕ). x / 2 ^ e) {x = suc b} {y = 1 + b} (omega arith) ∙ sym (shr-shr x 1 b))
-
-abbrev pub b2n : Bool → ℕ
-b2n true = 1
-b2n false = 0
 
 -- the number whose bits below n are f
 abbrev pub num : ℕ → (ℕ → Bool) → ℕ
-num zero f = 0
-num (suc n) f = b2n (f 0) + 2 * num n (λ b. f (suc b))
+num n f = number n (λ k. f (n - 1 - k))
 
-b2n-le : (x : Bool) → b2n x ≤ 1
-b2n-le true = lit≤ tt
-b2n-le false = omega arith
+num-lt : (n : ℕ) (f : ℕ → Bool) → num n f < 2 ^ n
+num-lt n f = number-lt n (λ k. f (n - 1 - k))
 
-b2n-eqb : (x : Bool) (r : ℕ) → eqb ((b2n x + 2 * r) % 2) 1 ≡ x
-b2n-eqb true r = eq-eqb ((1 + 2 * r) % 2) 1 (omega arith)
-b2n-eqb false r = ne-eqb ((0 + 2 * r) % 2) 1 (λ e. omega arith)
-
-pub num-lt : (n : ℕ) (f : ℕ → Bool) → num n f < 2 ^ n
-num-lt zero f = lit< tt
-num-lt (suc n) f = omega (arith, num-lt n (λ b. f (suc b)), b2n-le (f 0), pow-suc 2 n)
-
-pub num-bit : (n : ℕ) (f : ℕ → Bool) (b : ℕ) → b < n → bit (num n f) b ≡ f b
-num-bit zero f b h = absurd (omega arith)
-num-bit (suc n) f zero h = bit-0 (num (suc n) f) ∙ b2n-eqb (f 0) (num n (λ b. f (suc b)))
-num-bit (suc n) f (suc b) h = bit-suc (num (suc n) f) b ∙ ap (λ (x : ℕ). bit x b) {x = num (suc n) f / 2} {y = num n (λ b. f (suc b))} (omega (arith, b2n-le (f 0))) ∙ num-bit n (λ b. f (suc b)) b (omega arith)
-
-zero-bit : (b : ℕ) → bit 0 b ≡ false
-unfolding bit
-zero-bit b = ap (λ (y : ℕ). eqb (y % 2) 1) (zero-div (2 ^ b))
-
-pub bit-hi : (n x b : ℕ) → x < 2 ^ n → n ≤ b → bit x b ≡ false
-bit-hi zero x b h k = ap (λ (y : ℕ). bit y b) {x = x} {y = 0} (omega (arith, h)) ∙ zero-bit b
-bit-hi (suc n) x zero h k = absurd (omega arith)
-bit-hi (suc n) x (suc b) h k = bit-suc x b ∙ bit-hi n (x / 2) b (omega (arith, h, pow-suc 2 n)) (omega arith)
-
-low-eq : (x y : ℕ) → eqb (x % 2) 1 ≡ eqb (y % 2) 1 → x % 2 ≡ y % 2
-low-eq x y e = go (ℕ-discrete (x % 2) 1) (ℕ-discrete (y % 2) 1)
-  where
-    go : Dec (x % 2 ≡ 1) → Dec (y % 2 ≡ 1) → x % 2 ≡ y % 2
-    go (yes a) (yes b) = a ∙ sym b
-    go (no a) (no b) = omega arith
-    go (yes a) (no b) = absurd (true≢false (sym (eq-eqb _ _ a) ∙ e ∙ ne-eqb _ _ b))
-    go (no a) (yes b) = absurd (true≢false (sym (eq-eqb _ _ b) ∙ sym e ∙ ne-eqb _ _ a))
-
--- equal bits, equal numbers
-pub eq-bits : (n x y : ℕ) → x < 2 ^ n → y < 2 ^ n → ((b : ℕ) → b < n → bit x b ≡ bit y b) → x ≡ y
-eq-bits zero x y h k f = omega (arith, h, k)
-eq-bits (suc n) x y h k f =
-    omega (
-      arith,
-      low-eq x y (sym (bit-0 x) ∙ f 0 (omega arith) ∙ bit-0 y),
-      eq-bits n (x / 2) (y / 2) (omega (arith, h, pow-suc 2 n)) (omega (arith, k, pow-suc 2 n)) (λ b l. sym (bit-suc x b) ∙ f (suc b) (omega arith) ∙ bit-suc y b),
-    )
-
--- equal bits from k on, equal high parts
-pub eq-high : (k n x y : ℕ) → x < 2 ^ n → y < 2 ^ n → ((b : ℕ) → k ≤ b → b < n → bit x b ≡ bit y b) → x / 2 ^ k ≡ y / 2 ^ k
-eq-high zero n x y h j f = ap (λ (z : ℕ). z / 2 ^ 0) (eq-bits n x y h j (λ b l. f b (omega arith) l))
-eq-high (suc k) zero x y h j f = ap (λ (z : ℕ). z / 2 ^ suc k) {x = x} {y = y} (omega (arith, h, j))
-eq-high (suc k) (suc n) x y h j f =
-    half x ∙ eq-high k n (x / 2) (y / 2) (omega (arith, h, pow-suc 2 n)) (omega (arith, j, pow-suc 2 n)) (λ b l u. sym (bit-suc x b) ∙ f (suc b) (omega arith) (omega arith) ∙ bit-suc y b) ∙ sym (half y)
-  where
-    half : (z : ℕ) → z / 2 ^ suc k ≡ z / 2 / 2 ^ k
-    half z = ap (λ (e : ℕ). z / 2 ^ e) {x = suc k} {y = 1 + k} (omega arith) ∙ sym (shr-shr z 1 k)
+num-bit : (n : ℕ) (f : ℕ → Bool) (b : ℕ) → b < n → bit (num n f) b ≡ f b
+num-bit n f b h =
+    subst (λ (x : ℕ). bit (num n f) x ≡ f x) {x = n - 1 - (n - 1 - b)} {y = b} (omega arith) (number-bit n (λ k. f (n - 1 - k)) (n - 1 - b) (omega arith))
 
 -- An array of numbers with P planes: P is the least with every magnitude below 2^P
 pub record Planes (I P : ℕ) (A : Arr) : Type 0 where
@@ -97,14 +30,11 @@ pub record Planes (I P : ℕ) (A : Arr) : Type 0 where
   pub least : (j : ℕ) × (b : ℕ) × (j < I) × (suc b ≡ P) × (2 ^ b ≤ A .mag j)
 
 pub valid-of : (I P : ℕ) (A : Arr) → Planes I P A → Valid I P (bits-of A)
-valid-of I P A p = record { cap = λ j e h. cap′ j e h (decLt e P); top = (p .least .0, p .least .1, p .least .2, p .least .3, top′ (p .least .1) (A .mag (p .least .0)) (p .least .4) (subst (λ (x : ℕ). A .mag (p .least .0) < 2 ^ x) (sym (p .least .3)) (p .under (p .least .0)))) }
+valid-of I P A p = record { cap = λ j e h. cap′ j e h (decLt e P); top = (p .least .0, p .least .1, p .least .2, p .least .3, bit-top (A .mag (p .least .0)) (p .least .1) (p .least .4) (subst (λ (x : ℕ). A .mag (p .least .0) < 2 ^ x) (sym (p .least .3)) (p .under (p .least .0)))) }
   where
     cap′ : (j e : ℕ) → bit (A .mag j) e ≡ true → Dec (e < P) → e < P
     cap′ j e h (yes z) = z
-    cap′ j e h (no z) = absurd (true≢false (sym h ∙ bit-hi P (A .mag j) e (p .under j) (omega arith)))
-
-    top′ : (b x : ℕ) → 2 ^ b ≤ x → x < 2 ^ suc b → bit x b ≡ true
-    top′ b x h k = unfold bit in ap (λ (y : ℕ). eqb (y % 2) 1) (div-eq-of-lt-le {k = 1} (2 ^ b) {m = x} (omega (arith, h)) (omega (arith, k, pow-suc 2 b)))
+    cap′ j e h (no z) = absurd (true≢false (sym h ∙ bit-high P (A .mag j) e (p .under j) (omega arith)))
 
 -- the array of numbers with the bits of B
 abbrev pub arr-of : ℕ → Bits → Arr
@@ -115,53 +45,27 @@ arr-has I P B v j e = go (decLt e P)
   where
     go : Dec (e < P) → bit (num P (B .has j)) e ≡ B .has j e
     go (yes z) = num-bit P (B .has j) e z
-    go (no z) = bit-hi P (num P (B .has j)) e (num-lt P (B .has j)) (omega arith) ∙ sym (not-true-false (B .has j e) (λ h. z (v .cap j e h)))
+    go (no z) = bit-high P (num P (B .has j)) e (num-lt P (B .has j)) (omega arith) ∙ sym (not-true-false (B .has j e) (λ h. z (v .cap j e h)))
 
 pub planes-of : (I P : ℕ) (B : Bits) → Valid I P B → Planes I P (arr-of P B)
 planes-of I P B v = record { under = λ j. num-lt P (B .has j); least = (v .top .0, v .top .1, v .top .2, v .top .3, big (decLt (num P (B .has (v .top .0))) (2 ^ (v .top .1)))) }
   where
     big : Dec (num P (B .has (v .top .0)) < 2 ^ (v .top .1)) → 2 ^ (v .top .1) ≤ num P (B .has (v .top .0))
-    big (yes z) = absurd (true≢false (sym (v .top .4) ∙ sym (arr-has I P B v (v .top .0) (v .top .1)) ∙ bit-hi (v .top .1) (num P (B .has (v .top .0))) (v .top .1) z (omega arith)))
+    big (yes z) = absurd (true≢false (sym (v .top .4) ∙ sym (arr-has I P B v (v .top .0) (v .top .1)) ∙ bit-high (v .top .1) (num P (B .has (v .top .0))) (v .top .1) z (omega arith)))
     big (no z) = omega (arith, z)
 
 module _ (N : ℕ) where
-  -- answers depend on bits and signs only
-  same : (x y : Bool) → (x ≡ true → y ≡ true) → (y ≡ true → x ≡ true) → x ≡ y
-  same true y f g = sym (f refl)
-  same false true f g = g refl
-  same false false f g = refl
-
   pub ans-ext : (A B : Bits) → ((i b : ℕ) → A .has i b ≡ B .has i b) → ((i : ℕ) → A .neg i ≡ B .neg i) → (q : Question) → ans N A q ≡ ans N B q
   unfolding ans
   ans-ext A B f g (bitOf i b) = f i b
   ans-ext A B f g (signOf i) = g i
-  ans-ext A B f g (inDesc h b) = same _ _ (any-mono (4 ^ N) (λ j. inside N (inDesc h b) j) (λ j. A .has j b) (λ j. B .has j b) (λ j e. sym (f j b) ∙ e)) (any-mono (4 ^ N) (λ j. inside N (inDesc h b) j) (λ j. B .has j b) (λ j. A .has j b) (λ j e. f j b ∙ e))
-  ans-ext A B f g (inGrand h b) = same _ _ (any-mono (4 ^ N) (λ j. inside N (inGrand h b) j) (λ j. A .has j b) (λ j. B .has j b) (λ j e. sym (f j b) ∙ e)) (any-mono (4 ^ N) (λ j. inside N (inGrand h b) j) (λ j. B .has j b) (λ j. A .has j b) (λ j e. f j b ∙ e))
+  ans-ext A B f g (inDesc h b) = same-bool _ _ (any-mono (4 ^ N) (λ j. inside N (inDesc h b) j) (λ j. A .has j b) (λ j. B .has j b) (λ j e. sym (f j b) ∙ e)) (any-mono (4 ^ N) (λ j. inside N (inDesc h b) j) (λ j. B .has j b) (λ j. A .has j b) (λ j e. f j b ∙ e))
+  ans-ext A B f g (inGrand h b) = same-bool _ _ (any-mono (4 ^ N) (λ j. inside N (inGrand h b) j) (λ j. A .has j b) (λ j. B .has j b) (λ j e. sym (f j b) ∙ e)) (any-mono (4 ^ N) (λ j. inside N (inGrand h b) j) (λ j. B .has j b) (λ j. A .has j b) (λ j e. f j b ∙ e))
 
-  pub fits-ext : (S : Type 0) (ask : S → Option Question) (next : S → Bool → S) (A B : Bits) → ((i b : ℕ) → A .has i b ≡ B .has i b) → ((i : ℕ) → A .neg i ≡ B .neg i) → (s : S) (u : List Bool) → Fits N S ask next A s u → Fits N S ask next B s u
-  fits-ext S ask next A B f g s [] h = tt
-  fits-ext S ask next A B f g s (a ∷ u) h = (go (ask s) (h .0), fits-ext S ask next A B f g (next s a) u (h .1))
+  pub fits-ext : (A B : Bits) → ((i b : ℕ) → A .has i b ≡ B .has i b) → ((i : ℕ) → A .neg i ≡ B .neg i) → (s : State) (u : List Bool) → Fit N A s u → Fit N B s u
+  fits-ext A B f g s [] h = tt
+  fits-ext A B f g s (a ∷ u) h = (go (ask (4 ^ N) s) (h .0), fits-ext A B f g (next (4 ^ N) s a) u (h .1))
     where
       go : (o : Option Question) → told N A o a → told N B o a
       go none t = t
       go (some q) t = sym (ans-ext A B f g q) ∙ t
-
-module _ (N D P : ℕ) (D-big : 4 ≤ D) (D-4 : D % 4 ≡ 0) (I-16 : 4 ^ N % 16 ≡ 0) (D-I : 4 * D ≤ 4 ^ N) where
-  abbrev I : ℕ
-  I = 4 ^ N
-
-  abbrev Of : Bits → List Bool → Type 0
-  Of A u = Fits N State (ask I) (next I) A (start I D P) u
-
-  -- SOME ARRAY OF BITS IS SOME ARRAY OF NUMBERS
-  pub to-numbers : (u : List Bool) → (B : Bits) × Valid I P B × Of B u → (A : Arr) × Planes I P A × Of (bits-of A) u
-  to-numbers u w = (arr-of P (w .0), planes-of I P (w .0) (w .1), fits-ext N State (ask I) (next I) (w .0) (bits-of (arr-of P (w .0))) (λ j e. sym (arr-has I P (w .0) (w .1) j e)) (λ j. refl) (start I D P) u (w .2))
-
-  pub to-bits : (u : List Bool) → (A : Arr) × Planes I P A × Of (bits-of A) u → (B : Bits) × Valid I P B × Of B u
-  to-bits u w = (bits-of (w .0), valid-of I P (w .0) (w .1), w .2)
-
-  -- two arrays whose streams begin with u have the same magnitudes down to the last finished plane
-  pub close : (A B : Arr) → Planes I P A → Planes I P B → (u : List Bool) → Of (bits-of A) u → Of (bits-of B) u → (j : ℕ) → j < I
-      → A .mag j / 2 ^ (reach (4 ^ N) (start I D P) u) .left ≡ B .mag j / 2 ^ (reach (4 ^ N) (start I D P) u) .left
-  close A B p q u f g j hj = eq-high ((reach (4 ^ N) (start I D P) u) .left) P (A .mag j) (B .mag j) (p .under j) (q .under j)
-      (λ b l h. agree N D P D-big D-4 I-16 D-I (bits-of A) (bits-of B) u f g j b hj l h)

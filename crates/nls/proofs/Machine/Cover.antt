@@ -1,23 +1,23 @@
--- COVER: in each plane every coefficient is asked for, or lies in a set that was answered 0.
+-- The cover: in each plane every coefficient is asked for, or lies in a set that was answered 0.
 -- X b i: "bit b of coefficient i is settled", for any X that grows with the answers.
 use mathlib.Core.Path.{_≡_, refl, sym, ap, subst, _∙_}
-use mathlib.Core.Bool.{Bool, true, false, not, _&&_, _||_, true≢false, false≢true}
+use mathlib.Core.Bool.{Bool, true, false, true≢false}
 use mathlib.Core.Logic.{_⊎_, inl, inr}
-use mathlib.Core.List.{List, [], _∷_, _++_}
+use mathlib.Core.List.{List}
 use Prim.Native.Nat.{ℕ, zero, suc, _+_, _*_, _-_, _/_, _%_, _^_, _≤_, _<_}
 use native.Mathlib.Omega.{arith}
 use native.Mathlib.Nat.{pow-suc}
 use native.Mathlib.Decide.{decLt, ℕ-discrete}
-use lib.ListN.{length, getD, set, take, length-set}
+use lib.ListN.{length, getD, set, length-set}
 use lib.Seq.{getD-set-same, getD-set-other}
-use lib.Dec.{ltb, eqb, lit<, lit≤}
-use borrow.Author.Tests.{ltb-true, ltb-false, le-ltb, lt-ltb, eqb-true, eqb-false, eq-eqb, ne-eqb}
+use lib.Dec.{ltb, lit<, lit≤}
+use borrow.Author.Tests.{ltb-false, le-ltb, lt-ltb}
 use Rattle.nls.specs.Marks.{skip, setSkip, splitDesc, splitGrand}
-use Rattle.nls.specs.Scan.{State, Look, over, silent, asks, Question, bitOf, signOf, inDesc, inGrand, Pass, pixels, sets, refining, at, look, lookAt, lookPixels, lookSets, lookRefining, tell, tellAt, tellSets}
+use Rattle.nls.proofs.Tiled.{Tiled}
 use Rattle.nls.proofs.Arrays.{four}
-use Rattle.nls.proofs.Machine.Table.{Cfg, up, alone, stands, Ok, Table, alone-no, no-alone, stands-no, no-stands, no-gd, no-dg, low, gap, skip-5, skip-7, up-low, up-5, up-7}
-use Rattle.nls.proofs.Machine.Push.{table-G, ok-G, len-G, sD-G, al-G, alone-G, stands-G-on, stands-G-off, sG-G-off, sG-G-on}
-use Rattle.nls.proofs.Machine.Split.{withD, withG, withA, table-A, ok-A, kind-no, al-at, al-else, alone-A, stands-A, same-D, same-G, sD-on, sD-off, sG-D, al-D-on, al-D-off, stands-D, alone-on, alone-off, table-D, ok-D}
+use Rattle.nls.proofs.Machine.Table.{Cfg, up, alone, stands, Ok, Table, alone-no, no-alone, stands-no, no-stands, no-dg, gap, skip-5, skip-7, up-low, up-5, up-7}
+use Rattle.nls.proofs.Machine.Push.{table-G, ok-G, len-G, sD-G, al-G, alone-G, stands-G-off, sG-off, sG-on}
+use Rattle.nls.proofs.Machine.Split.{withD, withG, withA, table-A, ok-A, kind-no, al-at, al-else, alone-A, stands-A, same-D, same-G, sD-off, sG-D, al-D-on, al-D-off, stands-D, alone-on, alone-off, table-D, ok-D}
 
 -- What a run may know, besides: Y i, the sign of i; QD h and QG q, why the set was split; Z i, that a bit of i is 1
 pub record Preds : Type 1 where
@@ -55,12 +55,12 @@ skip-mod v h = go (decLt v 7)
     go (yes k) = ap (λ (x : ℕ). x % 4) (skip-5 v h k ∙ ap (λ (x : ℕ). 4 ^ x) {x = v - 4} {y = suc (v - 5)} (omega arith)) ∙ omega (arith, pow-suc 4 (v - 5))
     go (no k) = ap (λ (x : ℕ). x % 4) (skip-7 v (omega arith) ∙ ap (λ (x : ℕ). 4 ^ x) {x = v - 5} {y = suc (v - 6)} (omega arith)) ∙ omega (arith, pow-suc 4 (v - 6))
 
-length-four : (I i v : ℕ) (l : List ℕ) → length (four I i v l) ≡ length l
-length-four I i v l = simp length-set
+length-four : (i v : ℕ) (l : List ℕ) → length (four i v l) ≡ length l
+length-four i v l = simp length-set
 
 -- four places from i on get v, and no others
-four-in : (I i v : ℕ) (l : List ℕ) (k : ℕ) → i + 3 < length l → i ≤ k → k < i + 4 → getD (four I i v l) k 0 ≡ v
-four-in I i v l k h a b = go (ℕ-discrete k (i + 3)) (ℕ-discrete k (i + 2)) (ℕ-discrete k (i + 1))
+four-in : (i v : ℕ) (l : List ℕ) (k : ℕ) → i + 3 < length l → i ≤ k → k < i + 4 → getD (four i v l) k 0 ≡ v
+four-in i v l k h a b = go (ℕ-discrete k (i + 3)) (ℕ-discrete k (i + 2)) (ℕ-discrete k (i + 1))
   where
     l1 : List ℕ
     l1 = set l i v
@@ -86,8 +86,8 @@ four-in I i v l k h a b = go (ℕ-discrete k (i + 3)) (ℕ-discrete k (i + 2)) (
     go (no z) (no y) (yes x) = getD-set-other l3 (i + 3) k v 0 z ∙ getD-set-other l2 (i + 2) k v 0 y ∙ ap (λ (j : ℕ). getD l2 j 0) x ∙ getD-set-same l1 (i + 1) v 0 (omega (arith, e1))
     go (no z) (no y) (no x) = getD-set-other l3 (i + 3) k v 0 z ∙ getD-set-other l2 (i + 2) k v 0 y ∙ getD-set-other l1 (i + 1) k v 0 x ∙ ap (λ (j : ℕ). getD l1 j 0) {x = k} {y = i} (omega arith) ∙ getD-set-same l i v 0 (omega arith)
 
-four-out : (I i v : ℕ) (l : List ℕ) (k : ℕ) → (i ≤ k → k < i + 4 → ⊥) → getD (four I i v l) k 0 ≡ getD l k 0
-four-out I i v l k n =
+four-out : (i v : ℕ) (l : List ℕ) (k : ℕ) → (i ≤ k → k < i + 4 → ⊥) → getD (four i v l) k 0 ≡ getD l k 0
+four-out i v l k n =
     getD-set-other (set (set (set l i v) (i + 1) v) (i + 2) v) (i + 3) k v 0 (λ z. n (omega arith) (omega arith))
     ∙ getD-set-other (set (set l i v) (i + 1) v) (i + 2) k v 0 (λ z. n (omega arith) (omega arith))
     ∙ getD-set-other (set l i v) (i + 1) k v 0 (λ z. n (omega arith) (omega arith))
@@ -95,21 +95,21 @@ four-out I i v l k n =
 
 -- what a split of DESC writes
 length-split : (I t : ℕ) (l : List ℕ) (x : Bool) → length (splitDesc I t l x) ≡ length l
-length-split I t l true = length-set (four I t 4 l) (4 * t) 6 ∙ length-four I t 4 l
-length-split I t l false = length-four I t 4 l
+length-split I t l true = length-set (four t 4 l) (4 * t) 6 ∙ length-four t 4 l
+length-split I t l false = length-four t 4 l
 
 module _ (I t : ℕ) (l : List ℕ) (len : length l ≡ I) (fits : t + 3 < I) (t1 : 4 ≤ t) where
   pub split-kids : (x : Bool) (k : ℕ) → t ≤ k → k < t + 4 → getD (splitDesc I t l x) k 0 ≡ 4
-  split-kids true k a b = getD-set-other (four I t 4 l) (4 * t) k 6 0 (λ z. omega arith) ∙ four-in I t 4 l k (omega arith) a b
-  split-kids false k a b = four-in I t 4 l k (omega arith) a b
+  split-kids true k a b = getD-set-other (four t 4 l) (4 * t) k 6 0 (λ z. omega arith) ∙ four-in t 4 l k (omega arith) a b
+  split-kids false k a b = four-in t 4 l k (omega arith) a b
 
   split-below : (x : Bool) → ltb (4 * t) I ≡ x → 4 * t < I → getD (splitDesc I t l x) (4 * t) 0 ≡ 6
-  split-below true e h = getD-set-same (four I t 4 l) (4 * t) 6 0 (omega (arith, length-four I t 4 l))
+  split-below true e h = getD-set-same (four t 4 l) (4 * t) 6 0 (omega (arith, length-four t 4 l))
   split-below false e h = absurd (omega (arith, ltb-false (4 * t) I e))
 
   split-rest : (x : Bool) (k : ℕ) → (t ≤ k → k < t + 4 → ⊥) → (k ≡ 4 * t → ⊥) → getD (splitDesc I t l x) k 0 ≡ getD l k 0
-  split-rest true k a b = getD-set-other (four I t 4 l) (4 * t) k 6 0 b ∙ four-out I t 4 l k a
-  split-rest false k a b = four-out I t 4 l k a
+  split-rest true k a b = getD-set-other (four t 4 l) (4 * t) k 6 0 b ∙ four-out t 4 l k a
+  split-rest false k a b = four-out t 4 l k a
 
 up-5-no : (x : ℕ) → Dec (x < 5) → Dec (x < 7) → up x ≡ 5 → ⊥
 up-5-no x (yes a) b e = omega (arith, up-low x a)
@@ -121,7 +121,7 @@ up-6-no x (yes a) b e = omega (arith, up-low x a)
 up-6-no x (no a) (yes b) e = omega (arith, up-5 x (omega arith) b)
 up-6-no x (no a) (no b) e = omega (arith, up-7 x (omega arith))
 
-module _ (D I : ℕ) (D-big : 4 ≤ D) (D-4 : D % 4 ≡ 0) (I-16 : I % 16 ≡ 0) where
+module _ {D I : ℕ} (sz : Tiled D I) where
   pub record Core (c : Cfg) (l : List ℕ) : Type 0 where
     pub len : length l ≡ I
     pub ok : Ok D I c
@@ -187,12 +187,12 @@ module _ (D I : ℕ) (D-big : 4 ≤ D) (D-4 : D % 4 ≡ 0) (I-16 : I % 16 ≡ 0)
     where
       qG′ : (h : ℕ) → (withG q c) .sG h ≡ true → Dec (h ≡ q) → R .QG h
       qG′ h e (yes z) = subst (R .QG) (sym z) y
-      qG′ h e (no z) = k .qG h (sym (sG-G-off q c h z) ∙ e)
+      qG′ h e (no z) = k .qG h (sym (sG-off q c h z) ∙ e)
 
       zs′ : (j : ℕ) → (alone D I c j ≡ true) × (2 ≤ c .al j) × (c .al j ≤ 3) → (alone D I (withG q c) j ≡ true) × (2 ≤ (withG q c) .al j) × ((withG q c) .al j ≤ 3)
       zs′ j r = (alone-G D I q c j ∙ r .0, omega (arith, al-G q c j), omega (arith, al-G q c j))
 
-  -- THE PIXEL PASS at place t
+  -- the pixel pass at place t
   pub record Pix (R : Preds) (X : ℕ → Type 0) (t : ℕ) (c : Cfg) (l : List ℕ) : Type 0 where
     pub core : Core c l
     pub more : More R c
@@ -200,7 +200,7 @@ module _ (D I : ℕ) (D-big : 4 ≤ D) (D-4 : D % 4 ≡ 0) (I-16 : I % 16 ≡ 0)
     pub no4 : (j : ℕ) → j < I → alone D I c j ≡ true → c .al j ≡ 4 → ⊥
     pub done : (j : ℕ) → j < I → alone D I c j ≡ true → j < t → (c .al j ≡ 3 → ⊥) → X j
 
-  -- THE REFINEMENT PASS at place t
+  -- the refinement pass at place t
   pub record Fine (R : Preds) (X : ℕ → Type 0) (t : ℕ) (c : Cfg) (l : List ℕ) : Type 0 where
     pub core : Core c l
     pub more : More R c
@@ -218,7 +218,7 @@ module _ (D I : ℕ) (D-big : 4 ≤ D) (D-4 : D % 4 ≡ 0) (I-16 : I % 16 ≡ 0)
 
       go : (x : Bool) → alone D I c j ≡ x → (alone D I c j ≡ true) × (c .al j ≡ getD l j 0)
       go true e = (e, sym (k .tab .solo j h e))
-      go false e = absurd (no-way (kind-no D I D-big c (k .ok) (λ i. getD l i 0) (k .tab) j h e))
+      go false e = absurd (no-way (kind-no sz c (k .ok) (λ i. getD l i 0) (k .tab) j h e))
 
   -- and one of 5 or more is not
   pub not-alone : (c : Cfg) (l : List ℕ) → Core c l → (j : ℕ) → j < I → 5 ≤ getD l j 0 → alone D I c j ≡ false
@@ -244,15 +244,15 @@ module _ (D I : ℕ) (D-big : 4 ≤ D) (D-4 : D % 4 ≡ 0) (I-16 : I % 16 ≡ 0)
 
           hit : Dec (j ≡ t) → ⊥
           hit (yes q) = true≢false (sym (subst (λ (i : ℕ). alone D I c i ≡ true) q e) ∙ not-alone c l k t h big)
-          hit (no q) = true≢false (sym e ∙ (gap D I D-big c (λ i. getD l i 0) (k .ok) (k .tab) t h (not-alone c l k t h big) big j (omega arith) b ji) .0)
+          hit (no q) = true≢false (sym e ∙ (gap sz c (λ i. getD l i 0) (k .ok) (k .tab) t h (not-alone c l k t h big) big j (omega arith) b ji) .0)
 
   -- the mark of one coefficient changes
   pub core-A : (c : Cfg) (l : List ℕ) (i v : ℕ) → Core c l → i < I → alone D I c i ≡ true → 1 ≤ v → v ≤ 4 → Core (withA i v c) (set l i v)
   unfolding withA alone
   core-A c l i v k h a v1 v4 = record {
     len = length-set l i v ∙ k .len;
-    ok = ok-A D I D-big c (k .ok) (λ j. getD l j 0) (k .tab) i v;
-    tab = table-A D I D-big c (k .ok) (λ j. getD l j 0) (k .tab) i v a (λ j. getD (set l i v) j 0)
+    ok = ok-A sz c (k .ok) (λ j. getD l j 0) (k .tab) i v;
+    tab = table-A sz c (k .ok) (λ j. getD l j 0) (k .tab) i v a (λ j. getD (set l i v) j 0)
         (getD-set-same l i v 0 (omega (arith, k .len))) (λ j hj n. getD-set-other l i j v 0 n);
     rng = λ j hj e. rng′ j hj e (ℕ-discrete j i);
   }
@@ -404,7 +404,7 @@ module _ (D I : ℕ) (D-big : 4 ≤ D) (D-4 : D % 4 ≡ 0) (I-16 : I % 16 ≡ 0)
     record { core = p .core; more = p .more; two = λ j hj a e. absurd (omega (arith, p .two j hj a e)); no4 = p .no4; done = λ j hj a b e. absurd (omega arith) },
   )
 
-  -- THE SET PASS at place t
+  -- the set pass at place t
   pub record Sets (R : Preds) (X : ℕ → Type 0) (t : ℕ) (c : Cfg) (l : List ℕ) : Type 0 where
     pub core : Core c l
     pub more : More R c
@@ -427,7 +427,7 @@ module _ (D I : ℕ) (D-big : 4 ≤ D) (D-4 : D % 4 ≡ 0) (I-16 : I % 16 ≡ 0)
       (subst (λ (x : ℕ). stands D I c x ≡ false) {x = 4 * q} {y = 16 * q / 4} (omega arith) st) (omega arith)
       (subst (λ (x : ℕ). c .sD x ≡ true) {x = q} {y = 16 * q / 4 / 4} (omega arith) s)
 
-  -- EVERY PLACE THAT IS NOT ALONE LIES IN A SET THAT STANDS
+  -- every place that is not alone lies in a set that stands
   pub data Home (c : Cfg) (j : ℕ) : Type 0 where
     in-D : (h : ℕ) → D ≤ 4 * h → 4 * h < I → stands D I c h ≡ true → c .sD h ≡ false → Under h j → Home c j
     in-G : (q : ℕ) → D ≤ 4 * q → 16 * q < I → c .sD q ≡ true → c .sG q ≡ false → Under q (j / 4) → Home c j
@@ -484,12 +484,12 @@ module _ (D I : ℕ) (D-big : 4 ≤ D) (D-4 : D % 4 ≡ 0) (I-16 : I % 16 ≡ 0)
   -- no standing set begins strictly inside a skip past a mark of 5 or more
   quiet-D : (c : Cfg) (l : List ℕ) → Core c l → (t : ℕ) → t < I → 5 ≤ getD l t 0 → (h : ℕ) → D ≤ 4 * h → 4 * h < I → t < 4 * h → 4 * h < t + skip (getD l t 0) → stands D I c h ≡ true → c .sD h ≡ false → ⊥
   quiet-D c l k t ti big h a b x y s n =
-      let z : (alone D I c (4 * h) ≡ false) × (getD l (4 * h) 0 ≡ 0) = gap D I D-big c (λ i. getD l i 0) (k .ok) (k .tab) t ti (not-alone c l k t ti big) big (4 * h) x y b in
+      let z : (alone D I c (4 * h) ≡ false) × (getD l (4 * h) 0 ≡ 0) = gap sz c (λ i. getD l i 0) (k .ok) (k .tab) t ti (not-alone c l k t ti big) big (4 * h) x y b in
       omega (arith, z .1, mark-D c l k h a b s n)
 
   quiet-G : (c : Cfg) (l : List ℕ) → Core c l → (t : ℕ) → t < I → 5 ≤ getD l t 0 → (q : ℕ) → D ≤ 4 * q → 16 * q < I → t < 16 * q → 16 * q < t + skip (getD l t 0) → c .sD q ≡ true → c .sG q ≡ false → ⊥
   quiet-G c l k t ti big q a b x y s n =
-      let z : (alone D I c (16 * q) ≡ false) × (getD l (16 * q) 0 ≡ 0) = gap D I D-big c (λ i. getD l i 0) (k .ok) (k .tab) t ti (not-alone c l k t ti big) big (16 * q) x y b in
+      let z : (alone D I c (16 * q) ≡ false) × (getD l (16 * q) 0 ≡ 0) = gap sz c (λ i. getD l i 0) (k .ok) (k .tab) t ti (not-alone c l k t ti big) big (16 * q) x y b in
       omega (arith, z .1, mark-G c l k q a b s n)
 
   -- The set pass goes on past t to t + w, with no MCP at t, if nothing stands between, but perhaps a set at t that is settled
@@ -574,16 +574,16 @@ module _ (D I : ℕ) (D-big : 4 ≤ D) (D-4 : D % 4 ≡ 0) (I-16 : I % 16 ≡ 0)
       (λ h a b u v s d. two-D h a b u v s d (ℕ-discrete (4 * h) t))
       (λ q a b u v s d. absurd (two-G q a b u v s d (ℕ-discrete (16 * q) t)))
     where
-      sz : skip (getD l t 0) ≡ 4
-      sz = ap skip m ∙ skip-5 5 (lit≤ tt) (lit< tt)
+      far-skip : skip (getD l t 0) ≡ 4
+      far-skip = ap skip m ∙ skip-5 5 (lit≤ tt) (lit< tt)
 
       two-D : (h : ℕ) → D ≤ 4 * h → 4 * h < I → t ≤ 4 * h → 4 * h < t + 4 → stands D I c h ≡ true → c .sD h ≡ false → Dec (4 * h ≡ t) → (i : ℕ) → i < I → Under h i → X i
       two-D h a b u v s d (yes e) i hi z = x i hi (subst (λ (k : ℕ). Under k i) {x = h} {y = t / 4} (omega arith) z)
-      two-D h a b u v s d (no e) i hi z = absurd (quiet-D c l (p .core) t ti (omega arith) h a b (omega arith) (omega (arith, sz)) s d)
+      two-D h a b u v s d (no e) i hi z = absurd (quiet-D c l (p .core) t ti (omega arith) h a b (omega arith) (omega (arith, far-skip)) s d)
 
       two-G : (q : ℕ) → D ≤ 4 * q → 16 * q < I → t ≤ 16 * q → 16 * q < t + 4 → c .sD q ≡ true → c .sG q ≡ false → Dec (16 * q ≡ t) → ⊥
       two-G q a b u v s d (yes e) = omega (arith, mark-G c l (p .core) q a b s d, ap (λ (i : ℕ). getD l i 0) e)
-      two-G q a b u v s d (no e) = quiet-G c l (p .core) t ti (omega arith) q a b (omega arith) (omega (arith, sz)) s d
+      two-G q a b u v s d (no e) = quiet-G c l (p .core) t ti (omega arith) q a b (omega arith) (omega (arith, far-skip)) s d
 
   -- MG answered 0: all of GRAND is settled
   pub sets-G0 : (R : Preds) (X : ℕ → Type 0) (t : ℕ) (c : Cfg) (l : List ℕ) → Sets R X t c l → t < I → getD l t 0 ≡ 6 → ((i : ℕ) → i < I → Under (t / 16) (i / 4) → X i) → Sets R X (t + 16) c l
@@ -591,16 +591,16 @@ module _ (D I : ℕ) (D-big : 4 ≤ D) (D-4 : D % 4 ≡ 0) (I-16 : I % 16 ≡ 0)
       (λ h a b u v s d. absurd (two-D h a b u v s d (ℕ-discrete (4 * h) t)))
       (λ q a b u v s d. two-G q a b u v s d (ℕ-discrete (16 * q) t))
     where
-      sz : skip (getD l t 0) ≡ 16
-      sz = ap skip m ∙ skip-5 6 (lit≤ tt) (lit< tt)
+      far-skip : skip (getD l t 0) ≡ 16
+      far-skip = ap skip m ∙ skip-5 6 (lit≤ tt) (lit< tt)
 
       two-D : (h : ℕ) → D ≤ 4 * h → 4 * h < I → t ≤ 4 * h → 4 * h < t + 16 → stands D I c h ≡ true → c .sD h ≡ false → Dec (4 * h ≡ t) → ⊥
       two-D h a b u v s d (yes e) = omega (arith, mark-D c l (p .core) h a b s d, ap (λ (i : ℕ). getD l i 0) e)
-      two-D h a b u v s d (no e) = quiet-D c l (p .core) t ti (omega arith) h a b (omega arith) (omega (arith, sz)) s d
+      two-D h a b u v s d (no e) = quiet-D c l (p .core) t ti (omega arith) h a b (omega arith) (omega (arith, far-skip)) s d
 
       two-G : (q : ℕ) → D ≤ 4 * q → 16 * q < I → t ≤ 16 * q → 16 * q < t + 16 → c .sD q ≡ true → c .sG q ≡ false → Dec (16 * q ≡ t) → (i : ℕ) → i < I → Under q (i / 4) → X i
       two-G q a b u v s d (yes e) i hi z = x i hi (subst (λ (k : ℕ). Under k (i / 4)) {x = q} {y = t / 16} (omega arith) z)
-      two-G q a b u v s d (no e) i hi z = absurd (quiet-G c l (p .core) t ti (omega arith) q a b (omega arith) (omega (arith, sz)) s d)
+      two-G q a b u v s d (no e) i hi z = absurd (quiet-G c l (p .core) t ti (omega arith) q a b (omega arith) (omega (arith, far-skip)) s d)
 
   -- MCP answered: t is settled, and has the mark v, MIP or MNP
   pub sets-C : (R : Preds) (X : ℕ → Type 0) (t v : ℕ) (c : Cfg) (l : List ℕ) → Sets (hide t R) X t c l → t < I → getD l t 0 ≡ 4 → 1 ≤ v → v < 3 → X t → (2 ≤ v → R .Y t) → (R .Z t → 2 ≤ v) → Sets R X (t + 1) (withA t v c) (set l t v)
@@ -684,8 +684,8 @@ module _ (D I : ℕ) (D-big : 4 ≤ D) (D-4 : D % 4 ≡ 0) (I-16 : I % 16 ≡ 0)
   sets-D1 R X t c l p ti m y = record {
     core = record {
       len = length-split I t l (ltb (4 * t) I) ∙ k .len;
-      ok = ok-D D I D-big c (k .ok) (λ j. getD l j 0) (k .tab) g glo ghi (is .1) (is .2) m′ kids low′ rest;
-      tab = table-D D I D-big c (k .ok) (λ j. getD l j 0) (k .tab) g glo ghi (is .1) (is .2) m′ kids low′ rest;
+      ok = ok-D sz c (k .ok) (λ j. getD l j 0) (k .tab) g glo ghi (is .1) (is .2) m′ kids low′ rest;
+      tab = table-D sz c (k .ok) (λ j. getD l j 0) (k .tab) g glo ghi (is .1) (is .2) m′ kids low′ rest;
       rng = λ j hj a. rng′ j hj a (ℕ-discrete (j / 4) g);
     };
     more = more-D R g c (p .more) glo (is .2) y;
@@ -781,9 +781,9 @@ module _ (D I : ℕ) (D-big : 4 ≤ D) (D-4 : D % 4 ≡ 0) (I-16 : I % 16 ≡ 0)
   pub sets-G1 : (R : Preds) (X : ℕ → Type 0) (t : ℕ) (c : Cfg) (l : List ℕ) → Sets R X t c l → t < I → getD l t 0 ≡ 6 → R .QG (t / 16) → Sets R X t (withG (t / 16) c) (splitGrand I t l)
   sets-G1 R X t c l p ti m y = record {
     core = record {
-      len = subst (λ (x : ℕ). length (splitGrand I x l) ≡ I) (sym (is .0)) (len-G D I D-big I-16 c (k .ok) l (k .len) (k .tab) q (is .3) q-hi (is .1) (is .2));
-      ok = ok-G D I D-big I-16 c (k .ok) l (k .len) (k .tab) q (is .3) q-hi (is .1) (is .2);
-      tab = subst (λ (x : ℕ). Table D I (withG q c) (λ j. getD (splitGrand I x l) j 0)) (sym (is .0)) (table-G D I D-big I-16 c (k .ok) l (k .len) (k .tab) q (is .3) q-hi (is .1) (is .2));
+      len = subst (λ (x : ℕ). length (splitGrand I x l) ≡ I) (sym (is .0)) (len-G sz c (k .ok) l (k .len) (k .tab) q (is .3) q-hi (is .1) (is .2));
+      ok = ok-G sz c (k .ok) l (k .len) (k .tab) q (is .3) q-hi (is .1) (is .2);
+      tab = subst (λ (x : ℕ). Table D I (withG q c) (λ j. getD (splitGrand I x l) j 0)) (sym (is .0)) (table-G sz c (k .ok) l (k .len) (k .tab) q (is .3) q-hi (is .1) (is .2));
       rng = λ j hj a. subst (λ (x : ℕ). (1 ≤ x) × (x ≤ 4)) (sym (al-G q c j)) (k .rng j hj (was j a));
     };
     more = more-G R q c (p .more) y;
@@ -818,5 +818,5 @@ module _ (D I : ℕ) (D-big : 4 ≤ D) (D-4 : D % 4 ≡ 0) (I-16 : I % 16 ≡ 0)
       old h z s (no e) = sym (stands-G-off D I q c h e) ∙ s
 
       oldG : (h : ℕ) → 16 * h < t → (withG q c) .sG h ≡ false → Dec (h ≡ q) → c .sG h ≡ false
-      oldG h z s (yes e) = absurd (true≢false (sym (sG-G-on q c h e) ∙ s))
-      oldG h z s (no e) = sym (sG-G-off q c h e) ∙ s
+      oldG h z s (yes e) = absurd (true≢false (sym (sG-on q c h e) ∙ s))
+      oldG h z s (no e) = sym (sG-off q c h e) ∙ s

@@ -1,17 +1,20 @@
 -- What a push writes, and that a split of GRAND keeps what the table says.
 use mathlib.Core.Path.{_≡_, refl, sym, ap, subst, _∙_}
-use mathlib.Core.Bool.{Bool, true, false, not, _&&_, _||_, true≢false, false≢true}
+use mathlib.Core.Bool.{Bool, true, false, _||_, true≢false, or-true}
 use mathlib.Core.Logic.{_⊎_, inl, inr}
-use mathlib.Core.List.{List, [], _∷_, _++_}
-use Prim.Native.Nat.{ℕ, zero, suc, _+_, _*_, _-_, _/_, _%_, _^_, _≤_, _<_}
+use mathlib.Core.List.{List}
+use Prim.Native.Nat.{ℕ, zero, suc, _+_, _*_, _/_, _%_, _≤_, _<_}
 use native.Mathlib.Omega.{arith}
 use native.Mathlib.Decide.{decLt, decLe, ℕ-discrete}
-use lib.ListN.{length, getD, set, take, length-set}
+use lib.ListN.{length, getD, set, length-set}
 use lib.Seq.{getD-set-same, getD-set-other}
 use lib.Dec.{ltb, eqb, lit<, lit≤}
-use borrow.Author.Tests.{ltb-true, ltb-false, le-ltb, lt-ltb, eqb-true, eqb-false, eq-eqb, ne-eqb}
+use borrow.Author.Tests.{le-ltb, lt-ltb, eq-eqb, ne-eqb}
+use Rattle.tree.proofs.Lists.{or-left}
 use Rattle.nls.specs.Marks.{pushFrom, push, splitGrand, pushRoots}
-use Rattle.nls.proofs.Machine.Table.{Cfg, up, alone, stands, Ok, Table, alone-no, no-alone, stands-no, no-stands, no-gd, no-dg, low, up-low, up-5, up-7}
+use Rattle.nls.proofs.Tiled.{Tiled}
+use Rattle.nls.proofs.Booleans.{or-off}
+use Rattle.nls.proofs.Machine.Table.{Cfg, up, alone, stands, Ok, Table, alone-no, no-alone, stands-no, no-dg, low, up-5, up-7}
 use Rattle.nls.proofs.Machine.Split.{withG}
 
 -- k is j, 4j, 16j ..
@@ -244,21 +247,13 @@ kinds i n k h a z = go (ℕ-discrete k h)
     go (yes e) = inl (subst (λ (x : ℕ). Head i n x) (sym e) a)
     go (no e) = inr (e, (line-up h k z e) .1)
 
-sG-off : (q : ℕ) (c : Cfg) (h : ℕ) → (h ≡ q → ⊥) → (withG q c) .sG h ≡ c .sG h
+pub sG-off : (q : ℕ) (c : Cfg) (h : ℕ) → (h ≡ q → ⊥) → (withG q c) .sG h ≡ c .sG h
 unfolding withG
-sG-off q c h e = go (eqb h q) (c .sG h) (ne-eqb h q e)
-  where
-    go : (a b : Bool) → a ≡ false → (a || b) ≡ b
-    go true b e = absurd (true≢false e)
-    go false b e = refl
+sG-off q c h e = or-off (eqb h q) (c .sG h) (ne-eqb h q e)
 
-sG-on : (q : ℕ) (c : Cfg) (h : ℕ) → h ≡ q → (withG q c) .sG h ≡ true
+pub sG-on : (q : ℕ) (c : Cfg) (h : ℕ) → h ≡ q → (withG q c) .sG h ≡ true
 unfolding withG
-sG-on q c h e = go (eqb h q) (c .sG h) (eq-eqb h q e)
-  where
-    go : (a b : Bool) → a ≡ true → (a || b) ≡ true
-    go true b e = refl
-    go false b e = absurd (false≢true e)
+sG-on q c h e = or-left (eqb h q) (c .sG h) (eq-eqb h q e)
 
 pub sD-G : (q : ℕ) (c : Cfg) (h : ℕ) → (withG q c) .sD h ≡ c .sD h
 unfolding withG
@@ -272,25 +267,15 @@ pub alone-G : (D I q : ℕ) (c : Cfg) (h : ℕ) → alone D I (withG q c) h ≡ 
 unfolding withG alone
 alone-G D I q c h = refl
 
-or-t : (x : Bool) → (x || true) ≡ true
-or-t true = refl
-or-t false = refl
-
 pub stands-G-on : (D I q : ℕ) (c : Cfg) (h : ℕ) → h / 4 ≡ q → stands D I (withG q c) h ≡ true
 unfolding stands
-stands-G-on D I q c h e = ap (λ (x : Bool). ltb h D || x) (sG-on q c (h / 4) e) ∙ or-t (ltb h D)
+stands-G-on D I q c h e = ap (λ (x : Bool). ltb h D || x) (sG-on q c (h / 4) e) ∙ or-true (ltb h D)
 
 pub stands-G-off : (D I q : ℕ) (c : Cfg) (h : ℕ) → (h / 4 ≡ q → ⊥) → stands D I (withG q c) h ≡ stands D I c h
 unfolding stands
 stands-G-off D I q c h e = ap (λ (x : Bool). ltb h D || x) (sG-off q c (h / 4) e)
 
-pub sG-G-off : (q : ℕ) (c : Cfg) (h : ℕ) → (h ≡ q → ⊥) → (withG q c) .sG h ≡ c .sG h
-sG-G-off = sG-off
-
-pub sG-G-on : (q : ℕ) (c : Cfg) (h : ℕ) → h ≡ q → (withG q c) .sG h ≡ true
-sG-G-on = sG-on
-
-module _ (D I : ℕ) (D-big : 4 ≤ D) (I-16 : I % 16 ≡ 0) (c : Cfg) (o : Ok D I c) (l : List ℕ) (len : length l ≡ I) (t : Table D I c (λ j. getD l j 0))
+module _ {D I : ℕ} (sz : Tiled D I) (c : Cfg) (o : Ok D I c) (l : List ℕ) (len : length l ≡ I) (t : Table D I c (λ j. getD l j 0))
     (q : ℕ) (q-lo : D ≤ 4 * q) (q-hi : 16 * q < I) (q-D : c .sD q ≡ true) (q-no : c .sG q ≡ false) where
   abbrev pub r : List ℕ
   r = splitGrand I (16 * q) l

@@ -1,21 +1,17 @@
 -- Runs of the scan: silent moves end, and a settled run can be followed one visit at a time.
-use mathlib.Core.Path.{_≡_, refl, sym, ap, subst, _∙_}
-use mathlib.Core.Bool.{Bool, true, false, not, _&&_, _||_}
+use mathlib.Core.Path.{_≡_, refl, sym, ap, subst}
+use mathlib.Core.Bool.{Bool, true, false}
 use mathlib.Core.Option.{Option, none, some}
 use mathlib.Core.List.{List, [], _∷_, _++_}
-use Prim.Native.Nat.{ℕ, zero, suc, _+_, _*_, _-_, _/_, _%_, _^_, _≤_, _<_}
+use Prim.Native.Nat.{ℕ, zero, suc, _-_, _^_, _≤_, _<_}
 use native.Mathlib.Omega.{arith}
 use native.Mathlib.Nat.{one-le-pow}
-use lib.ListN.{length, getD, set, take}
+use lib.ListN.{length, getD, take}
 use lib.Dec.{ltb, eqb, lit<, lit≤}
-use borrow.Author.Tests.{ltb-true, ltb-false}
-use Rattle.nls.specs.Marks.{skip, setSkip}
-use Rattle.nls.specs.Scan.{State, Look, over, silent, asks, Question, Pass, pixels, sets, refining, at, look, lookAt, lookPixels, lookSets, lookRefining, movesLeft, passesLeft, silently, settle, tell, ask, asked, next, reach}
-use Rattle.nls.proofs.Arrays.{answersOf, Bits, ans}
-use Rattle.nls.proofs.Judging.Most.{Fits, told}
-
-pow4 : (k : ℕ) → 1 ≤ 4 ^ k
-pow4 k = one-le-pow k 4 (lit< tt)
+use borrow.Author.Tests.{ltb-true}
+use Rattle.nls.specs.Marks.{skip, setSkip, startMarks}
+use Rattle.nls.specs.Scan.{State, Look, over, silent, asks, Question, Pass, pixels, sets, refining, at, look, lookAt, lookPixels, lookSets, lookRefining, movesLeft, silently, settle, ask, next, reach, start, asked}
+use Rattle.nls.proofs.Arrays.{answersOf, Bits, ans, told, Fit}
 
 pub skip-pos : (m : ℕ) → 1 ≤ skip m
 unfolding skip
@@ -23,8 +19,8 @@ skip-pos m = go (ltb m 5) (ltb m 7)
   where
     go : (x y : Bool) → 1 ≤ (elim x as (λ _. ℕ) [ true ↦ 1 | false ↦ elim y as (λ _. ℕ) [ true ↦ 4 ^ (m - 4) | false ↦ 4 ^ (m - 5) ] ])
     go true y = lit≤ tt
-    go false true = pow4 (m - 4)
-    go false false = pow4 (m - 5)
+    go false true = one-le-pow (m - 4) 4 (lit< tt)
+    go false false = one-le-pow (m - 5) 4 (lit< tt)
 
 pub sskip-pos : (m : ℕ) → 1 ≤ setSkip m
 unfolding setSkip
@@ -92,7 +88,7 @@ module _ (I : ℕ) where
       go (silent t) f ih = ih t (omega (arith, f, h1)) (omega (arith, f, h2))
       go (asks q) f ih = refl
 
-  -- THE RULES FOR ONE VISIT: a silent move leads to the same settled state; a state that asks, or is over, is settled
+  -- one visit: a silent move leads to the same settled state; a state that asks, or is over, is settled
   quiet-hush : (n : ℕ) (s t : State) → look I s ≡ silent t → movesLeft I s ≤ n → silently I n s ≡ settle I t
   unfolding silently settle
   quiet-hush zero s t e h = absurd (omega (arith, h, subst (λ (L : Look). Falls (movesLeft I s) L) e (falls s)))
@@ -120,6 +116,11 @@ module _ (I : ℕ) where
   unfolding settle
   settle-over s e = quiet-over (movesLeft I s) s e
 
+  -- of no planes nothing is asked
+  pub none-asked : (D : ℕ) → ask I (start I D 0) ≡ none
+  unfolding start ask
+  none-asked D = ap (λ (s : State). asked I (look I s)) (settle-over (at 0 pixels 0 (startMarks I D)) refl)
+
   -- what is settled is never about to move in silence
   pub quiet-settled : (n : ℕ) (s t : State) → movesLeft I s ≤ n → look I (silently I n s) ≡ silent t → ⊥
   unfolding silently
@@ -132,41 +133,38 @@ module _ (I : ℕ) where
       go (silent r) q f ih z = ih r t (omega (arith, f, h)) z
       go (asks a) q f ih z = let bad : _≡_ {A = ℕ} 0 1 = cc in omega arith
 
--- IN STEP. Encoder and decoder are one machine: feeding a stream's bits back leads through the same states.
+-- bits that an array answers, and its stream
 module _ (N : ℕ) where
   abbrev I : ℕ
   I = 4 ^ N
-
-  abbrev pub Fit : Bits → State → List Bool → Type 0
-  Fit A s u = Fits N State (ask I) (next I) A s u
 
   pub reach-append : (s : State) (u v : List Bool) → reach (4 ^ N) s (u ++ v) ≡ reach (4 ^ N) (reach (4 ^ N) s u) v
   unfolding reach
   reach-append s [] v = refl
   reach-append s (a ∷ u) v = reach-append (next I s a) u v
 
-  pub fit-append : (A : Bits) (s : State) (u v : List Bool) → Fit A s u → Fit A (reach (4 ^ N) s u) v → Fit A s (u ++ v)
+  pub fit-append : (A : Bits) (s : State) (u v : List Bool) → Fit N A s u → Fit N A (reach (4 ^ N) s u) v → Fit N A s (u ++ v)
   unfolding reach
   fit-append A s [] v f g = g
   fit-append A s (a ∷ u) v f g = (f .0, fit-append A (next I s a) u v (f .1) g)
 
-  pub fit-prefix : (A : Bits) (s : State) (u v : List Bool) → Fit A s (u ++ v) → Fit A s u
+  pub fit-prefix : (A : Bits) (s : State) (u v : List Bool) → Fit N A s (u ++ v) → Fit N A s u
   fit-prefix A s [] v f = tt
   fit-prefix A s (a ∷ u) v f = (f .0, fit-prefix A (next I s a) u v (f .1))
 
   -- the first n bits of A's stream fit A
-  pub stream-fits : (A : Bits) (n : ℕ) (s : State) → Fit A s (answersOf N A n s)
+  pub stream-fits : (A : Bits) (n : ℕ) (s : State) → Fit N A s (answersOf N A n s)
   unfolding answersOf
   stream-fits A zero s = tt
   stream-fits A (suc n) s = go (ask I s) refl (λ a. stream-fits A n (next I s a))
     where
-      go : (o : Option Question) → ask I s ≡ o → ((a : Bool) → Fit A (next I s a) (answersOf N A n (next I s a)))
-          → Fit A s (elim o as (λ _. List Bool) [ none ↦ [] | some q ↦ ans N A q ∷ answersOf N A n (next I s (ans N A q)) ])
+      go : (o : Option Question) → ask I s ≡ o → ((a : Bool) → Fit N A (next I s a) (answersOf N A n (next I s a)))
+          → Fit N A s (elim o as (λ _. List Bool) [ none ↦ [] | some q ↦ ans N A q ∷ answersOf N A n (next I s (ans N A q)) ])
       go none e ih = tt
       go (some q) e ih = (subst (λ (o : Option Question). told N A o (ans N A q)) (sym e) refl, ih (ans N A q))
 
   -- and what fits A begins A's stream
-  pub fits-stream : (A : Bits) (s : State) (u : List Bool) (n : ℕ) → Fit A s u → length u ≤ n → take (length u) (answersOf N A n s) ≡ u
+  pub fits-stream : (A : Bits) (s : State) (u : List Bool) (n : ℕ) → Fit N A s u → length u ≤ n → take (length u) (answersOf N A n s) ≡ u
   unfolding answersOf
   fits-stream A s [] n f h = refl
   fits-stream A s (a ∷ u) zero f h = absurd (omega (arith, h))

@@ -1,31 +1,27 @@
--- The table at the start, and demand 2 for a whole stream from there.
+-- The table at the start, and that the invariant of the scan holds there.
 use mathlib.Core.Path.{_≡_, refl, sym, ap, subst, _∙_}
-use mathlib.Core.Bool.{Bool, true, false, not, _&&_, _||_, true≢false, false≢true}
+use mathlib.Core.Bool.{Bool, true, false, _||_, false≢true}
 use mathlib.Core.Logic.{_⊎_, inl, inr}
-use mathlib.Core.Option.{Option, none, some}
-use mathlib.Core.List.{List, [], _∷_, _++_}
-use Prim.Native.Nat.{ℕ, zero, suc, _+_, _*_, _-_, _/_, _%_, _^_, _≤_, _<_}
+use mathlib.Core.List.{List, _++_}
+use Prim.Native.Nat.{ℕ, zero, suc, _+_, _*_, _-_, _/_, _%_, _≤_, _<_}
 use native.Mathlib.Omega.{arith}
-use native.Mathlib.Decide.{decLt, ℕ-discrete}
-use lib.ListN.{length, getD, set, take, replicate, length-append, length-replicate, getD-replicate, List·getD-append}
+use lib.ListN.{length, getD, replicate, length-append, length-replicate, getD-replicate, List·getD-append}
 use lib.Seq.{getD-append-add}
-use lib.Dec.{ltb, eqb, lit<, lit≤}
-use borrow.Author.Tests.{ltb-true, ltb-false, le-ltb, lt-ltb}
+use lib.Dec.{ltb, lit<, lit≤}
+use borrow.Author.Tests.{ltb-true}
 use Rattle.nls.specs.Marks.{pushRoots, startMarks}
-use Rattle.nls.specs.Scan.{State, at, pixels, start, look, reach, ask, next, settle}
+use Rattle.nls.specs.Scan.{at, pixels, start}
+use Rattle.nls.proofs.Tiled.{Tiled}
 use Rattle.nls.proofs.Arrays.{Bits}
-use Rattle.nls.proofs.Machine.Table.{Cfg, up, alone, stands, Ok, Table, alone-no, no-alone, stands-no, no-stands, up-low}
-use Rattle.nls.proofs.Machine.Push.{Done, done-0, done-roots, Head, Line, here, down, On, on?, line-mod, kinds, line-ge}
-use Rattle.nls.proofs.Machine.Cover.{Core, Pix, Preds}
-use Rattle.nls.proofs.Machine.Steps.{Fam, preds, Good, From, good-settle}
-use Rattle.nls.proofs.Judging.Most.{_⊑_, Fits}
-use Rattle.nls.proofs.Reading.Know.{least}
-use Rattle.nls.proofs.Reading.Whole.{whole, fam, Known, Is-over}
+use Rattle.nls.proofs.Machine.Table.{Cfg, up, alone, stands, Table, no-alone, no-stands, up-low}
+use Rattle.nls.proofs.Machine.Push.{Done, done-0, done-roots, Head, Line, down, On, on?, line-mod, kinds, line-ge}
+use Rattle.nls.proofs.Machine.Cover.{Pix, Preds}
+use Rattle.nls.proofs.Machine.Steps.{Fam, preds, Good, good-settle}
 
 abbrev pub c0 : Cfg
 c0 = record { sD = λ h. false; sG = λ q. false; al = λ j. 1 }
 
-module _ (D I : ℕ) (D-big : 4 ≤ D) (D-4 : D % 4 ≡ 0) (I-16 : I % 16 ≡ 0) (D-I : 4 * D ≤ I) where
+module _ {D I : ℕ} (sz : Tiled D I) where
   abbrev pub base : List ℕ
   base = replicate D 1 ++ replicate (I - D) 0
 
@@ -42,10 +38,10 @@ module _ (D I : ℕ) (D-big : 4 ≤ D) (D-4 : D % 4 ≡ 0) (I-16 : I % 16 ≡ 0)
   base-0 j h k = ap (λ (x : ℕ). getD base x 0) {x = j} {y = length (replicate D 1) + (j - D)} (omega (arith, length-replicate {A = ℕ} D 1))
       ∙ getD-append-add (replicate D 1) (replicate (I - D) 0) (j - D) 0 ∙ getD-replicate (I - D) (j - D) 0 0 (omega arith)
 
-  dn : Done I D D-4 (omega arith) (3 * D / 4) base first
-  dn = subst (λ (x : ℕ). Done I D D-4 (omega arith) (3 * D / 4) base (pushRoots I (3 * D / 4) x base)) {x = D + 4 * 0} {y = D} (omega arith)
-      (subst (λ (x : ℕ). Done I D D-4 (omega arith) x base (pushRoots I (3 * D / 4) (D + 4 * 0) base)) {x = 0 + 3 * D / 4} {y = 3 * D / 4} (omega arith)
-      (done-roots I D D-4 (omega arith) (3 * D / 4) 0 base base (omega arith) (omega arith) (done-0 I D D-4 (omega arith) base base-len)))
+  dn : Done I D (sz .fours) (omega arith) (3 * D / 4) base first
+  dn = subst (λ (x : ℕ). Done I D (sz .fours) (omega arith) (3 * D / 4) base (pushRoots I (3 * D / 4) x base)) {x = D + 4 * 0} {y = D} (omega arith)
+      (subst (λ (x : ℕ). Done I D (sz .fours) (omega arith) x base (pushRoots I (3 * D / 4) (D + 4 * 0) base)) {x = 0 + 3 * D / 4} {y = 3 * D / 4} (omega arith)
+      (done-roots I D (sz .fours) (omega arith) (3 * D / 4) 0 base base (omega arith) (omega arith) (done-0 I D (sz .fours) (omega arith) base base-len)))
 
   al-0 : (j : ℕ) → alone D I c0 j ≡ true → j < D
   unfolding alone
@@ -64,7 +60,7 @@ module _ (D I : ℕ) (D-big : 4 ≤ D) (D-4 : D % 4 ≡ 0) (I-16 : I % 16 ≡ 0)
       go false e = e
 
   abbrev Is : ℕ → Type 0
-  Is k = On I D D-4 (omega arith) (3 * D / 4) k
+  Is k = On I D (sz .fours) (omega arith) (3 * D / 4) k
 
   same : (j : ℕ) → (Is j → ⊥) → getD first j 0 ≡ getD base j 0
   same j n = dn .off j (λ h a z. n (h, a, z))
@@ -76,7 +72,7 @@ module _ (D I : ℕ) (D-big : 4 ≤ D) (D-4 : D % 4 ≡ 0) (I-16 : I % 16 ≡ 0)
     head = λ j h a e s. dn .top j ((no-alone D I c0 j a) .0, omega (arith, st-0 (j / 4) s), e);
     side = λ j h a s n. same j (λ z. side′ j s n z (kinds D (3 * D / 4) j (z .0) (z .1) (z .2))) ∙ base-0 j ((no-alone D I c0 j a) .0) h;
     mid = λ j h a e s w d. absurd (false≢true d);
-    deep = λ j h a e s w d. deep′ j h a e s (on? I D D-4 (omega arith) (3 * D / 4) j j (omega arith));
+    deep = λ j h a e s w d. deep′ j h a e s (on? I D (sz .fours) (omega arith) (3 * D / 4) j j (omega arith));
   }
     where
       side′ : (j : ℕ) → stands D I c0 (j / 4) ≡ false → (j / 4 % 4 ≡ 0 → ⊥) → (z : Is j) → (Head D (3 * D / 4) j) ⊎ ((j ≡ z .0 → ⊥) × Line (z .0) (j / 4)) → ⊥
@@ -93,7 +89,7 @@ module _ (D I : ℕ) (D-big : 4 ≤ D) (D-4 : D % 4 ≡ 0) (I-16 : I % 16 ≡ 0)
           let lo : D ≤ j / 4 = (no-stands D I c0 (j / 4) s) .0 in
           same j z ∙ base-0 j (omega arith) h ∙ sym (ap up (same (j / 4) (λ y. z (y .0, y .1, down e (y .2))) ∙ base-0 (j / 4) lo (omega arith)) ∙ up-low 0 (lit< tt))
 
-  pub pix-0 : (R : Preds) (X : ℕ → Type 0) → ((j : ℕ) → R .Z j → ⊥) → Pix D I D-big D-4 I-16 R X 0 c0 first
+  pub pix-0 : (R : Preds) (X : ℕ → Type 0) → ((j : ℕ) → R .Z j → ⊥) → Pix sz R X 0 c0 first
   pix-0 R X n = record {
     more = record { sg = λ j h a l u. absurd (omega arith); qD = λ h e. absurd (false≢true e); qG = λ h e. absurd (false≢true e); zs = λ j h e. absurd (n j e) };
     core = record {
@@ -107,24 +103,13 @@ module _ (D I : ℕ) (D-big : 4 ≤ D) (D-4 : D % 4 ≡ 0) (I-16 : I % 16 ≡ 0)
     done = λ j h a b e. absurd (omega arith);
   }
 
-  pub good-start : (P : ℕ) (F : Fam) → ((j : ℕ) → F .Z j → ⊥) → Good D I D-big D-4 I-16 P F (start I D P)
+  pub good-start : (P : ℕ) (F : Fam) → ((j : ℕ) → F .Z j → ⊥) → Good sz P F (start I D P)
   unfolding start startMarks
-  good-start P F n = good-settle D I D-big D-4 I-16 P F (at P pixels 0 first) (go P)
+  good-start P F n = good-settle sz P F (at P pixels 0 first) (go P)
     where
-      go : (l : ℕ) → Good D I D-big D-4 I-16 l F (at l pixels 0 first)
+      go : (l : ℕ) → Good sz l F (at l pixels 0 first)
       go zero = ((λ e h1 h2. absurd (omega arith)), λ j hj z. absurd (n j z))
       go (suc b) = ((λ e h1 h2. absurd (omega arith)), (c0, pix-0 (preds F b) (F .X b) n))
 
 abbrev pub nothing : Bits
 nothing = record { has = λ i b. false; neg = λ i. false }
-
--- DEMAND 2 (ii): the bits of a whole stream of A decode to A
-pub whole-stream : (N D P : ℕ) (D-big : 4 ≤ D) (D-4 : D % 4 ≡ 0) (I-16 : 4 ^ N % 16 ≡ 0) (D-I : 4 * D ≤ 4 ^ N) (A : Bits) (u : List Bool)
-    → Fits N State (ask (4 ^ N)) (next (4 ^ N)) A (start (4 ^ N) D P) u
-    → Is-over (look (4 ^ N) (reach (4 ^ N) (start (4 ^ N) D P) u))
-    → (j : ℕ) → j < 4 ^ N → ((b : ℕ) → b < P → (least N State (ask (4 ^ N)) (next (4 ^ N)) (start (4 ^ N) D P) u nothing) .has j b ≡ A .has j b)
-    × ((b : ℕ) → b < P → A .has j b ≡ true → (least N State (ask (4 ^ N)) (next (4 ^ N)) (start (4 ^ N) D P) u nothing) .neg j ≡ A .neg j)
-unfolding _⊑_
-whole-stream N D P D-big D-4 I-16 D-I A u f o =
-    whole N D P D-big D-4 I-16 A nothing (start (4 ^ N) D P) u
-    (good-start D (4 ^ N) D-big D-4 I-16 D-I P (fam N D P D-big D-4 I-16 A nothing) (λ j z. false≢true (z .1))) (λ i b h. absurd (false≢true h)) f o

@@ -1,15 +1,15 @@
 -- What the table of marks holds, from which sets are split. A mark is known from the split sets and from the mark at a quarter of its place.
 use mathlib.Core.Path.{_≡_, refl, sym, ap, subst, _∙_}
-use mathlib.Core.Bool.{Bool, true, false, not, _&&_, _||_, true≢false, false≢true}
-use mathlib.Core.List.{List, [], _∷_, _++_}
+use mathlib.Core.Bool.{Bool, true, false, _||_, true≢false, false≢true}
 use Prim.Native.Nat.{ℕ, zero, suc, _+_, _*_, _-_, _/_, _%_, _^_, _≤_, _<_}
 use native.Mathlib.Omega.{arith}
-use native.Mathlib.Nat.{pow-suc}
+use native.Mathlib.Nat.{pow-succ'}
 use native.Mathlib.Decide.{decLt, ℕ-discrete}
-use lib.ListN.{length, getD, set, take}
-use lib.Dec.{ltb, eqb, lit<, lit≤}
-use borrow.Author.Tests.{ltb-true, ltb-false, le-ltb, lt-ltb}
-use Rattle.nls.specs.Marks.{skip, setSkip}
+use lib.Dec.{ltb, lit<, lit≤}
+use borrow.Author.Tests.{ltb-false, le-ltb, lt-ltb}
+use Rattle.nls.specs.Marks.{skip}
+use Rattle.nls.proofs.Tiled.{Tiled}
+use Rattle.nls.proofs.Booleans.{neither}
 
 -- which sets are split, and the marks of the coefficients that stand alone
 pub record Cfg : Type 0 where
@@ -42,10 +42,6 @@ module _ (D I : ℕ) where
     pub mid : (j : ℕ) → j < I → alone c j ≡ false → j % 4 ≡ 0 → stands c (j / 4) ≡ false → j / 4 % 4 ≡ 0 → c .sD (j / 4 / 4) ≡ true → m j ≡ 6
     pub deep : (j : ℕ) → j < I → alone c j ≡ false → j % 4 ≡ 0 → stands c (j / 4) ≡ false → j / 4 % 4 ≡ 0 → c .sD (j / 4 / 4) ≡ false → m j ≡ up (m (j / 4))
 
-  or-false : (a b : Bool) → (a || b) ≡ false → (a ≡ false) × (b ≡ false)
-  or-false true b h = absurd (true≢false h)
-  or-false false b h = (refl, h)
-
   false-or-i : (a b : Bool) → a ≡ false → b ≡ false → (a || b) ≡ false
   false-or-i true b h k = absurd (true≢false h)
   false-or-i false b h k = k
@@ -56,7 +52,7 @@ module _ (D I : ℕ) where
 
   pub no-alone : (c : Cfg) (j : ℕ) → alone c j ≡ false → (D ≤ j) × (c .sD (j / 4) ≡ false)
   unfolding alone
-  no-alone c j h = let r : (ltb j D ≡ false) × (c .sD (j / 4) ≡ false) = or-false (ltb j D) (c .sD (j / 4)) h in (ltb-false j D (r .0), r .1)
+  no-alone c j h = let r : (ltb j D ≡ false) × (c .sD (j / 4) ≡ false) = neither (ltb j D) (c .sD (j / 4)) h in (ltb-false j D (r .0), r .1)
 
   pub stands-no : (c : Cfg) (h : ℕ) → D ≤ h → c .sG (h / 4) ≡ false → stands c h ≡ false
   unfolding stands
@@ -64,7 +60,7 @@ module _ (D I : ℕ) where
 
   pub no-stands : (c : Cfg) (h : ℕ) → stands c h ≡ false → (D ≤ h) × (c .sG (h / 4) ≡ false)
   unfolding stands
-  no-stands c h k = let r : (ltb h D ≡ false) × (c .sG (h / 4) ≡ false) = or-false (ltb h D) (c .sG (h / 4)) k in (ltb-false h D (r .0), r .1)
+  no-stands c h k = let r : (ltb h D ≡ false) × (c .sG (h / 4) ≡ false) = neither (ltb h D) (c .sG (h / 4)) k in (ltb-false h D (r .0), r .1)
 
   -- contrapositives
   flip : (a b : Bool) → (a ≡ true → b ≡ true) → b ≡ false → a ≡ false
@@ -107,18 +103,15 @@ pub skip-7 : (x : ℕ) → 7 ≤ x → skip x ≡ 4 ^ (x - 5)
 unfolding skip
 skip-7 x h = rw (le-ltb x 5 (omega arith), le-ltb x 7 h, skip)
 
-pow4-suc : (k : ℕ) → 4 ^ suc k ≡ 4 * 4 ^ k
-pow4-suc k = omega (arith, pow-suc 4 k)
-
 pub skip-up : (x : ℕ) → 5 ≤ x → skip (up x) ≡ 4 * skip x
 skip-up x h = go (decLt x 7)
   where
     go : Dec (x < 7) → skip (up x) ≡ 4 * skip x
     go (yes k) =
-        ap skip (up-5 x h k) ∙ skip-7 (x + 2) (omega arith) ∙ ap (λ (e : ℕ). 4 ^ e) {x = x + 2 - 5} {y = suc (x - 4)} (omega arith) ∙ pow4-suc (x - 4) ∙ ap (λ (e : ℕ). 4 * e) (sym (skip-5 x h k))
+        ap skip (up-5 x h k) ∙ skip-7 (x + 2) (omega arith) ∙ ap (λ (e : ℕ). 4 ^ e) {x = x + 2 - 5} {y = suc (x - 4)} (omega arith) ∙ pow-succ' 4 (x - 4) ∙ ap (λ (e : ℕ). 4 * e) (sym (skip-5 x h k))
     go (no k) =
         let k7 : 7 ≤ x = omega arith in
-        ap skip (up-7 x k7) ∙ skip-7 (x + 1) (omega arith) ∙ ap (λ (e : ℕ). 4 ^ e) {x = x + 1 - 5} {y = suc (x - 5)} (omega arith) ∙ pow4-suc (x - 5) ∙ ap (λ (e : ℕ). 4 * e) (sym (skip-7 x k7))
+        ap skip (up-7 x k7) ∙ skip-7 (x + 1) (omega arith) ∙ ap (λ (e : ℕ). 4 ^ e) {x = x + 1 - 5} {y = suc (x - 5)} (omega arith) ∙ pow-succ' 4 (x - 5) ∙ ap (λ (e : ℕ). 4 * e) (sym (skip-7 x k7))
 
 pub up-big : (x : ℕ) → 5 ≤ up x → 5 ≤ x
 up-big x h = go (decLt x 5)
@@ -127,7 +120,7 @@ up-big x h = go (decLt x 5)
     go (yes k) = absurd (omega (arith, h, up-low x k))
     go (no k) = omega arith
 
-module _ (D I : ℕ) (D-big : 4 ≤ D) where
+module _ {D I : ℕ} (sz : Tiled D I) where
   abbrev pub Gap : Cfg → (ℕ → ℕ) → ℕ → Type 0
   Gap c m j = (k : ℕ) → j < k → k < j + skip (m j) → k < I → (alone D I c k ≡ false) × (m k ≡ 0)
 
@@ -154,7 +147,7 @@ module _ (D I : ℕ) (D-big : 4 ≤ D) where
           last (yes x) (no y) u l = t .side k k3 (l .1) (l .0) y
           last (yes x) (yes y) u l = t .deep k k3 (l .1) x (l .0) y ((no-alone D I c (k / 4) (u .0)) .1) ∙ ap up (u .1) ∙ up-low 0 (lit< tt)
 
-  -- NO MARK INSIDE A SKIP: all that the scan jumps over, past a mark of a set or of a row, is 0
+  -- no mark inside a skip: all that the scan jumps over, past a mark of a set or of a row, is 0
   gap-fuel : (n : ℕ) (c : Cfg) (m : ℕ → ℕ) → Ok D I c → Table D I c m → (j : ℕ) → j ≤ n → j < I → alone D I c j ≡ false → 5 ≤ m j → Gap c m j
   gap-fuel zero c m o t j jn ji a big = absurd (omega (arith, (no-alone D I c j a) .0))
   gap-fuel (suc n) c m o t j jn ji a big = split (ℕ-discrete (j % 4) 0) (stands D I c (j / 4)) refl (ℕ-discrete (j / 4 % 4) 0) (c .sD (j / 4 / 4)) refl (gap-fuel n c m o t (j / 4))

@@ -1,14 +1,13 @@
 -- The known bits: the least array that a run of answers allows, sign and all.
-use mathlib.Core.Path.{_≡_, refl, sym, ap, subst, _∙_}
-use mathlib.Core.Bool.{Bool, true, false, not, _&&_, _||_, true≢false, false≢true}
+use mathlib.Core.Path.{_≡_, refl, ap, _∙_}
+use mathlib.Core.Bool.{Bool, true, false, _&&_, _||_, false≢true}
 use mathlib.Core.Option.{Option, none, some}
-use mathlib.Core.List.{List, [], _∷_, _++_}
-use Prim.Native.Nat.{ℕ, zero, suc, _+_, _*_, _-_, _/_, _%_, _^_, _≤_, _<_}
-use lib.Dec.{ltb, eqb}
-use borrow.Author.Tests.{eqb-true, eqb-false, eq-eqb}
-use Rattle.nls.specs.Scan.{Question, bitOf, signOf, inDesc, inGrand}
-use Rattle.nls.proofs.Arrays.{Bits, inside, ans}
-use Rattle.nls.proofs.Judging.Most.{_⊑_, told, Fits, sign, sign-self, sign-other, and-l, and-r, and-i}
+use mathlib.Core.List.{List, [], _∷_}
+use Prim.Native.Nat.{ℕ, _^_}
+use lib.Dec.{eqb}
+use borrow.Author.Tests.{eqb-true, eq-eqb}
+use Rattle.nls.specs.Scan.{Question, bitOf, signOf, inDesc, inGrand, State, ask, next}
+use Rattle.nls.proofs.Arrays.{Bits, ans, _⊑_, told, sign, sign-self, sign-other, Fit}
 
 -- bit b of i is known
 unfoldable pub add : ℕ → ℕ → Bits → Bits
@@ -93,16 +92,15 @@ module _ (N : ℕ) where
   know-below A k (inDesc g b) a e l j c h = l j c h
   know-below A k (inGrand g b) a e l j c h = l j c h
 
-  module _ (S : Type 0) (ask : S → Option Question) (next : S → Bool → S) where
-    abbrev pub least : S → List Bool → Bits → Bits
-    least s [] k = k
-    least s (a ∷ u) k = least (next s a) u (knowO (ask s) a k)
+  abbrev pub least : State → List Bool → Bits → Bits
+  least s [] k = k
+  least s (a ∷ u) k = least (next (4 ^ N) s a) u (knowO (ask (4 ^ N) s) a k)
 
-    pub belowO : (A k : Bits) (o : Option Question) (a : Bool) → told N A o a → k ⊑ A → knowO o a k ⊑ A
-    belowO A k none a t l = l
-    belowO A k (some q) a t l = know-below A k q a t l
+  pub belowO : (A k : Bits) (o : Option Question) (a : Bool) → told N A o a → k ⊑ A → knowO o a k ⊑ A
+  belowO A k none a t l = l
+  belowO A k (some q) a t l = know-below A k q a t l
 
-    -- what is known is in every array that fits
-    pub least-below : (A : Bits) (s : S) (u : List Bool) (k : Bits) → Fits N S ask next A s u → k ⊑ A → least s u k ⊑ A
-    least-below A s [] k f l = l
-    least-below A s (a ∷ u) k f l = least-below A (next s a) u (knowO (ask s) a k) (f .1) (belowO A k (ask s) a (f .0) l)
+  -- what is known is in every array that fits
+  pub least-below : (A : Bits) (s : State) (u : List Bool) (k : Bits) → Fit N A s u → k ⊑ A → least s u k ⊑ A
+  least-below A s [] k f l = l
+  least-below A s (a ∷ u) k f l = least-below A (next (4 ^ N) s a) u (knowO (ask (4 ^ N) s) a k) (f .1) (belowO A k (ask (4 ^ N) s) a (f .0) l)
