@@ -150,8 +150,12 @@ module _ {O : Type 0} (K : Source O) (N : ℕ) (P : State → O → Type 0) (w :
           stands = record {
             held = w .told b p i true m (signOf i) o₁ g refl l l d₁ (free-pending b p i (signOf i) m o₁);
             codes = set-low N two m i 2 (omega arith) v;
-            cap = omega (arith, n₂, d₁) };
-          forth = omega arith; spent = omega (arith, n₁, n₂); falls = omega (arith, n₁, n₂) }
+            cap = omega (arith, n₂, d₁);
+          };
+          forth = omega arith;
+          spent = omega (arith, n₁, n₂);
+          falls = omega (arith, n₁, n₂);
+        }
     one-sign false y g d =
         dry (state (suc b) p i true m) (signOf i) o₁ g refl (ltb-false (K .used o₁) (K .budget) y) (omega (arith, n₁, d)) (suc b) refl
 
@@ -163,7 +167,7 @@ module _ {O : Type 0} (K : Source O) (N : ℕ) (P : State → O → Type 0) (w :
 
     one-bit : (x : Bool) → K .next (bitOf i b) o ≡ x → K .used o < K .budget
         → G b p i (K .used o) (cond x (cond (more K o₁) (move (i + 1) (sv (set m i 2) (got K p b (signOf i) o₁))) (halt (sv m o₁)))
-            (cond bar (refuse (sv m o)) (move (i + 1) (sv (set m i 1) o₁))))
+        (cond bar (refuse (sv m o)) (move (i + 1) (sv (set m i 1) o₁))))
     one-bit true y d = one-sign (more K o₁) refl (told-as b p i false m (bitOf i b) o true (state (suc b) p i true m) y e₁ h a l l d (free-one b p i (bitOf i b) m o y)) d
     one-bit false y d = one-zero bar refl y d
 
@@ -173,7 +177,7 @@ module _ {O : Type 0} (K : Source O) (N : ℕ) (P : State → O → Type 0) (w :
       where
         go : (x : Bool) → more K o ≡ x
             → G b p i (K .used o) (cond x (cond (K .next (bitOf i b) o) (cond (more K o₁) (move (i + 1) (sv (set m i 2) (got K p b (signOf i) o₁))) (halt (sv m o₁)))
-              (cond bar (refuse (sv m o)) (move (i + 1) (sv (set m i 1) o₁)))) (halt (sv m o)))
+            (cond bar (refuse (sv m o)) (move (i + 1) (sv (set m i 1) o₁)))) (halt (sv m o)))
         go true y = one-bit (K .next (bitOf i b) o) refl (ltb-true (K .used o) (K .budget) y)
         go false y = dry (at (suc b) p i m) (bitOf i b) o h a (ltb-false (K .used o) (K .budget) y) c (suc b) refl
 
@@ -191,10 +195,12 @@ module _ {O : Type 0} (K : Source O) (N : ℕ) (P : State → O → Type 0) (w :
         zero-bit : (x : Bool) → bar ≡ x → K .next q o ≡ false → K .used o < K .budget → G b sets i (K .used o) (cond x (refuse (sv m o)) (move (i + d) (sv m (got K sets b q o))))
         zero-bit true z y l = barred b i q m o h a li l y z
         zero-bit false z y l = step b sets i (i + d) q m o (told-as b sets i false m q o false (at (suc b) sets (i + d) m) y e₀ h a li u l (λ _. z)) v l (omega arith)
+
         bit : (x : Bool) → K .next q o ≡ x → K .used o < K .budget
             → G b sets i (K .used o) (cond x (move i (sv m₁ (got K sets b q o))) (cond bar (refuse (sv m o)) (move (i + d) (sv m (got K sets b q o)))))
         bit true y l = step b sets i i q m₁ o (told-as b sets i false m q o true (at (suc b) sets i m₁) y e₁ h a li u l (free-one b sets i q m o y)) v₁ l (omega arith)
         bit false y l = zero-bit bar refl y l
+
         go : (x : Bool) → more K o ≡ x
             → G b sets i (K .used o) (cond x (cond (K .next q o) (move i (sv m₁ (got K sets b q o))) (cond bar (refuse (sv m o)) (move (i + d) (sv m (got K sets b q o))))) (halt (sv m o)))
         go true y = bit (K .next q o) refl (ltb-true (K .used o) (K .budget) y)
@@ -218,7 +224,7 @@ module _ {O : Type 0} (K : Source O) (N : ℕ) (P : State → O → Type 0) (w :
         go : (x : Bool) → eqb k 1 ≡ x → G b pixels i (K .used o) (cond x (oneSeen K pixels b i false m o) (move (i + skipOf k) (sv m o)))
         go true y =
             one-good b pixels i false m o h v l c (rw (lt-ltb i I l, y)) (λ _. tt) (λ e. (let z : _≡_ {A = ℕ} 0 1 = cc in absurd (omega (arith, z))))
-              (ap (λ (z : List ℕ). at (suc b) pixels (i + 1) z) (sym (set-same (eqb-true k 1 y)))) refl
+            (ap (λ (z : List ℕ). at (suc b) pixels (i + 1) z) (sym (set-same (eqb-true k 1 y)))) refl
         go false y =
             let g : look I (at (suc b) pixels i m) ≡ silent (at (suc b) pixels (i + skip k) m) = rw (lt-ltb i I l, y) in
             let s : skipOf k ≡ skip k = skip-is k coded in
@@ -231,6 +237,7 @@ module _ {O : Type 0} (K : Source O) (N : ℕ) (P : State → O → Type 0) (w :
         bit : (x : Bool) → more K o ≡ x → eqb k 3 ≡ true → G b refining i (K .used o) (cond x (move (i + 1) (sv m (got K refining b (bitOf i b) o))) (halt (sv m o)))
         bit true z y = step b refining i (i + 1) (bitOf i b) m o (w .told b refining i false m (bitOf i b) o h (rw (lt-ltb i I l, y)) l l (ltb-true (K .used o) (K .budget) z) tt) v (ltb-true (K .used o) (K .budget) z) (omega arith)
         bit false z y = dry (at (suc b) refining i m) (bitOf i b) o h (rw (lt-ltb i I l, y)) (ltb-false (K .used o) (K .budget) z) c (suc b) refl
+
         new : (x : Bool) → eqb k 2 ≡ x → eqb k 3 ≡ false → G b refining i (K .used o) (cond x (move (i + 1) (sv (set m i 3) o)) (move (i + skipOf k) (sv m o)))
         new true z y =
             let g : look I (at (suc b) refining i m) ≡ silent (at (suc b) refining (i + 1) (set m i 3)) = rw (lt-ltb i I l, y, z) in
@@ -239,6 +246,7 @@ module _ {O : Type 0} (K : Source O) (N : ℕ) (P : State → O → Type 0) (w :
             let g : look I (at (suc b) refining i m) ≡ silent (at (suc b) refining (i + skip k) m) = rw (lt-ltb i I l, y, z) in
             let s : skipOf k ≡ skip k = skip-is k coded in
             still b refining i (i + skipOf k) m o (subst (λ (z : ℕ). P (at (suc b) refining (i + z) m) o) (sym s) (w .silence _ _ o h g)) v c (omega (arith, s, skip-pos k))
+
         go : (x : Bool) → eqb k 3 ≡ x
             → G b refining i (K .used o) (cond x (cond (more K o) (move (i + 1) (sv m (got K refining b (bitOf i b) o))) (halt (sv m o))) (cond (eqb k 2) (move (i + 1) (sv (set m i 3) o)) (move (i + skipOf k) (sv m o))))
         go true y = bit (more K o) refl y
@@ -250,7 +258,7 @@ module _ {O : Type 0} (K : Source O) (N : ℕ) (P : State → O → Type 0) (w :
       where
         seen : (x4 x5 x6 : Bool) → eqb k 4 ≡ x4 → eqb k 5 ≡ x5 → eqb k 6 ≡ x6
             → G b sets i (K .used o) (cond x4 (oneSeen K sets b i (K .bars b (bitOf i b) i m o) m o) (cond x5 (testSeen K b i (inDesc (i / 4) b) 4 (K .bars b (inDesc (i / 4) b) i m o) (descSplit I i m) m o)
-                (cond x6 (testSeen K b i (inGrand (i / 16) b) 16 (K .bars b (inGrand (i / 16) b) i m o) (grandSplit I i m) m o) (move (i + setSkipOf k) (sv m o)))))
+            (cond x6 (testSeen K b i (inGrand (i / 16) b) 16 (K .bars b (inGrand (i / 16) b) i m o) (grandSplit I i m) m o) (move (i + setSkipOf k) (sv m o)))))
         seen true x5 x6 y4 y5 y6 =
             let z : k ≡ 4 = eqb-true k 4 y4 in
             let z5 : eqb k 5 ≡ false = rw z in

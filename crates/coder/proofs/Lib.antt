@@ -5,3 +5,8 @@ pub mod Whole
 pub mod VisitLaws
 pub mod WriteLaws
 pub mod WriteTurns
+pub mod Led
+pub mod Sent
+pub mod CheckLaws
+pub mod FinishLaws
+pub mod EncodeLaws

@@ -71,6 +71,7 @@ module _ {O : Type 0} (K : Source O) (N : ℕ) (P : State → O → Type 0) (w :
       on-seen (halt u) g l ih = g
       on-seen (refuse u) g l ih = g
       on-seen (move j u) g l ih = ih j u (g .stands) (omega (arith, e, l, g .forth, g .spent, g .falls, g .stands .cap, h .cap))
+
       go : (x : Bool) → ltb i I ≡ x
           → ((j : ℕ) (u : Sv O) → Here K N P (suc b) (passOf pass) j u → (I - j) + (K .budget - K .used (u .rest)) ≤ f → PlacesGood K N P b pass (places E b pass f j u))
           → PlacesGood K N P b pass (elim x as (λ _. Ran (Sv O)) [ false ↦ on v | true ↦ follow (λ p u. places E b pass f p u) (visitSeen K I b pass i v) ])
@@ -98,10 +99,12 @@ module _ {O : Type 0} (K : Source O) (N : ℕ) (P : State → O → Type 0) (w :
       third (out u) g = g
       third (bad u) g = g
       third (on u) g = turn-refining b u g
+
       second : (r : Ran (Sv O)) → PlacesGood K N P b 1 r → PassesGood K N P b (then r (λ u. then (places E b 2 (I + K .budget) 0 u) (λ x. on x)))
       second (out u) g = g
       second (bad u) g = g
       second (on u) g = third (places E b 2 (I + K .budget) 0 u) (pass-good b 2 u (turn-sets b u g))
+
       first : (r : Ran (Sv O)) → PlacesGood K N P b 0 r
           → PassesGood K N P b (then r (λ u. then (places E b 1 (I + K .budget) 0 u) (λ x. then (places E b 2 (I + K .budget) 0 x) (λ y. on y))))
       first (out u) g = g

@@ -1,3 +1,5 @@
 pub mod Scans
 pub mod Visits
 pub mod Writing
+pub mod Body
+pub mod Calls

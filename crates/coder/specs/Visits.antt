@@ -58,10 +58,10 @@ unfoldable pub oneSeen : {O : Type 0} → Source O → Pass → ℕ → ℕ → 
 oneSeen K p b i bar m o =
     cond (more K o)
     (cond (K .next (bitOf i b) o)
-      (cond (more K (got K p b (bitOf i b) o))
-        (move (i + 1) (sv (set m i 2) (got K p b (signOf i) (got K p b (bitOf i b) o))))
-        (halt (sv m (got K p b (bitOf i b) o))))
-      (cond bar (refuse (sv m o)) (move (i + 1) (sv (set m i 1) (got K p b (bitOf i b) o)))))
+    (cond (more K (got K p b (bitOf i b) o))
+    (move (i + 1) (sv (set m i 2) (got K p b (signOf i) (got K p b (bitOf i b) o))))
+    (halt (sv m (got K p b (bitOf i b) o))))
+    (cond bar (refuse (sv m o)) (move (i + 1) (sv (set m i 1) (got K p b (bitOf i b) o)))))
     (halt (sv m o))
 
 -- a set's test: on 0 it is skipped, on 1 its marks are `new` and the place is visited again
@@ -69,8 +69,8 @@ unfoldable pub testSeen : {O : Type 0} → Source O → ℕ → ℕ → Question
 testSeen K b i q far bar new m o =
     cond (more K o)
     (cond (K .next q o)
-      (move i (sv new (got K sets b q o)))
-      (cond bar (refuse (sv m o)) (move (i + far) (sv m (got K sets b q o)))))
+    (move i (sv new (got K sets b q o)))
+    (cond bar (refuse (sv m o)) (move (i + far) (sv m (got K sets b q o)))))
     (halt (sv m o))
 
 -- the three passes; v is the mark

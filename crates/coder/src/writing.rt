@@ -245,7 +245,19 @@ pub(crate) fn scan(
         for pass in 0..3 {
             let mut place = 0;
             while place < all {
-                match visit(coefs, desc, grand, marks, out, all, budget, n, left, pass, place) {
+                match visit(
+                    coefs,
+                    desc,
+                    grand,
+                    marks,
+                    out,
+                    all,
+                    budget,
+                    n,
+                    left,
+                    pass,
+                    place,
+                ) {
                     Step::Stop(k) => {
                         n = k;
                         break 'scan;

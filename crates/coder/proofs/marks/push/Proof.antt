@@ -44,12 +44,12 @@ loop-less c = omega arith
 -- src/marks.rt:69:5
 loop-again : tie.Need-loop-again Inv-loop μ-loop
 loop-again c = (
-      omega arith,
-      omega arith,
-      simp length-set (omega arith),
-      omega arith,
-      push-again _ _ _ _ _ (c .before .before .loop .inv .4) (omega arith) (omega arith),
-    )
+  omega arith,
+  omega arith,
+  simp length-set (omega arith),
+  omega arith,
+  push-again _ _ _ _ _ (c .before .before .loop .inv .4) (omega arith) (omega arith),
+)
 
 -- src/marks.rt:64:1
 same-length : tie.Need-same-length Inv-loop μ-loop

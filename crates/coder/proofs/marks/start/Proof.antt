@@ -58,10 +58,10 @@ loop-less c = omega arith
 -- src/marks.rt:119:5
 loop-again : tie.Need-loop-again Inv-loop μ-loop
 loop-again c = (
-      c .before .before .new-desc .kept .0 ∙ c .before .before .before .before .before .loop .inv .0,
-      omega arith,
-      rw (c .before .before .new-desc .ensures) (roots-again _ _ _ _ _ (c .before .before .before .before .before .loop .inv .2) (omega arith) (omega arith) (omega arith)),
-    )
+  c .before .before .new-desc .kept .0 ∙ c .before .before .before .before .before .loop .inv .0,
+  omega arith,
+  rw (c .before .before .new-desc .ensures) (roots-again _ _ _ _ _ (c .before .before .before .before .before .loop .inv .2) (omega arith) (omega arith) (omega arith)),
+)
 
 -- src/marks.rt:113:1
 same-length : tie.Need-same-length Inv-loop μ-loop

@@ -59,9 +59,9 @@ loop2-holds c = (record { marks = refl; bytes = refl; spent = search needs }, at
 -- src/writing.rt:230:23
 visit-requires : tie.Need-visit-requires Inv-loop2 μ-loop2 Inv-loop μ-loop Inv-scan μ-scan
 visit-requires c κs = (
-      record { below = c .before .before .loop2-test .taken; size = omega arith; near = omega arith; inCoefs = omega arith; spent = omega arith },
-      c .before .before .before .before .before .before .before .before .before .before .before .before .pre .3,
-    )
+  record { below = c .before .before .loop2-test .taken; size = omega arith; near = omega arith; inCoefs = omega arith; spent = omega arith },
+  c .before .before .before .before .before .before .before .before .before .before .before .before .pre .3,
+)
 
 -- src/writing.rt:231:32
 enum-known-k : tie.Need-enum-known-k Inv-loop2 μ-loop2 Inv-loop μ-loop Inv-scan μ-scan
@@ -78,9 +78,9 @@ loop2-less c = let f = falls-go _ _ _ _ _ _ (c .before .before .before .before .
 -- src/writing.rt:229:13
 loop2-again : tie.Need-loop2-again Inv-loop2 μ-loop2 Inv-loop μ-loop Inv-scan μ-scan
 loop2-again c = let f = falls-go _ _ _ _ _ _ (c .before .before .before .before .before .before .before .visit .ensures .falls) (c .before .p .given .1) in (
-      record { marks = c .before .before .before .before .before .before .before .visit .kept .1 .1 .1 .0 ∙ c .before .before .before .before .before .before .before .before .before .before .before .loop2 .inv .0 .marks; bytes = c .before .before .before .before .before .before .before .visit .kept .1 .1 .1 .1 .0 ∙ c .before .before .before .before .before .before .before .before .before .before .before .loop2 .inv .0 .bytes; spent = f .2 },
-      turn-go _ _ _ _ _ _ _ _ _ _ _ _ _ _ _ _ _ (c .before .before .before .before .before .before .before .before .before .before .before .loop2 .inv .1) (c .before .before .before .before .before .before .before .visit .ensures) (c .before .p .given .1) (c .before .before .before .before .before .before .before .before .before .before .loop2-test .taken),
-    )
+  record { marks = c .before .before .before .before .before .before .before .visit .kept .1 .1 .1 .0 ∙ c .before .before .before .before .before .before .before .before .before .before .before .loop2 .inv .0 .marks; bytes = c .before .before .before .before .before .before .before .visit .kept .1 .1 .1 .1 .0 ∙ c .before .before .before .before .before .before .before .before .before .before .before .loop2 .inv .0 .bytes; spent = f .2 },
+  turn-go _ _ _ _ _ _ _ _ _ _ _ _ _ _ _ _ _ (c .before .before .before .before .before .before .before .before .before .before .before .loop2 .inv .1) (c .before .before .before .before .before .before .before .visit .ensures) (c .before .p .given .1) (c .before .before .before .before .before .before .before .before .before .before .loop2-test .taken),
+)
 
 -- src/writing.rt:227:13
 add-pass : tie.Need-add-pass Inv-loop2 μ-loop2 Inv-loop μ-loop Inv-scan μ-scan

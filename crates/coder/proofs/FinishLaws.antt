@@ -1,0 +1,56 @@
+-- The value of known bits, one way at a time, and the final pass entry by entry.
+use mathlib.Core.Path.{_≡_, refl, sym, ap, _∙_}
+use mathlib.Core.List.{List, _++_, append-nil}
+use Prim.Native.Nat.{ℕ, _+_, _*_, _-_, _%_, _^_, _≤_, _<_}
+use native.Mathlib.Omega.{arith}
+use borrow.Author.Tests.{eq-eqb, ne-eqb}
+use lib.IntN.{ℤ, pos}
+use lib.ListN.{length, getD, drop}
+use lib.Pow.{pow-mono}
+use lib.Seq.{getD-drop, getD-append-add, drop-length}
+use Rattle.sizes.specs.Sizes.{limit, mostPlanes}
+use Rattle.sizes.specs.Tables.{table}
+use Rattle.sizes.proofs.Tables.{table-length}
+use Rattle.coef.specs.Coef.{magnitude, negative, signed}
+use Rattle.coef.specs.declared.Joined.{Joined}
+use Rattle.coef.specs.declared.Joined.the-variants.{Is, TooLarge}
+use Rattle.coef.proofs.Laws.{signed-back, magnitude-signed}
+use Rattle.nls.specs.Reading.{midpoint, valueBy}
+
+-- the two answers of `join_of`
+pub is-one : (a b : ℤ) → Is a ≡ Is b → a ≡ b
+is-one a b e = cc
+
+pub is-not : (a : ℤ) → Is a ≡ TooLarge → ⊥
+is-not a e = let z : _≡_ {A = ℕ} 0 1 = cc in absurd (omega arith)
+
+module _ (z : ℤ) (k : ℕ) where
+  pub value-none : magnitude z ≡ 0 → pos 0 ≡ valueBy midpoint k z
+  unfolding valueBy
+  value-none e = rw (eq-eqb (magnitude z) 0 e)
+
+  module _ (n : magnitude z ≡ 0 → ⊥) where
+    pub value-all : k ≡ 0 → z ≡ valueBy midpoint k z
+    unfolding valueBy
+    value-all e = rw (ne-eqb (magnitude z) 0 n, eq-eqb k 0 e) (sym (signed-back z))
+
+    pub value-half : (k ≡ 0 → ⊥) → signed (negative z) (magnitude z + 2 ^ (k - 1)) ≡ valueBy midpoint k z
+    unfolding valueBy
+    value-half e = rw (ne-eqb (magnitude z) 0 n, ne-eqb k 0 e)
+
+    pub half-in : (k ≡ 0 → ⊥) → magnitude (valueBy midpoint k z) ≤ limit → magnitude z + 2 ^ (k - 1) ≤ limit
+    half-in e h = omega (arith, h, ap magnitude (value-half e), magnitude-signed (negative z) (magnitude z + 2 ^ (k - 1)))
+
+-- 2^(k-1) as the machine shifts it
+pub shifted : (k : ℕ) → k ≤ mostPlanes → (1 * 2 ^ (k - 1)) % 4294967296 ≡ 2 ^ (k - 1)
+shifted k h = omega (arith, pow-mono {i = k - 1} {j = mostPlanes} (omega arith))
+
+-- what is not done yet stands as it was
+pub not-yet : {A : Type 0} (q : ℕ) (f : ℕ → A) (held : List A) (d : A) → getD (table q f ++ drop q held) q d ≡ getD held q d
+not-yet q f held d =
+    ap (λ (k : ℕ). getD (table q f ++ drop q held) k d) {x = q} {y = length (table q f) + 0} (omega (arith, table-length q f))
+    ∙ getD-append-add (table q f) (drop q held) 0 d ∙ getD-drop q held 0 d ∙ ap (λ (k : ℕ). getD held k d) {x = q + 0} {y = q} (omega arith)
+
+-- and where all is done nothing else is left
+pub whole : {A : Type 0} (q : ℕ) (f : ℕ → A) (held : List A) → q ≡ length held → table q f ++ drop q held ≡ table q f
+whole {A} q f held e = ap (λ (k : ℕ). table q f ++ drop k held) e ∙ ap (λ (l : List A). table q f ++ l) (drop-length held) ∙ append-nil (table q f)
