@@ -2,7 +2,7 @@
 use mathlib.Core.Path.{_≡_, refl, sym, ap, _∙_}
 use mathlib.Core.Bool.{Bool, true, false, _&&_}
 use mathlib.Core.List.{List, _∷_}
-use Prim.Native.Nat.{ℕ, _+_, _*_, _/_, _-_, _≤_, _<_, min}
+use Prim.Native.Nat.{ℕ, _+_, _*_, _/_, _%_, _-_, _≤_, _<_, min}
 use native.Mathlib.Nat.{mul-le-mul}
 use native.Mathlib.Decide.{decLt}
 use native.Mathlib.Omega.{arith}
@@ -16,7 +16,7 @@ use Rattle.refusals.specs.declared.Refusal.the-variants.{Side, Levels, Length, 
 use Rattle.refusals.specs.declared.Outcome.{Outcome}
 use Rattle.refusals.specs.declared.Outcome.the-variants.{Done, Refused}
 use Rattle.sizes.specs.Sizes.{mostN, allOf, coarsestOf, sideFits, levelsFit, mostPlanes}
-use Rattle.sizes.proofs.Laws.{both-left, both-right, sized, side-most, all-most, coarsest-all}
+use Rattle.sizes.proofs.Laws.{both-left, both-right, sized, side-most, all-most, coarsest-least, coarsest-all, coarsest-four}
 use Rattle.bits.specs.Bits.{bytesFor}
 use Rattle.coef.specs.Coef.{firstOver, planesOf}
 use Rattle.coef.proofs.Laws.{first-le}
@@ -204,6 +204,13 @@ room-some out offset bytes h = tell (decLt out (offset + bytes))
     tell (yes k) = lt-leb bytes (out - offset) (omega arith) ∙ sym (lt-leb (offset + bytes) out k)
     tell (no k) = le-leb bytes (out - offset) (omega arith) ∙ sym (le-leb (offset + bytes) out (omega arith))
 
+-- what the start table and the scans ask of the sizes
+pub sizes-near : (N L all coarsest : ℕ) → all ≡ allOf N → coarsest ≡ coarsestOf N L → sideFits N ≡ true → levelsFit N L ≡ true
+    → (all ≤ allOf mostN) × (4 ≤ coarsest) × (4 * coarsest ≤ all) × (coarsest % 4 ≡ 0)
+sizes-near N L all coarsest ea ec s l =
+    let z = sized N L l in
+    (omega (arith, ea, all-most N (side-most N s)), omega (arith, ec, coarsest-least N L z), omega (arith, ea, ec, coarsest-all N L z), ap (λ (x : ℕ). x % 4) ec ∙ coarsest-four N L z)
+
 -- the parts of the worst body, which the largest N bounds
 module _ (N L P : ℕ) where
   pub worst-none : P ≡ 0 → 0 ≡ worstBody N L P
@@ -217,6 +224,6 @@ module _ (N L P : ℕ) where
   pub parts-near : (all coarsest : ℕ) → all ≡ allOf N → coarsest ≡ coarsestOf N L → sideFits N ≡ true → levelsFit N L ≡ true → P ≤ mostPlanes
       → (all ≤ allOf mostN) × (4 * coarsest ≤ all) × (all * (P + 1) ≤ allOf mostN * (mostPlanes + 1))
   parts-near all coarsest ea ec s l p =
-      let near : all ≤ allOf mostN = omega (arith, ea, all-most N (side-most N s)) in
+      let near = sizes-near N L all coarsest ea ec s l in
       let more : P + 1 ≤ mostPlanes + 1 = omega arith in
-      (near, omega (arith, ea, ec, coarsest-all N L (sized N L l)), mul-le-mul near more)
+      (near .0, near .2, mul-le-mul (near .0) more)

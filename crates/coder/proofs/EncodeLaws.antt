@@ -1,5 +1,5 @@
 -- What the encoder's scan leaves, from the summaries and the start table on.
-use Prim.Native.Nat.{ℕ, _+_, _-_, _*_, _/_, _%_, _≤_, _<_, min}
+use Prim.Native.Nat.{ℕ, _+_, _-_, _*_, _/_, _≤_, _<_, min}
 use mathlib.Core.Path.{_≡_, sym, ap, _∙_}
 use mathlib.Core.List.{List, [], _++_, append-nil}
 use native.Mathlib.Omega.{arith}
@@ -9,9 +9,9 @@ use lib.Seq.{take-all, drop-drop, drop-length}
 use Rattle.refusals.specs.Checks.{firstOf, lentAfter}
 use Rattle.refusals.specs.declared.Outcome.{Outcome}
 use Rattle.refusals.specs.declared.Outcome.the-variants.{Done}
-use Rattle.sizes.specs.Sizes.{mostN, mostPlanes, allOf, coarsestOf, Sized}
+use Rattle.sizes.specs.Sizes.{mostPlanes, allOf, coarsestOf, Sized}
 use Rattle.sizes.specs.Tables.{table}
-use Rattle.sizes.proofs.Laws.{side-least, side-most, all-most, sized, coarsest-least, coarsest-all, coarsest-four, all-sixteen}
+use Rattle.sizes.proofs.Laws.{side-least, side-most, sized, coarsest-least, all-sixteen}
 use Rattle.sizes.proofs.Tables.{table-length, table-at}
 use Rattle.bits.specs.Bits.{bytesFor, packed}
 use Rattle.coef.specs.Coef.{IsPlanes, planesOf}
@@ -39,12 +39,6 @@ sent-most N L A budget = omega (arith, length-take budget (stream N L (planesOf 
 module _ (N L : ℕ) (A : List ℤ) (descs grands outs budget : ℕ) (ready : EncodeReady N L A descs grands outs budget) where
   z : Sized N L
   z = sized N L (ready .levels)
-
-  -- what the start table and the scan ask of the sizes
-  pub sizes-so : (all coarsest : ℕ) → all ≡ allOf N → coarsest ≡ coarsestOf N L
-      → (all ≤ allOf mostN) × (4 ≤ coarsest) × (4 * coarsest ≤ all) × (coarsest % 4 ≡ 0)
-  sizes-so all coarsest ea ec =
-      (omega (arith, ea, all-most N (side-most N (ready .side))), omega (arith, ec, coarsest-least N L z), omega (arith, ea, ec, coarsest-all N L z), ap (λ (x : ℕ). x % 4) ec ∙ coarsest-four N L z)
 
   -- the planes are those of the array, and no more than there may be
   pub planes-so : (P : ℕ) → IsPlanes A P → (P ≡ planesOf A) × (P ≤ mostPlanes)

@@ -12,17 +12,8 @@ use Rattle.sizes.specs.Sizes.{limit, mostPlanes}
 use Rattle.sizes.specs.Tables.{table}
 use Rattle.sizes.proofs.Tables.{table-length}
 use Rattle.coef.specs.Coef.{magnitude, negative, signed}
-use Rattle.coef.specs.declared.Joined.{Joined}
-use Rattle.coef.specs.declared.Joined.the-variants.{Is, TooLarge}
 use Rattle.coef.proofs.Laws.{signed-back, magnitude-signed}
 use Rattle.nls.specs.Reading.{midpoint, valueBy}
-
--- the two answers of `join_of`
-pub is-one : (a b : ℤ) → Is a ≡ Is b → a ≡ b
-is-one a b e = cc
-
-pub is-not : (a : ℤ) → Is a ≡ TooLarge → ⊥
-is-not a e = let z : _≡_ {A = ℕ} 0 1 = cc in absurd (omega arith)
 
 module _ (z : ℤ) (k : ℕ) where
   pub value-none : magnitude z ≡ 0 → pos 0 ≡ valueBy midpoint k z
@@ -52,5 +43,5 @@ not-yet q f held d =
     ∙ getD-append-add (table q f) (drop q held) 0 d ∙ getD-drop q held 0 d ∙ ap (λ (k : ℕ). getD held k d) {x = q + 0} {y = q} (omega arith)
 
 -- and where all is done nothing else is left
-pub whole : {A : Type 0} (q : ℕ) (f : ℕ → A) (held : List A) → q ≡ length held → table q f ++ drop q held ≡ table q f
-whole {A} q f held e = ap (λ (k : ℕ). table q f ++ drop k held) e ∙ ap (λ (l : List A). table q f ++ l) (drop-length held) ∙ append-nil (table q f)
+pub whole : {A : Type 0} (q : ℕ) (own held : List A) → length held ≡ q → own ++ drop q held ≡ own
+whole {A} q own held e = ap (λ (k : ℕ). own ++ drop k held) (sym e) ∙ ap (λ (l : List A). own ++ l) (drop-length held) ∙ append-nil own

@@ -7,6 +7,12 @@ pub mod WriteLaws
 pub mod WriteTurns
 pub mod Led
 pub mod Sent
+pub mod ReadLaws
+pub mod ValueLaws
+pub mod ReadTurns
+pub mod Fair
+pub mod Received
 pub mod CheckLaws
 pub mod FinishLaws
 pub mod EncodeLaws
+pub mod DecodeLaws

@@ -5,7 +5,7 @@ use mathlib.Core.Bool.{true}
 use mathlib.Core.List.{List}
 use lib.IntN.{ℤ}
 use lib.ListN.{length}
-use Rattle.sizes.specs.Sizes.{allOf, sideFits, levelsFit}
+use Rattle.sizes.specs.Sizes.{allOf, sideFits, levelsFit, mostPlanes}
 use Rattle.bits.specs.Bits.{bytesFor}
 use Rattle.coef.specs.Coef.{firstOver, planesOf}
 use Rattle.nls.specs.Stream.{worstBody}
@@ -19,3 +19,12 @@ pub record EncodeReady (N L : ℕ) (A : List ℤ) (descs grands out budget : ℕ
   pub descRoom : allOf N / 4 ≤ descs
   pub grandRoom : allOf N / 16 ≤ grands
   pub outRoom : bytesFor (min budget (worstBody N L (planesOf A))) ≤ out
+
+-- sizes in range, no more planes than there may be, and tables of I entries
+pub record ReadReady (N L P values precisions marks : ℕ) : Type 0 where
+  pub side : sideFits N ≡ true
+  pub levels : levelsFit N L ≡ true
+  pub planes : P ≤ mostPlanes
+  pub valuesSize : values ≡ allOf N
+  pub precisionsSize : precisions ≡ allOf N
+  pub marksSize : marks ≡ allOf N

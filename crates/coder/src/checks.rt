@@ -22,14 +22,13 @@ pub(crate) fn smaller(a: u32, b: u32) -> u32
 }
 
 // The usable bits of a body of this many bytes.
-pub(crate) fn usable_of(usable: u32, bytes: usize) -> usize
+pub(crate) fn usable_of(usable: u32, bytes: usize) -> u32
     ensures { λ r. ⌜ r ≡ min usable (8 * bytes) ⌝ }
 {
-    let most = usable as usize;
-    if bytes <= most / 8 {
-        return 8 * bytes;
+    if bytes <= (usable / 8) as usize {
+        return 8 * (bytes as u32);
     }
-    most
+    usable
 }
 
 // The worst body, for sizes in range.

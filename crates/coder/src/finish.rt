@@ -4,22 +4,8 @@ ghost use Prim.Native.Nat.{ℕ, _≤_, _<_, min};
 ghost use lib.ListN.{length, getD};
 ghost use Rattle.sizes.specs.Sizes.{limit, mostPlanes};
 ghost use Rattle.sizes.specs.Tables.{table};
-ghost use Rattle.coef.specs.Coef.{at, magnitude, signed};
+ghost use Rattle.coef.specs.Coef.{at, magnitude};
 ghost use Rattle.nls.specs.Reading.{midpoint, valueBy};
-
-// A value of a sign and a magnitude within the limit.
-fn with_sign(negative: bool, magnitude: u32) -> i32
-    requires { ⌜ magnitude ≤ limit ⌝ }
-    ensures { λ r. ⌜ r ≡ signed negative magnitude ⌝ }
-{
-    match coef::join_of(coef::Signed {
-        negative,
-        magnitude,
-    }) {
-        coef::Joined::Is(v) => v,
-        coef::Joined::TooLarge => 0,
-    }
-}
 
 // The value of known bits at precision k.
 fn value_at(known: i32, k: u32) -> i32
@@ -33,7 +19,7 @@ fn value_at(known: i32, k: u32) -> i32
     if k == 0 {
         return known;
     }
-    with_sign(coef::is_negative(known), size + (1u32 << (k - 1)))
+    crate::reading::value_of(coef::is_negative(known), size + (1u32 << (k - 1)))
 }
 
 // The final pass: each precision becomes the smaller of itself and the planes left, and each value that of its known bits.

@@ -3,6 +3,7 @@ mod body;
 mod checks;
 mod finish;
 mod marks;
+mod reading;
 mod writing;
 
 pub use body::DecodeAnswer;
@@ -10,6 +11,7 @@ pub use body::EncodeAnswer;
 pub use body::ReadTo;
 pub use body::WorstAnswer;
 pub use body::Written;
+pub use body::decode;
 pub use body::encode;
 pub use body::worst_body;
 
@@ -17,4 +19,18 @@ pub use body::worst_body;
 pub enum Step {
     Stop(usize),
     Go(usize, usize),
+}
+
+// The same for the decoder and the bits used; it may also have met a bit that fits no array.
+pub enum Turn {
+    Stop(usize),
+    Bad(usize),
+    Go(usize, usize),
+}
+
+// Where the decoder's scan ended: the bits used, the planes not finished, and whether the next bit fits no array.
+pub struct Reached {
+    pub bits: usize,
+    pub left: u32,
+    pub bad: bool,
 }

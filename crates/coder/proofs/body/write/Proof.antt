@@ -9,7 +9,8 @@ use Rattle.bits.specs.Bits.{bytesFor, packed}
 use Rattle.coef.specs.Coef.{planesOf}
 use Rattle.tree.specs.Summaries.{descTable, grandTable}
 use Rattle.coder.specs.Body.{sentBits, sentMarks}
-use Rattle.coder.proofs.EncodeLaws.{sent-most, sizes-so, planes-so, filled, tables-so, written}
+use Rattle.coder.proofs.CheckLaws.{sizes-near}
+use Rattle.coder.proofs.EncodeLaws.{sent-most, planes-so, filled, tables-so, written}
 use Rattle.coder.proofs.body.write.Statement.{statement}
 use Rattle.coder.proofs.body.write.Tie as tie
 
@@ -32,7 +33,7 @@ start-requires : tie.Need-start-requires
 start-requires c κs =
     let start = c .before .before .before .before .before .before .before .before .before .before .before .before .before .before in
     let a = start .args in
-    let s = sizes-so (a .n) (a .l) (a .coefs .now) (length (a .desc .now)) (length (a .grand .now)) (length (a .out .now)) (a .budget) (start .pre .0) (c .before .before .all-of .result) (c .coarsest-of .result) (all-so (c .before .before)) (coarsest-so c) in
+    let s = sizes-near (a .n) (a .l) (c .before .before .all-of .result) (c .coarsest-of .result) (all-so (c .before .before)) (coarsest-so c) (start .pre .0 .side) (start .pre .0 .levels) in
     (start .pre .1 ∙ sym (all-so (c .before .before)), s .0, s .1, s .2, s .3)
 
 planes-requires : tie.Need-planes-requires
@@ -59,7 +60,7 @@ scan-requires c κs =
     let a = start .args in
     let e = all-so (c .before .before .before .before .before .before .before .before .before .before .before .before) in
     let r = start .pre .0 in
-    let s = sizes-so (a .n) (a .l) (a .coefs .now) (length (a .desc .now)) (length (a .grand .now)) (length (a .out .now)) (a .budget) r (c .before .before .before .before .before .before .before .before .before .before .before .before .all-of .result) (c .before .before .before .before .before .before .before .before .before .before .coarsest-of .result) e (coarsest-so (c .before .before .before .before .before .before .before .before .before .before)) in (
+    let s = sizes-near (a .n) (a .l) (c .before .before .before .before .before .before .before .before .before .before .before .before .all-of .result) (c .before .before .before .before .before .before .before .before .before .before .coarsest-of .result) e (coarsest-so (c .before .before .before .before .before .before .before .before .before .before)) (r .side) (r .levels) in (
       c .before .before .before .before .before .before .before .before .before .start .kept .0 ∙ start .pre .1 ∙ sym e,
       s .0,
       omega (arith, e, r .whole),

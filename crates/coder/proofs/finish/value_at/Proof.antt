@@ -2,6 +2,7 @@ use mathlib.Core.Path.{_≡_, sym, _∙_}
 use Prim.Native.Nat.{_+_, _-_, _^_, _≤_}
 use native.Mathlib.Omega.{arith}
 use borrow.Author.Needs.{needs}
+use borrow.Author.Tests.{le-leb}
 use mir.Facts.{toZ-ofZ}
 use mir.Syntax.{w32}
 use mir.Val.{SFits}
@@ -38,29 +39,28 @@ returns-2 c =
 is-negative-requires : tie.Need-is-negative-requires
 is-negative-requires c κs = search needs
 
-sub-with-sign : tie.Need-sub-with-sign
-sub-with-sign c = search needs
+sub-value-of : tie.Need-sub-value-of
+sub-value-of c = search needs
 
-shl-with-sign : tie.Need-shl-with-sign
-shl-with-sign c = search needs
+shl-value-of : tie.Need-shl-value-of
+shl-value-of c = search needs
 
-add-with-sign : tie.Need-add-with-sign
-add-with-sign c =
+add-value-of : tie.Need-add-value-of
+add-value-of c =
     let start = c .before .before .before .before in
     record { fits = omega (arith, half-so (c .before), shifted (start .args .k) (start .pre .0)) }
 
-with-sign-requires : tie.Need-with-sign-requires
-with-sign-requires c κs =
-    let start = c .before .before .before .before in
-    omega (arith, half-so (c .before), shifted (start .args .k) (start .pre .0))
+value-of-requires : tie.Need-value-of-requires
+value-of-requires c κs = search needs
 
 returns-3 : tie.Need-returns-3
 returns-3 c =
     let start = c .before .before .before .before .before in
     let a = start .args in
     let below : c .before .is-negative .result ≡ negative (a .known) = rw (toZ-ofZ (start .fits .known)) at (c .before .is-negative .ensures) in
-    let f : SFits w32 (c .with-sign .result) = record { sfits = c .with-sign .ok } in
-    toZ-ofZ f ∙ c .with-sign .ensures ∙ rw (below, size-so (c .before .before .before .before), shifted (a .k) (start .pre .0)) (value-half (a .known) (a .k) (some-so (c .before .before .before)) (c .before .before .if2 .left))
+    let within : magnitude (a .known) + 2 ^ (a .k - 1) ≤ limit = half-in (a .known) (a .k) (some-so (c .before .before .before)) (c .before .before .if2 .left) (start .pre .1) in
+    let f : SFits w32 (c .value-of .result) = record { sfits = c .value-of .ok } in
+    toZ-ofZ f ∙ c .value-of .ensures ∙ rw (below, size-so (c .before .before .before .before), shifted (a .k) (start .pre .0), le-leb (magnitude (a .known) + 2 ^ (a .k - 1)) limit within) (value-half (a .known) (a .k) (some-so (c .before .before .before)) (c .before .before .if2 .left))
 
 pub value-at-spec : {M : Type 1} → statement M
 value-at-spec =
@@ -70,8 +70,8 @@ value-at-spec =
     returns
     returns-2
     is-negative-requires
-    sub-with-sign
-    shl-with-sign
-    add-with-sign
-    with-sign-requires
+    sub-value-of
+    shl-value-of
+    add-value-of
+    value-of-requires
     returns-3)
