@@ -1,16 +1,16 @@
--- Laws of bits: of a number's, of a body's, of a bit that is put, and of bits packed into bytes.
+-- Laws of bits: those of a number and of a body, a bit that is put, and bits packed into bytes.
 use mathlib.Core.Path.{_≡_, refl, sym, ap, _∙_}
-use mathlib.Core.Bool.{Bool, true, false, _||_, true≢false}
+use mathlib.Core.Bool.{Bool, true, false, _||_}
 use mathlib.Core.List.{List, [], _∷_, _++_}
 use Prim.Native.Nat.{ℕ, zero, suc, _+_, _*_, _-_, _/_, _%_, _^_, _≤_, _<_, max}
 use native.Mathlib.Nat.{pow-suc, zero-div, div-one, div-eq-of-lt-le, mod-lt}
 use native.Mathlib.Decide.{decLt, ℕ-discrete}
 use native.Mathlib.Omega.{arith}
-use borrow.Author.Tests.{eq-eqb, ne-eqb}
+use borrow.Author.Tests.{eqb-true, eqb-false, eq-eqb, ne-eqb}
 use lib.Bits.{bitOr, or-step, or-shr}
 use lib.Dec.{eqb, lit<, lit≤}
 use lib.ListN.{take-append-drop, length, getD, take, drop, length-append, length-set, length-drop, List·getD-append, List·getD-eq-default}
-use lib.Arith.{digits-lt}
+use lib.Arith.{digits-lt, bin-ind}
 use lib.Pow.{shr-shr, high, low, field, mod-mod-pow, shl-shr, shl-lt, pow-add, pow-pos}
 use lib.Seq.{length-take-le, getD-set-same, getD-set-other, set-out, drop-set-lt, drop-append-add, drop-drop, getD-at, getD-take, ext-getD}
 use Rattle.sizes.specs.Tables.{table}
@@ -48,14 +48,22 @@ unfolding bit
 bit-top x b h k =
     ap (λ (y : ℕ). eqb (y % 2) 1) (div-eq-of-lt-le {k = 1} (2 ^ b) {m = x} (omega (arith, h)) (omega (arith, k, pow-suc 2 b)))
 
-low-eq : (x y : ℕ) → eqb (x % 2) 1 ≡ eqb (y % 2) 1 → x % 2 ≡ y % 2
-low-eq x y e = go (ℕ-discrete (x % 2) 1) (ℕ-discrete (y % 2) 1)
+-- bit 0 is what is left of a division by 2
+pub bit-low : (x y : ℕ) → x % 2 ≡ y % 2 → bit x 0 ≡ bit y 0
+bit-low x y e = bit-0 x ∙ ap (λ (z : ℕ). eqb z 1) e ∙ sym (bit-0 y)
+
+pub low-bit : (x y : ℕ) → bit x 0 ≡ bit y 0 → x % 2 ≡ y % 2
+low-bit x y e = tell (bit y 0) refl
   where
-    go : Dec (x % 2 ≡ 1) → Dec (y % 2 ≡ 1) → x % 2 ≡ y % 2
-    go (yes a) (yes b) = a ∙ sym b
-    go (no a) (no b) = omega arith
-    go (yes a) (no b) = absurd (true≢false (sym (eq-eqb _ _ a) ∙ e ∙ ne-eqb _ _ b))
-    go (no a) (yes b) = absurd (true≢false (sym (eq-eqb _ _ b) ∙ sym e ∙ ne-eqb _ _ a))
+    tell : (t : Bool) → bit y 0 ≡ t → x % 2 ≡ y % 2
+    tell true f = eqb-true (x % 2) 1 (sym (bit-0 x) ∙ e ∙ f) ∙ sym (eqb-true (y % 2) 1 (sym (bit-0 y) ∙ f))
+    tell false f = omega (arith, eqb-false (x % 2) 1 (sym (bit-0 x) ∙ e ∙ f), eqb-false (y % 2) 1 (sym (bit-0 y) ∙ f))
+
+-- a number with no bits is 0
+pub no-bits : (x : ℕ) → ((b : ℕ) → bit x b ≡ false) → x ≡ 0
+no-bits =
+    bin-ind (λ (x : ℕ). ((b : ℕ) → bit x b ≡ false) → x ≡ 0) (λ h. refl)
+    (λ x ih h. omega (arith, ih (λ b. sym (bit-suc x b) ∙ h (suc b)), low-bit x 0 (h 0 ∙ sym (bit-none 0))))
 
 -- equal bits, equal numbers
 pub eq-bits : (n x y : ℕ) → x < 2 ^ n → y < 2 ^ n → ((b : ℕ) → b < n → bit x b ≡ bit y b) → x ≡ y
@@ -63,7 +71,7 @@ eq-bits zero x y h k f = omega (arith, h, k)
 eq-bits (suc n) x y h k f =
     omega (
       arith,
-      low-eq x y (sym (bit-0 x) ∙ f 0 (omega arith) ∙ bit-0 y),
+      low-bit x y (f 0 (omega arith)),
       eq-bits n (x / 2) (y / 2) (omega (arith, h, pow-suc 2 n)) (omega (arith, k, pow-suc 2 n)) (λ b l. sym (bit-suc x b) ∙ f (suc b) (omega arith) ∙ bit-suc y b),
     )
 

@@ -3,7 +3,7 @@ ghost use mathlib.Core.Path.{_≡_};
 ghost use Prim.Native.Nat.{_<_};
 ghost use Rattle.bits.specs.Bits.{bit, fetched, byteWith, withBit};
 
-// A bit, or no more.
+// What a fetch answers: a bit, or that there are no more.
 pub enum Next {
     Bit(bool),
     NoMore,

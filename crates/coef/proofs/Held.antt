@@ -1,12 +1,12 @@
 -- What the machine does with a signed number. A local holds its bits, so that a goal speaks of `toZ w32 (ofZ w32 z)`.
 use mathlib.Core.Path.{_≡_, refl, sym, _∙_, ap, subst}
 use mathlib.Core.Bool.{Bool, true, false, true≢false, false≢true}
-use Prim.Native.Nat.{ℕ, zero, suc, _<_, _≤_, _^_}
+use Prim.Native.Nat.{ℕ, zero, suc, _+_, _<_, _≤_, _^_}
 use native.Mathlib.Omega.{arith}
 use lib.Arith.{lt-of-le-ne}
 use lib.Dec.{T, leb·suc-zero, le→leb, lt→ltb}
 use lib.Ieee.{binary32, inFloat}
-use lib.IntN.{ℤ, pos, negsuc, negℤ, _-ℤ_, +ℤ-idl}
+use lib.IntN.{ℤ, pos, negsuc, sucℤ, negℤ, _+ℤ_, _-ℤ_, +ℤ-idl, +ℤ-one}
 use lib.Signed.{ltZ, nonNeg, mag}
 use mir.Facts.{toZ-ofZ, toZ-pos}
 use mir.Syntax.{w32}
@@ -69,6 +69,37 @@ module _ (z : ℤ) (f : SFits w32 z) (h : magnitude z < 2 ^ 31) where
   neg-cast n =
       subst (λ (y : ℤ). T (nonNeg y) × Fits w32 (magnitude y)) (sym negated)
       (neg-nonNeg z n, record { fits = omega (arith, neg-size z) })
+
+-- one more than a number below 0
+next-fits : (z : ℤ) → SFits w32 z → negative z ≡ true → SFits w32 (sucℤ z)
+next-fits (pos n) f h = absurd (false≢true h)
+next-fits (negsuc zero) f h = record { sfits = omega arith }
+next-fits (negsuc (suc n)) f h = record { sfits = omega (arith, f .sfits) }
+
+next-size : (z : ℤ) → negative z ≡ true → magnitude (sucℤ z) + 1 ≡ magnitude z
+next-size (pos n) h = absurd (false≢true h)
+next-size (negsuc zero) h = refl
+next-size (negsuc (suc n)) h = omega arith
+
+size-most : (z : ℤ) → SFits w32 z → magnitude z ≤ 2147483648
+size-most (pos n) f = omega (arith, f .sfits)
+size-most (negsuc n) f = omega (arith, f .sfits)
+
+module _ (z : ℤ) (f : SFits w32 z) (n : negative z ≡ true) where
+  raised : toZ w32 (ofZ w32 z) +ℤ pos 1 ≡ sucℤ z
+  raised = ap (λ (y : ℤ). y +ℤ pos 1) (toZ-ofZ f) ∙ +ℤ-one z
+
+  pub raised-fits : SFits w32 (toZ w32 (ofZ w32 z) +ℤ pos 1)
+  raised-fits = subst (λ (y : ℤ). SFits w32 y) (sym raised) (next-fits z f n)
+
+  held : magnitude (toZ w32 (ofZ w32 (toZ w32 (ofZ w32 z) +ℤ pos 1))) ≡ magnitude (sucℤ z)
+  held = ap magnitude (toZ-ofZ raised-fits ∙ raised)
+
+  pub raised-size : magnitude (toZ w32 (ofZ w32 (toZ w32 (ofZ w32 z) +ℤ pos 1))) + 1 ≡ magnitude z
+  raised-size = omega (arith, held, next-size z n)
+
+  pub raised-below : magnitude (toZ w32 (ofZ w32 (toZ w32 (ofZ w32 z) +ℤ pos 1))) < 2147483648
+  raised-below = omega (arith, raised-size, size-most z f)
 
 -- what the cast of a number that is not below 0 asks
 pub pos-cast : (z : ℤ) → SFits w32 z → negative z ≡ false

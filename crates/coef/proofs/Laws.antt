@@ -3,7 +3,7 @@ use mathlib.Core.Path.{_≡_, refl, sym, ap, _∙_}
 use mathlib.Core.Bool.{Bool, true, false, true≢false, cond}
 use mathlib.Core.List.{List, [], _∷_}
 use mathlib.Core.Logic.{_⊎_, inl, inr, ⊎-elim}
-use Prim.Native.Nat.{ℕ, zero, suc, _-_, _/_, _≤_, _<_, _^_, max}
+use Prim.Native.Nat.{ℕ, zero, suc, _-_, _/_, _≤_, _<_, _^_}
 use native.Mathlib.Nat.{pow-suc, le-antisymm}
 use native.Mathlib.Decide.{decLt}
 use native.Mathlib.Omega.{arith}

@@ -47,14 +47,14 @@ fn negated_if_below(x: i32) -> u32
     x as u32
 }
 
-// The magnitude of any number. The least one is told apart before any negation.
+// The magnitude of any number. One is added before the negation and after it, since the least number has no negative in its type.
 pub fn magnitude(x: i32) -> u32
     ensures { λ r. ⌜ r ≡ magnitude x ⌝ }
 {
-    if x == LEAST {
-        return 2147483648;
+    if x < 0 {
+        return negated_if_below(x + 1) + 1;
     }
-    negated_if_below(x)
+    x as u32
 }
 
 // Sign and magnitude of a coefficient. The least number is refused before any negation.

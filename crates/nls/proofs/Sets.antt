@@ -13,8 +13,9 @@ use lib.ListN.{length}
 use Rattle.sizes.specs.Sizes.{allOf, coarsestOf, Sized}
 use Rattle.bits.specs.Bits.{digit}
 use Rattle.coef.specs.Coef.{magAt}
-use Rattle.tree.specs.Tree.{desc, grand, anyIn, sumOver}
+use Rattle.tree.specs.Tree.{desc, grand, anyIn}
 use Rattle.tree.proofs.Laws.{desc-low, desc-high, grand-low, grand-high}
+use Rattle.tree.proofs.Sums.{sumOver}
 use Rattle.tree.proofs.Sums as over
 use Rattle.nls.specs.Parts.{sumTo, countTo, some, found, descSplit, grandSplit, standsAlone, descStands, grandStands, parts, partSizes, splits, founds, nonzeros}
 use Rattle.nls.specs.Stream.{worstBody}

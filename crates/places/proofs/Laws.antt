@@ -1,9 +1,9 @@
--- The laws of the index layer.
+-- Laws of places: spreading, rows and columns, children and parents, interleaving, the two orders.
 use mathlib.Core.Path.{_≡_, refl, sym, _∙_, ap}
 use mathlib.Core.Bool.{Bool, true, false}
 use mathlib.Core.List.{List}
 use Prim.Native.Nat.{ℕ, zero, suc, _+_, _*_, _/_, _%_, _^_, _<_, _≤_}
-use native.Mathlib.Nat.{pow-suc, pow-succ', mul-assoc, div-add-mod', mod-lt, div-div-eq-div-mul, zero-div, zero-add, suc-add}
+use native.Mathlib.Nat.{pow-suc, pow-succ', mul-assoc, div-add-mod', mod-lt, div-div-eq-div-mul, zero-add, suc-add}
 use native.Mathlib.Omega.{arith}
 use borrow.Author.Tests.{eqb-true, eqb-false}
 use lib.Arith.{digits-lt}
@@ -14,37 +14,12 @@ use lib.ListN.{length, getD}
 use lib.Pow.{pow-pos, pow-add, shr-lt, high, low}
 use lib.Seq.{ext-getD}
 use Rattle.bits.specs.Bits.{bit}
+use Rattle.bits.proofs.Laws.{bit-none, bit-suc, bit-low, low-bit, no-bits}
 use Rattle.sizes.specs.Sizes.{allOf}
 use Rattle.sizes.proofs.Laws.{four}
 use Rattle.sizes.proofs.Tables.{table-length, table-at}
 use Rattle.places.specs.Spread.{Spreads, spread}
 use Rattle.places.specs.Order.{interleaved, rowOf, colOf, toLinear, toRaster, linearly, rasterly}
-
--- Bits of a number and of its half.
-bit-zero : (b : ℕ) → bit 0 b ≡ false
-unfolding bit
-bit-zero b = rw (zero-div (2 ^ b))
-
-bit-low : (x y : ℕ) → x % 2 ≡ y % 2 → bit x 0 ≡ bit y 0
-unfolding bit
-bit-low x y e = let h : x / 1 % 2 ≡ y / 1 % 2 = omega arith in rw h
-
-bit-up : (x b : ℕ) → bit x (suc b) ≡ bit (x / 2) b
-unfolding bit
-bit-up x b = ap (λ (y : ℕ). eqb (y % 2) 1) (ap (λ (m : ℕ). x / m) (pow-succ' 2 b) ∙ sym (div-div-eq-div-mul x 2 (2 ^ b)))
-
-low-bit : (x y : ℕ) → bit x 0 ≡ bit y 0 → x % 2 ≡ y % 2
-unfolding bit
-low-bit x y e = tell (eqb (y / 1 % 2) 1) refl
-  where
-    tell : (t : Bool) → eqb (y / 1 % 2) 1 ≡ t → x % 2 ≡ y % 2
-    tell true f = omega (arith, eqb-true (x / 1 % 2) 1 (e ∙ f), eqb-true (y / 1 % 2) 1 f)
-    tell false f = omega (arith, eqb-false (x / 1 % 2) 1 (e ∙ f), eqb-false (y / 1 % 2) 1 f)
-
-no-bits : (m y : ℕ) → y ≤ m → ((b : ℕ) → bit y b ≡ false) → y ≡ 0
-no-bits zero y h f = omega arith
-no-bits (suc m) y h f =
-    omega (arith, no-bits m (y / 2) (omega arith) (λ b. sym (bit-up y b) ∙ f (suc b)), low-bit y 0 (f 0 ∙ sym (bit-zero 0)))
 
 -- Spreading.
 pub spread-below : (n x : ℕ) → spread n x * 3 < 4 ^ n
@@ -54,26 +29,26 @@ spread-below (suc n) x = omega (arith, spread-below n (x / 2), pow-suc 4 n)
 
 even-at : (n x k : ℕ) → x < 2 ^ n → bit (spread n x) (2 * k) ≡ bit x k
 unfolding spread
-even-at zero x k h = let e : x ≡ 0 = omega arith in rw e (bit-zero (2 * k) ∙ sym (bit-zero k))
+even-at zero x k h = let e : x ≡ 0 = omega arith in rw e (bit-none (2 * k) ∙ sym (bit-none k))
 even-at (suc n) x zero h = bit-low (spread n (x / 2) * 4 + x % 2) x (omega arith)
 even-at (suc n) x (suc k) h =
     let y = spread n (x / 2) * 4 + x % 2 in
     let e : 2 * suc k ≡ suc (suc (2 * k)) = omega arith in
     let d : y / 2 / 2 ≡ spread n (x / 2) = omega arith in
-    ap (bit y) e ∙ bit-up y (suc (2 * k)) ∙ bit-up (y / 2) (2 * k) ∙ ap (λ (z : ℕ). bit z (2 * k)) d
-    ∙ even-at n (x / 2) k (omega (arith, pow-suc 2 n)) ∙ sym (bit-up x k)
+    ap (bit y) e ∙ bit-suc y (suc (2 * k)) ∙ bit-suc (y / 2) (2 * k) ∙ ap (λ (z : ℕ). bit z (2 * k)) d
+    ∙ even-at n (x / 2) k (omega (arith, pow-suc 2 n)) ∙ sym (bit-suc x k)
 
 odd-at : (n x k : ℕ) → bit (spread n x) (2 * k + 1) ≡ false
 unfolding spread
-odd-at zero x k = bit-zero (2 * k + 1)
+odd-at zero x k = bit-none (2 * k + 1)
 odd-at (suc n) x zero =
     let y = spread n (x / 2) * 4 + x % 2 in
-    bit-up y 0 ∙ bit-low (y / 2) 0 (omega arith) ∙ bit-zero 0
+    bit-suc y 0 ∙ bit-low (y / 2) 0 (omega arith) ∙ bit-none 0
 odd-at (suc n) x (suc k) =
     let y = spread n (x / 2) * 4 + x % 2 in
     let e : 2 * suc k + 1 ≡ suc (suc (2 * k + 1)) = omega arith in
     let d : y / 2 / 2 ≡ spread n (x / 2) = omega arith in
-    ap (bit y) e ∙ bit-up y (suc (2 * k + 1)) ∙ bit-up (y / 2) (2 * k + 1) ∙ ap (λ (z : ℕ). bit z (2 * k + 1)) d
+    ap (bit y) e ∙ bit-suc y (suc (2 * k + 1)) ∙ bit-suc (y / 2) (2 * k + 1) ∙ ap (λ (z : ℕ). bit z (2 * k + 1)) d
     ∙ odd-at n (x / 2) k
 
 pub spread-rule : (n x : ℕ) → x < 2 ^ n → Spreads x (spread n x)
@@ -84,11 +59,11 @@ rule-up : (x y : ℕ) → Spreads x y → Spreads (x / 2) (y / 4)
 rule-up x y s =
     let d : y / 2 / 2 ≡ y / 4 = omega arith in
     let up : (b : ℕ) → bit (y / 4) b ≡ bit y (suc (suc b)) =
-    λ b. sym (bit-up y (suc b) ∙ bit-up (y / 2) b ∙ ap (λ (z : ℕ). bit z b) d) in
+    λ b. sym (bit-suc y (suc b) ∙ bit-suc (y / 2) b ∙ ap (λ (z : ℕ). bit z b) d) in
     record {
       even = λ k.
           let e : suc (suc (2 * k)) ≡ 2 * suc k = omega arith in
-          up (2 * k) ∙ ap (bit y) e ∙ s .even (suc k) ∙ bit-up x k;
+          up (2 * k) ∙ ap (bit y) e ∙ s .even (suc k) ∙ bit-suc x k;
       odd = λ k.
           let e : suc (suc (2 * k + 1)) ≡ 2 * suc k + 1 = omega arith in
           up (2 * k + 1) ∙ ap (bit y) e ∙ s .odd (suc k);
@@ -100,7 +75,7 @@ rule-none y b s = tell (eqb (b % 2) 0) refl
     tell : (t : Bool) → eqb (b % 2) 0 ≡ t → bit y b ≡ false
     tell true f =
         let e : b ≡ 2 * (b / 2) = omega (arith, eqb-true (b % 2) 0 f) in
-        ap (bit y) e ∙ s .even (b / 2) ∙ bit-zero (b / 2)
+        ap (bit y) e ∙ s .even (b / 2) ∙ bit-none (b / 2)
     tell false f =
         let e : b ≡ 2 * (b / 2) + 1 = omega (arith, eqb-false (b % 2) 0 f) in
         ap (bit y) e ∙ s .odd (b / 2)
@@ -109,9 +84,9 @@ pub spread-only : (n x y : ℕ) → x < 2 ^ n → Spreads x y → y ≡ spread n
 unfolding spread
 spread-only zero x y h s =
     let e : x ≡ 0 = omega arith in
-    no-bits y y (omega arith) (λ b. rule-none y b (rw e at s))
+    no-bits y (λ b. rule-none y b (rw e at s))
 spread-only (suc n) x y h s =
-    omega (arith, spread-only n (x / 2) (y / 4) (omega (arith, pow-suc 2 n)) (rule-up x y s), low-bit y x (s .even 0), low-bit (y / 2) 0 (sym (bit-up y 0) ∙ s .odd 0 ∙ sym (bit-zero 0)))
+    omega (arith, spread-only n (x / 2) (y / 4) (omega (arith, pow-suc 2 n)) (rule-up x y s), low-bit y x (s .even 0), low-bit (y / 2) 0 (sym (bit-suc y 0) ∙ s .odd 0 ∙ sym (bit-none 0)))
 
 spread-zero : (n : ℕ) → spread n 0 ≡ 0
 unfolding spread
@@ -146,7 +121,7 @@ pub spread-parts : (k m x : ℕ) → spread (k + m) x ≡ spread m (x / 2 ^ k) *
 spread-parts k m x =
     omega (arith, spread-above k m x, spread-high k (x / 2 ^ k) (x % 2 ^ k), ap (spread k) (div-add-mod' x (2 ^ k)))
 
--- The row and the column of a linear place take one bit of each of its digits to base 4. What holds of both is proved once.
+-- The row and the column of a linear place take one bit of each of its digits to base 4: what holds of any function that does.
 record Digits (f : ℕ → ℕ → ℕ) : Type 0 where
   none : (q : ℕ) → f 0 q ≡ 0
   more : (n q : ℕ) → f (suc n) q ≡ f n (q / 4) * 2 + f 1 (q % 4)

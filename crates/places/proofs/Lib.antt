@@ -2,4 +2,4 @@ pub mod Laws
 pub mod Sample
 pub mod Decided
 pub mod Lookups
-pub mod Passed
+pub mod Checks

@@ -1,16 +1,12 @@
 -- The checks of the calls on places (document 01: "Reordering: 1, 3, 5. One place: 1, 3"), and what they answer.
 use Prim.Native.Nat.{ℕ}
-use mathlib.Core.Bool.{Bool}
 use mathlib.Core.List.{List, [], _∷_}
 use lib.Dec.{ltb, leb, eqb}
 use Rattle.refusals.specs.declared.Outcome.{Outcome}
 use Rattle.refusals.specs.declared.Outcome.the-variants as outcome
 use Rattle.refusals.specs.declared.Refusal.the-variants.{Side, Length, Lent}
-use Rattle.refusals.specs.Checks.{Check, need, firstOf}
+use Rattle.refusals.specs.Checks.{Check, need}
 use Rattle.sizes.specs.Sizes.{allOf, sideFits}
-use Rattle.places.specs.Order.{toLinear, toRaster}
-use Rattle.places.specs.declared.Raster.{Raster}
-use Rattle.places.specs.declared.Linear.{Linear}
 use Rattle.places.specs.declared.RasterAnswer.{RasterAnswer}
 use Rattle.places.specs.declared.RasterAnswer.the-variants as raster
 use Rattle.places.specs.declared.LinearAnswer.{LinearAnswer}

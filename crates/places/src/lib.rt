@@ -1,4 +1,4 @@
-// Raster and linear places.
+// Raster and linear places: the change between the two orders, of one place and of whole arrays.
 mod tables;
 
 use refusals::Outcome;
@@ -53,7 +53,7 @@ fn check_place(n: u32, place: u32) -> Outcome
     Outcome::Refused(Refusal::Side)
 }
 
-// A number as a place: the only ways from numbers to places.
+// A number as a place, where the checks are passed. Outside this crate there is no other way from a number to a place.
 pub fn raster_at(n: u32, place: u32) -> RasterAnswer
     ensures { λ r. ⌜ r ≡ rasterIf (firstOf (placeChecks n place)) place ⌝ }
 {
@@ -143,7 +143,7 @@ fn check_arrays(n: u32, input: usize, output: usize) -> Outcome
     Outcome::Refused(Refusal::Side)
 }
 
-// The output is filled from its front.
+// Fills the first 4^n entries of the output, from the front.
 fn fill_linear(n: u32, from: &[i32], to: &mut [i32])
     requires { ⌜ (n ≤ 16) × (length (now from) ≡ 4 ^ n) × (4 ^ n ≤ length (now to)) ⌝ }
     ensures { λ r. ⌜ now (to .exit) ≡ lentAfter Done (linearly n (now (from .entry))) (now (to .entry)) ⌝ }

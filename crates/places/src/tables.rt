@@ -1,4 +1,4 @@
-// The two tables of the index layer, and the lookups in them.
+// The table that spreads a byte, the table for the way back, and the lookups in them.
 ghost use mathlib.Core.Path.{_≡_};
 ghost use Prim.Native.Nat.{_+_, _*_, _<_};
 ghost use Rattle.places.specs.Spread.{spread, spreader};
@@ -264,7 +264,7 @@ const SPREAD: [u16; 256] = [
     21845,
 ];
 
-// The row and the column of each byte of a linear place: row * 16 + column.
+// The row and the column of each byte, taken as a linear place: row * 16 + column.
 const GATHER: [u8; 256] = [
     0,
     1,
@@ -524,7 +524,7 @@ const GATHER: [u8; 256] = [
     255,
 ];
 
-// A table is taken once by the call that needs it, and lent to the lookups.
+// The tables as values. A call takes one once and lends it to its lookups.
 pub(crate) fn spread_table() -> [u16; 256]
     ensures { λ r. ⌜ r ≡ spreader ⌝ }
 {
@@ -547,7 +547,7 @@ pub(crate) fn spread_of(entries: &[u16; 256], x: u32) -> u32
     high * 65536 + low
 }
 
-// The row and the column of the low or of the high half of a linear place: row * 256 + column.
+// The row and the column of a number of 16 bits, taken as a linear place: row * 256 + column, by a lookup for each byte.
 pub(crate) fn gather_of(entries: &[u8; 256], x: u32) -> u32
     requires { ⌜ (now entries ≡ gatherer) × (x < 65536) ⌝ }
     ensures { λ r. ⌜ r ≡ rowOf 8 x * 256 + colOf 8 x ⌝ }

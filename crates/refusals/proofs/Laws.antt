@@ -1,8 +1,11 @@
--- How a list of checks answers.
-use mathlib.Core.Path.{_≡_, refl}
+-- How a list of checks answers, and what a lent table holds for each answer.
+use mathlib.Core.Path.{_≡_, refl, sym, _∙_}
 use mathlib.Core.Bool.{Bool, true, false}
-use mathlib.Core.List.{List, [], _∷_}
-use Rattle.refusals.specs.Checks.{Check, need, firstOf}
+use mathlib.Core.List.{List, [], _∷_, _++_}
+use Prim.Native.Nat.{ℕ}
+use native.Mathlib.Omega.{arith}
+use lib.ListN.{length, drop}
+use Rattle.refusals.specs.Checks.{Check, need, firstOf, lentAfter}
 use Rattle.refusals.specs.declared.Refusal.{Refusal}
 use Rattle.refusals.specs.declared.Outcome.{Outcome}
 use Rattle.refusals.specs.declared.Outcome.the-variants.{Done, Refused}
@@ -19,3 +22,34 @@ first-fails t why rest e = rw e
 pub first-none : firstOf [] ≡ Done
 unfolding firstOf
 first-none = refl
+
+-- every check of a list holds
+unfoldable pub AllHold : List Check → Type 0
+AllHold [] = Unit {0}
+AllHold (check ∷ rest) = (check .holds ≡ true) × AllHold rest
+
+-- the answer is `Done` exactly if every check holds
+pub passed : (checks : List Check) → firstOf checks ≡ Done → AllHold checks
+unfolding AllHold
+passed [] e = tt
+passed (check ∷ rest) e = tell (check .holds) refl (λ f. passed rest f)
+  where
+    tell : (t : Bool) → check .holds ≡ t → (firstOf rest ≡ Done → AllHold rest) → (check .holds ≡ true) × AllHold rest
+    tell true h more = (h, more (sym (first-holds (check .holds) (check .otherwise) rest h) ∙ e))
+    tell false h more =
+        let f : Refused (check .otherwise) ≡ Done = sym (first-fails (check .holds) (check .otherwise) rest h) ∙ e in
+        let z : _≡_ {A = ℕ} 0 1 = cc in
+        absurd (omega arith)
+
+pub all-pass : (checks : List Check) → AllHold checks → firstOf checks ≡ Done
+unfolding AllHold
+all-pass [] e = first-none
+all-pass (check ∷ rest) e = first-holds (check .holds) (check .otherwise) rest (e .0) ∙ all-pass rest (e .1)
+
+-- a lent table after a call that is done, and after one that is refused
+module _ {A : Type 0} (answer : Outcome) (own held : List A) where
+  pub lent-done : answer ≡ Done → lentAfter answer own held ≡ own ++ drop (length own) held
+  lent-done e = rw e
+
+  pub lent-refused : (why : Refusal) → answer ≡ Refused why → lentAfter answer own held ≡ held
+  lent-refused why e = rw e

@@ -13,7 +13,7 @@ pub enum Refusal {
     Coefficient(u32),
     // 5: a lent table or array is too short
     Lent,
-    // 6: the output is too short
+    // 6: the output is below 12 + the bytes for min(budget, worst body)
     Output,
     // 7: under 12 bytes, or wrong letters
     Letters,
@@ -27,11 +27,11 @@ pub enum Refusal {
     Padding,
     // 12: a contradiction while a plane is in progress; the first bit at which no array fits
     Contradiction(u32),
-    // 13: usable bits left after plane 0; the first of them
+    // 13: usable bits left where plane 0 has ended or P is 0; the first of them
     Beyond(u32),
 }
 
-// What a call answers that gives back nothing but its effect.
+// The answer of a call that gives back nothing else: done, or refused.
 pub enum Outcome {
     Done,
     Refused(Refusal),

@@ -2,12 +2,12 @@
 use mathlib.Core.Path.{_≡_, refl, sym, ap, _∙_}
 use mathlib.Core.Bool.{Bool, true, false}
 use mathlib.Core.List.{List, [], _∷_, _++_, append-assoc}
-use Prim.Native.Nat.{ℕ, zero, suc, _+_, _≤_, _<_}
+use Prim.Native.Nat.{ℕ, zero, suc, _<_}
 use native.Mathlib.Omega.{arith}
 use borrow.Author.Tests.{eqb-true, eqb-false}
 use lib.Dec.{eqb}
 use lib.ListN.{length, getD, drop, set, length-append, List·getD-append}
-use lib.Seq.{getD-at, ext-getD, drop-cons, set-at, drop-length}
+use lib.Seq.{getD-at, ext-getD, drop-cons, set-at}
 use Rattle.sizes.specs.Tables.{table}
 
 module _ {A : Type 0} where

@@ -1,5 +1,5 @@
 -- Document 01, "Sizes". Every limit of the table is stated here and nowhere else.
-use mathlib.Core.Bool.{Bool, _&&_, cond}
+use mathlib.Core.Bool.{Bool, _&&_}
 use Prim.Native.Nat.{ℕ, _-_, _^_, _≤_, _<_}
 use lib.Dec.{leb, ltb}
 

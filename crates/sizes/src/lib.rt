@@ -4,6 +4,7 @@ ghost use mathlib.Core.Bool.{_&&_, cond};
 ghost use Prim.Native.Nat.{_^_, _≤_};
 ghost use Rattle.sizes.specs.Sizes.{sideFits, levelsFit, allOf, coarsestOf, mostN};
 
+// The least and the largest N.
 pub const LEAST_N: u32 = 2;
 
 pub const MOST_N: u32 = 8;
@@ -11,6 +12,7 @@ pub const MOST_N: u32 = 8;
 // The largest magnitude of a coefficient.
 pub const LIMIT: u32 = 16777215;
 
+// The largest number of planes.
 pub const MOST_PLANES: u32 = 24;
 
 // Whether N is in range.

@@ -1,30 +1,24 @@
--- The checks of `summaries`, one way at a time.
-use mathlib.Core.Path.{_≡_, refl, sym, _∙_}
-use mathlib.Core.Bool.{Bool, true, false, _&&_}
-use mathlib.Core.List.{List, _∷_}
+-- The answer of the checks of `summaries`, for each check that may fail first and for none; and what they say where they are passed.
+use mathlib.Core.Path.{_≡_, sym, _∙_}
+use mathlib.Core.Bool.{true, false}
+use mathlib.Core.List.{List}
 use Prim.Native.Nat.{ℕ, _/_, _≤_, _<_}
 use native.Mathlib.Omega.{arith}
 use borrow.Author.Tests.{eqb-true, eq-eqb, ne-eqb, leb-true, le-leb, lt-leb}
 use lib.Dec.{leb, eqb}
 use lib.IntN.{ℤ}
 use lib.ListN.{length}
-use Rattle.refusals.specs.Checks.{Check, need, firstOf}
-use Rattle.refusals.specs.declared.Refusal.{Refusal}
+use Rattle.refusals.specs.Checks.{firstOf}
 use Rattle.refusals.specs.declared.Refusal.the-variants.{Side, Levels, Length, Coefficient, Lent}
 use Rattle.refusals.specs.declared.Outcome.{Outcome}
 use Rattle.refusals.specs.declared.Outcome.the-variants.{Done, Refused}
+use Rattle.refusals.proofs.Laws.{AllHold, passed}
 use Rattle.sizes.specs.Sizes.{allOf, sideFits, levelsFit}
 use Rattle.sizes.proofs.Laws.{both-left, both-right}
 use Rattle.coef.specs.Coef.{firstOver}
 use Rattle.coef.proofs.Laws.{first-le}
 use Rattle.tree.specs.Summaries.{summaryChecks}
 use Rattle.tree.specs.Filling.{Ready}
-
--- done is what is left where every check holds
-first-done : (t : Bool) (why : Refusal) (rest : List Check) → firstOf (need t why ∷ rest) ≡ Done → (t ≡ true) × (firstOf rest ≡ Done)
-unfolding firstOf
-first-done true why rest e = (refl, e)
-first-done false why rest e = absurd (let z : _≡_ {A = ℕ} 0 1 = cc in omega arith)
 
 module _ (N L : ℕ) (A : List ℤ) (descs grands : ℕ) where
   pub no-side : sideFits N ≡ false → Refused Side ≡ firstOf (summaryChecks N L A descs grands)
@@ -63,18 +57,16 @@ module _ (N L : ℕ) (A : List ℤ) (descs grands : ℕ) where
             unfolding firstOf
             all-well g = rw (s, l, eq-eqb (length A) (allOf N) w, within-limit, le-leb (allOf N / 4) descs d, le-leb (allOf N / 16) grands g)
 
-  -- the answer that all is well says what the fill asks
+  -- passed, they say what the fill asks
   pub ready : (r : Outcome) → r ≡ firstOf (summaryChecks N L A descs grands) → r ≡ Done → Ready N L A descs grands
+  unfolding AllHold
   ready r is done =
-      let a = first-done (sideFits N) Side _ (sym is ∙ done) in
-      let b = first-done (levelsFit N L) Levels _ (a .1) in
-      let c = first-done (eqb (length A) (allOf N)) Length _ (b .1) in
-      let d = first-done (eqb (firstOver A) (length A)) (Coefficient (firstOver A)) _ (c .1) in
-      let f = first-done (leb (allOf N / 4) descs && leb (allOf N / 16) grands) Lent _ (d .1) in
+      let all = passed (summaryChecks N L A descs grands) (sym is ∙ done) in
+      let rooms = all .1 .1 .1 .1 .0 in
       record {
-        side = a .0;
-        levels = b .0;
-        whole = eqb-true (length A) (allOf N) (c .0);
-        descRoom = leb-true (allOf N / 4) descs (both-left (leb (allOf N / 4) descs) (leb (allOf N / 16) grands) (f .0));
-        grandRoom = leb-true (allOf N / 16) grands (both-right (leb (allOf N / 4) descs) (leb (allOf N / 16) grands) (f .0));
+        side = all .0;
+        levels = all .1 .0;
+        whole = eqb-true (length A) (allOf N) (all .1 .1 .0);
+        descRoom = leb-true (allOf N / 4) descs (both-left (leb (allOf N / 4) descs) (leb (allOf N / 16) grands) rooms);
+        grandRoom = leb-true (allOf N / 16) grands (both-right (leb (allOf N / 4) descs) (leb (allOf N / 16) grands) rooms);
       }

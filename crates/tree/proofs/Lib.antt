@@ -7,4 +7,3 @@ pub mod Filling
 pub mod Parts
 pub mod Checks
 pub mod Decided
-pub mod Folds

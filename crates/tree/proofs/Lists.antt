@@ -1,4 +1,4 @@
--- Every member, some member, sum and OR, over lists of places put together.
+-- Every member, some member, and the OR, over lists of places put together.
 use mathlib.Core.Path.{_≡_, refl, sym, ap, _∙_}
 use mathlib.Core.Bool.{Bool, true, false, _||_, true≢false, false≢true}
 use mathlib.Core.List.{List, [], _∷_, _++_, map, flatMap}
@@ -10,7 +10,7 @@ use lib.Bits.{bitOr, or-step}
 use lib.Dec.{leb}
 use Rattle.bits.specs.Bits.{bit}
 use Rattle.bits.proofs.Laws.{bit-none, bit-or, bit-top, bit-high}
-use Rattle.tree.specs.Tree.{fours, anyIn, sumOver}
+use Rattle.tree.specs.Tree.{fours, anyIn}
 use Rattle.tree.specs.Summaries.{orAll}
 
 -- every member of a list has P
@@ -126,37 +126,6 @@ each-four P i h = (
     ),
   ),
 )
-
--- ---- sums
-
-pub sum-append : (g : ℕ → ℕ) (s t : List ℕ) → sumOver g (s ++ t) ≡ sumOver g s + sumOver g t
-unfolding sumOver
-sum-append g [] t = omega arith
-sum-append g (j ∷ s) t = omega (arith, sum-append g s t)
-
-pub sum-flat : (g : ℕ → ℕ) (f : ℕ → List ℕ) (l : List ℕ) → sumOver g (flatMap f l) ≡ sumOver (λ c. sumOver g (f c)) l
-unfolding sumOver flatMap
-sum-flat g f [] = refl
-sum-flat g f (c ∷ l) = omega (arith, sum-append g (f c) (flatMap f l), sum-flat g f l)
-
-pub sum-four : (g : ℕ → ℕ) (i : ℕ) → sumOver g (fours i) ≡ g (4 * i) + g (4 * i + 1) + g (4 * i + 2) + g (4 * i + 3)
-unfolding sumOver
-sum-four g i = omega arith
-
-pub sum-same : (g h : ℕ → ℕ) (l : List ℕ) → Each (λ j. g j ≡ h j) l → sumOver g l ≡ sumOver h l
-unfolding sumOver Each
-sum-same g h [] e = refl
-sum-same g h (j ∷ l) e = omega (arith, e .0, sum-same g h l (e .1))
-
-pub sum-le : (g h : ℕ → ℕ) (l : List ℕ) → Each (λ j. g j ≤ h j) l → sumOver g l ≤ sumOver h l
-unfolding sumOver Each
-sum-le g h [] e = omega arith
-sum-le g h (j ∷ l) e = omega (arith, e .0, sum-le g h l (e .1))
-
-pub sum-add : (g h : ℕ → ℕ) (l : List ℕ) → sumOver (λ j. g j + h j) l ≡ sumOver g l + sumOver h l
-unfolding sumOver
-sum-add g h [] = refl
-sum-add g h (j ∷ l) = omega (arith, sum-add g h l)
 
 -- ---- the bitwise OR
 

@@ -1,4 +1,4 @@
--- What the inner functions of the fill ask and leave; no public contract names it.
+-- Only for the contracts of inner functions: what the parts of the fill ask and leave. No public contract and no other definition cites this file.
 use Prim.Native.Nat.{ℕ, _/_, _≤_}
 use mathlib.Core.Path.{_≡_}
 use mathlib.Core.Bool.{true}

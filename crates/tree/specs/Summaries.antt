@@ -1,7 +1,7 @@
 -- The summaries (document 01: "the bitwise OR of magnitudes over DESC(i) and GRAND(i): I/4 and I/16 numbers"),
 -- and the checks of the call that fills them ("Summaries: 1 to 5").
 use Prim.Native.Nat.{ℕ, _/_}
-use mathlib.Core.Bool.{Bool, _&&_}
+use mathlib.Core.Bool.{_&&_}
 use mathlib.Core.List.{List, [], _∷_, map}
 use lib.Bits.{bitOr}
 use lib.Dec.{leb, eqb}

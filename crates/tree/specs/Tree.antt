@@ -30,8 +30,3 @@ grand N L i = flatMap (λ c. desc N L c) (children N L i)
 unfoldable pub anyIn : (ℕ → Bool) → List ℕ → Bool
 anyIn p [] = false
 anyIn p (j ∷ rest) = p j || anyIn p rest
-
--- the sum of g over the members of a list
-unfoldable pub sumOver : (ℕ → ℕ) → List ℕ → ℕ
-sumOver g [] = 0
-sumOver g (j ∷ rest) = g j + sumOver g rest

@@ -101,7 +101,7 @@ fn fill(n: u32, l: u32, coefs: &[i32], desc: &mut [u32], grand: &mut [u32])
     clear(grand, low);
 }
 
-// The first of refusals 1 to 5 that holds, if any.
+// The checks 1 to 5 in order: the refusal of the first that fails, if any.
 fn check(n: u32, l: u32, coefs: &[i32], descs: usize, grands: usize) -> Outcome
     ensures { λ r. ⌜ r ≡ firstOf (summaryChecks n l (now (coefs .entry)) descs grands) ⌝ }
 {

@@ -2,8 +2,9 @@ use mathlib.Core.Path.{sym, _∙_}
 use native.Mathlib.Omega.{arith}
 use borrow.Author.Needs.{needs}
 use lib.ListN.{length}
+use Rattle.refusals.proofs.Laws.{lent-done}
 use Rattle.places.specs.Order.{rasterly}
-use Rattle.places.proofs.Passed.{lent-done, arrays-passed}
+use Rattle.places.proofs.Checks.{arrays-passed}
 use Rattle.places.proofs.reorder_to_raster.Statement.{statement}
 use Rattle.places.proofs.reorder_to_raster.Tie as tie
 
@@ -29,7 +30,7 @@ returns : tie.Need-returns
 returns c =
     let a = c .before .before .before .before .before .before .args in
     let o = c .before .before .before .before .before .check-arrays .result in
-    (c .before .before .before .before .before .check-arrays .ensures, lent-done o (rasterly (a .n) (a .from .now)) (a .to .now) (c .before .fill-raster .last .1 .1 .0) (c .before .before .before .enum-told .given .1) (c .before .fill-raster .ensures))
+    (c .before .before .before .before .before .check-arrays .ensures, c .before .fill-raster .ensures ∙ sym (lent-done o (rasterly (a .n) (a .from .now)) (a .to .now) (c .before .before .before .enum-told .given .1)))
 
 returns-2 : tie.Need-returns-2
 returns-2 c = search needs

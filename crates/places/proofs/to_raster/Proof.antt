@@ -3,7 +3,7 @@ use Prim.Native.Nat.{ℕ}
 use native.Mathlib.Omega.{arith}
 use borrow.Author.Needs.{needs}
 use Rattle.places.specs.declared.RasterAnswer.the-variants.{Place}
-use Rattle.places.proofs.Passed.{place-passed}
+use Rattle.places.proofs.Checks.{place-passed}
 use Rattle.places.proofs.to_raster.Statement.{statement}
 use Rattle.places.proofs.to_raster.Tie as tie
 

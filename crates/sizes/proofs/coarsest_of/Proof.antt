@@ -1,42 +1,28 @@
-use mathlib.Core.Path.{_≡_, sym, _∙_}
-use mathlib.Core.Bool.{true}
+use mathlib.Core.Path.{sym, _∙_}
 use native.Mathlib.Omega.{arith}
-use Rattle.sizes.specs.Sizes.{sideFits, levelsFit}
 use Rattle.sizes.proofs.Laws.{side-most, sized}
 use borrow.Author.Needs.{needs}
 use Rattle.sizes.proofs.coarsest_of.Statement.{statement}
 use Rattle.sizes.proofs.coarsest_of.Tie as tie
-use Rattle.sizes.proofs.coarsest_of.Reads as reads
-use Rattle.sizes.proofs.coarsest_of.Lts as lts
-use Rattle.sizes.proofs.four_to.Reads as four-to-reads
-use Rattle.sizes.proofs.levels_fit.Reads as levels-fit-reads
-use Rattle.sizes.proofs.side_fits.Reads as side-fits-reads
 
--- src/lib.rt:58:8
 side-fits-requires : tie.Need-side-fits-requires
 side-fits-requires c κs = search needs
 
--- src/lib.rt:59:12
 levels-fit-requires : tie.Need-levels-fit-requires
 levels-fit-requires c κs = search needs
 
--- src/lib.rt:60:28
 sub-four-to : tie.Need-sub-four-to
 sub-four-to c = omega (arith, sized (c .before .before .before .before .args .n) (c .before .before .before .before .args .l) (sym (c .before .levels-fit .ensures) ∙ c .if2 .taken) .most)
 
--- src/lib.rt:60:13
 four-to-requires : tie.Need-four-to-requires
 four-to-requires c κs = omega (arith, side-most (c .before .before .before .before .args .n) (sym (c .before .before .before .side-fits .ensures) ∙ c .before .before .if1 .taken))
 
--- src/lib.rt:60:13
 returns : tie.Need-returns
 returns c = rw (sym (c .before .before .before .before .side-fits .ensures) ∙ c .before .before .before .if1 .taken, sym (c .before .before .levels-fit .ensures) ∙ c .before .if2 .taken) (c .four-to .ensures)
 
--- src/lib.rt:55:1
 returns-2 : tie.Need-returns-2
 returns-2 c = rw (sym (c .before .before .before .side-fits .ensures) ∙ c .before .before .if1 .taken, sym (c .before .levels-fit .ensures) ∙ c .if2 .left)
 
--- src/lib.rt:55:1
 returns-3 : tie.Need-returns-3
 returns-3 c = rw (sym (c .before .side-fits .ensures) ∙ c .if1 .left)
 

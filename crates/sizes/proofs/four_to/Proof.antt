@@ -6,22 +6,16 @@ use Rattle.sizes.proofs.Laws.{four, all-most}
 use borrow.Author.Needs.{needs}
 use Rattle.sizes.proofs.four_to.Statement.{statement}
 use Rattle.sizes.proofs.four_to.Tie as tie
-use Rattle.sizes.proofs.four_to.Reads as reads
-use Rattle.sizes.proofs.four_to.Lts as lts
 
--- src/lib.rt:41:16
 add-result : tie.Need-add-result
 add-result c = search needs
 
--- src/lib.rt:41:16
 cast-result : tie.Need-cast-result
 cast-result c = search needs
 
--- src/lib.rt:41:5
 shl-result : tie.Need-shl-result
 shl-result c = search needs
 
--- src/lib.rt:37:1
 returns : tie.Need-returns
 returns c = let e : 1 * 2 ^ (c .args .k + c .args .k) ≡ 4 ^ (c .args .k) = omega (arith, four (c .args .k)) in rw e (mod-eq-of-lt (omega (arith, all-most (c .args .k) (c .pre))))
 

@@ -2,15 +2,11 @@ use borrow.Author.Tests.{le-leb, lt-leb}
 use Rattle.sizes.specs.Sizes.{levelsFit}
 use Rattle.sizes.proofs.levels_fit.Statement.{statement}
 use Rattle.sizes.proofs.levels_fit.Tie as tie
-use Rattle.sizes.proofs.levels_fit.Reads as reads
-use Rattle.sizes.proofs.levels_fit.Lts as lts
 
--- src/lib.rt:31:9
 returns : tie.Need-returns
 unfolding levelsFit
 returns c = rw (lt-leb 1 (c .before .args .l) (c .if1 .taken))
 
--- src/lib.rt:27:1
 returns-2 : tie.Need-returns-2
 unfolding levelsFit
 returns-2 c = rw (le-leb 1 (c .before .args .l) (c .if1 .left))

@@ -1,0 +1,39 @@
+use mathlib.Core.Path.{sym, ap, _∙_}
+use native.Mathlib.Omega.{arith}
+use borrow.Author.Needs.{needs}
+use denote.Ref.{now}
+use Rattle.bits.specs.declared.Next.{Next}
+use Rattle.view.specs.View.{after}
+use Rattle.view.proofs.Laws.{viewed-within}
+use Rattle.view.proofs.take_at.Statement.{statement}
+use Rattle.view.proofs.take_at.Tie as tie
+
+bit-at-requires : tie.Need-bit-at-requires
+bit-at-requires c κs = search needs
+
+enum-known-x : tie.Need-enum-known-x
+enum-known-x c = search needs
+
+add-t8 : tie.Need-add-t8
+add-t8 c =
+    let a = c .before .before .before .before .before .args in
+    let e = sym (c .before .before .before .bit-at .ensures) ∙ c .before .x .given .1 in
+    omega (arith, viewed-within (now (a .body)) (a .at) (a .end) _ e, c .before .before .before .before .before .fits .end)
+
+enum-told : tie.Need-enum-told
+enum-told c = search needs
+
+returns : tie.Need-returns
+returns c =
+    let a = c .before .before .before .before .before .args in
+    let e = sym (c .before .x .given .1) ∙ c .before .before .before .bit-at .ensures in
+    (e, ap (λ (n : Next). after n (a .at)) e)
+
+returns-2 : tie.Need-returns-2
+returns-2 c =
+    let a = c .before .before .before .before .args in
+    let e = sym (c .enum-told .given .1) ∙ c .before .before .bit-at .ensures in
+    (e, ap (λ (n : Next). after n (a .at)) e)
+
+pub take-at-spec : {M : Type 1} → statement M
+take-at-spec = tie.close (tie.spec bit-at-requires enum-known-x add-t8 enum-told returns returns-2)

@@ -1,0 +1,157 @@
+"""The scan of document 01 with its marks, sentence by sentence.
+
+It shares no code with second.py and is compared with it.
+"""
+
+
+class NoNextBit(Exception):
+    """The next bit exceeds the budget or the usable bits."""
+
+
+MIP, MNP, MSP, MCP, MD, MG = 1, 2, 3, 4, 5, 6
+MN2 = 7
+
+# "Skips: MIP, MNP, MSP, MCP 1; MD 4; MG 16; MNk 4^k." Mark 0 is never visited.
+SKIP = [1, 1, 1, 1, 1, 4, 16, 4 ** 2, 4 ** 3, 4 ** 4, 4 ** 5, 4 ** 6, 4 ** 7]
+# "In the set pass MIP, MNP and MSP skip 4."
+SET_SKIP = [4, 4, 4, 4] + SKIP[4:]
+
+
+def scan(N, L, P, next_bit, plane_end=lambda b: None):
+    """The marks after the scan.
+
+    next_bit(what, place, b, mark) gives the next bit of the stream or raises
+    NoNextBit; what is 'own', 'sign', 'desc', 'grand' or 'refine', and place is
+    the place of the scan. plane_end(b) is called when plane b ends.
+    """
+    I, D = 4 ** N, 4 ** (N - L)
+    mark = [0] * I
+
+    def push(i):
+        k = 2
+        while 4 ** (k - 1) * i < I:
+            mark[4 ** (k - 1) * i] = MN2 + (k - 2)
+            k += 1
+
+    for i in range(D):
+        mark[i] = MIP
+    for i in range(D, 4 * D, 4):
+        mark[i] = MD
+        push(i)
+
+    try:
+        for b in range(P - 1, -1, -1):
+            # "Pixel pass"
+            i = 0
+            while i < I:
+                if mark[i] == MIP:
+                    if next_bit('own', i, b, mark):
+                        next_bit('sign', i, b, mark)
+                        mark[i] = MNP
+                    i += 1
+                else:
+                    i += SKIP[mark[i]]
+            # "Set pass"
+            i = 0
+            while i < I:
+                if mark[i] == MD:
+                    if next_bit('desc', i, b, mark):
+                        mark[i] = mark[i + 1] = mark[i + 2] = mark[i + 3] = MCP
+                        if 4 * i < I:
+                            mark[4 * i] = MG
+                    else:
+                        i += 4
+                elif mark[i] == MG:
+                    if next_bit('grand', i, b, mark):
+                        for j in (i, i + 4, i + 8, i + 12):
+                            mark[j] = MD
+                            push(j)
+                    else:
+                        i += 16
+                elif mark[i] == MCP:
+                    if next_bit('own', i, b, mark):
+                        next_bit('sign', i, b, mark)
+                        mark[i] = MNP
+                    else:
+                        mark[i] = MIP
+                    i += 1
+                else:
+                    i += SET_SKIP[mark[i]]
+            # "Refinement pass"
+            i = 0
+            while i < I:
+                if mark[i] == MSP:
+                    next_bit('refine', i, b, mark)
+                elif mark[i] == MNP:
+                    mark[i] = MSP
+                i += SKIP[mark[i]]
+            plane_end(b)
+    except NoNextBit:
+        pass
+    return mark
+
+
+def encode(N, L, A, budget):
+    """Bits and marks after the scan of a linear array."""
+    I, D = 4 ** N, 4 ** (N - L)
+    size = [abs(a) for a in A]
+    desc, grand = [0] * (I // 4), [0] * (I // 16)
+    for i in range(I // 4 - 1, D // 4 - 1, -1):
+        if i < I // 16:
+            for c in range(4 * i, 4 * i + 4):
+                grand[i] |= desc[c]
+            desc[i] = grand[i]
+        for c in range(4 * i, 4 * i + 4):
+            desc[i] |= size[c]
+    bits = []
+
+    def next_bit(what, i, b, _):
+        if len(bits) == budget:
+            raise NoNextBit
+        if what == 'sign':
+            bit = int(A[i] < 0)
+        elif what == 'desc':
+            bit = desc[i // 4] >> b & 1
+        elif what == 'grand':
+            bit = grand[i // 16] >> b & 1
+        else:
+            bit = size[i] >> b & 1
+        bits.append(bit)
+        return bit
+
+    P = max(size).bit_length()
+    mark = scan(N, L, P, next_bit)
+    return P, bits, mark
+
+
+def decode(N, L, P, bits):
+    """Values, precisions, marks and the last finished plane (or P) after the
+    scan reads bits that begin some array's stream. Nothing is refused."""
+    I = 4 ** N
+    size, sign = [0] * I, [1] * I
+    own = [P] * I          # the plane of the last own bit read
+    used, last = 0, P
+
+    def next_bit(what, i, b, _):
+        nonlocal used
+        if used == len(bits):
+            raise NoNextBit
+        bit = bits[used]
+        used += 1
+        if what == 'sign':
+            size[i], sign[i], own[i] = 1 << b, 1 - 2 * bit, b
+        elif what == 'refine':
+            size[i], own[i] = size[i] | bit << b, b
+        elif what == 'own' and bit == 0:
+            own[i] = b
+        return bit
+
+    def plane_end(b):
+        nonlocal last
+        last = b
+
+    mark = scan(N, L, P, next_bit, plane_end)
+    precision = [min(k, last) for k in own]
+    values = [s * (m + 2 ** k // 2) if m else 0
+              for s, m, k in zip(sign, size, precision)]
+    return values, precision, mark, last

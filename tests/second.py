@@ -1,0 +1,626 @@
+#!/usr/bin/env python3
+"""A second coder for the texture stream of document 01 (docs/01-scope.md).
+
+It reaches the answers of document 01 by other means than the scan with marks,
+so that a coder written from the marks can be compared with it.
+
+- The encoder keeps no marks.  The questions of a plane are read off the
+  magnitudes and sorted by place.
+- The decoder keeps the parts that stand and takes their questions from a queue
+  ordered by place.  It accepts an answer if the greatest array that the answers
+  allow still fits them.
+- The table of marks after any number of bits is read off the parts that stand.
+
+Sentences in quotation marks are those of document 01.  Bits and places count
+from 0.
+
+    python3 tests/second.py selftest [full]
+    python3 tests/second.py show FILE
+    python3 tests/second.py encode N L BUDGET < numbers, in raster order
+    python3 tests/second.py vectors DIR SEED
+"""
+
+import sys
+from collections import namedtuple
+from functools import lru_cache, reduce
+from heapq import heapify, heappop, heappush
+from operator import or_
+
+COEFFICIENT_LIMIT = 16_777_215
+PLANE_LIMIT = 24
+HEADER_BYTES = 12
+SHOW_BYTES = 16_384
+
+# Kinds of question, in the order in which they are asked at one place.
+GRAND, DESC, PIXEL = 0, 1, 2
+# A question about GRAND(i), DESC(i) or coefficient i has place STEP[kind] * i.
+STEP = (16, 4, 1)
+
+NONE, MIP, MNP, MSP, MCP, MD, MG = range(7)
+
+
+def MN(k):
+    """The code of a mark MNk: "MNk is k+5, for k from 2 to 7"."""
+    return k + 5
+
+
+Refused = namedtuple('Refused', 'number place')
+Header = namedtuple('Header', 'N L P declared bits')
+Encoded = namedtuple('Encoded', 'P bits file desc grand marks')
+Decoded = namedtuple(
+    'Decoded', 'values precisions marks used finished error plane_bits')
+
+
+# Linear order.
+
+def linear_place(N, raster):
+    """The linear place of the raster place row * 2^N + column: "Row and column
+    bits are interleaved, row bit above column bit at each place"."""
+    row, column = divmod(raster, 2 ** N)
+    return sum((row >> k & 1) << 2 * k + 1 | (column >> k & 1) << 2 * k
+               for k in range(N))
+
+
+@lru_cache(maxsize=None)
+def linear_places(N):
+    """The linear place of each raster place."""
+    return [linear_place(N, raster) for raster in range(4 ** N)]
+
+
+def to_linear(N, raster):
+    """A raster array in linear order."""
+    linear = [0] * 4 ** N
+    for place, value in zip(linear_places(N), raster):
+        linear[place] = value
+    return linear
+
+
+def to_raster(N, linear):
+    """A linear array in raster order."""
+    return [linear[place] for place in linear_places(N)]
+
+
+# Trees.
+
+class Shape:
+    """The trees of one N and L: members[kind][i] are the coefficients that a
+    question of this kind about i is about; holders[m] are the keys of all sets
+    with the member m."""
+
+    def __init__(self, N, L):
+        self.I, self.D = 4 ** N, 4 ** (N - L)
+        desc = [[] for _ in range(self.I)]
+        for i in reversed(range(self.D // 4, self.I // 4)):
+            children = self.children(i)
+            desc[i] = children + [m for c in children for m in desc[c]]
+        grand = [desc[i][4:] for i in range(self.I // 16)]
+        self.members = (grand, desc[:self.I // 4], [[i] for i in range(self.I)])
+        self.holders = [[] for _ in range(self.I)]
+        for kind, sets in enumerate(self.members):
+            for i, members in enumerate(sets):
+                for m in members:
+                    self.holders[m].append(self.key(kind, i))
+
+    def children(self, i):
+        """The rule: "Children of place i are 4i to 4i+3, for i from D/4 to
+        I/4-1. Places 0 to D/4-1 have none"."""
+        if self.D // 4 <= i < self.I // 4:
+            return [4 * i, 4 * i + 1, 4 * i + 2, 4 * i + 3]
+        return []
+
+    def key(self, kind, i):
+        """One number for each set."""
+        return kind * self.I + i
+
+    def has_grand(self, i):
+        """GRAND(i) "is empty when i is I/16 or more"."""
+        return i < self.I // 16
+
+
+@lru_cache(maxsize=None)
+def shape_of(N, L):
+    """The shape of one N and L, made once."""
+    return Shape(N, L)
+
+
+def summaries(N, L, A):
+    """The tables of DESC and GRAND: "The summaries are the bitwise OR of
+    magnitudes over DESC(i) and GRAND(i): I/4 and I/16 numbers. Entries below
+    D/4 hold 0"."""
+    grand, desc, _ = shape_of(N, L).members
+    size = [abs(a) for a in A]
+
+    def table(sets):
+        return [reduce(or_, map(size.__getitem__, members), 0)
+                for members in sets]
+    return table(desc), table(grand)
+
+
+def plane_count(A):
+    """P, "the least P with every magnitude below 2^P"."""
+    return max(map(abs, A)).bit_length()
+
+
+# Encoder.
+
+def plane_bits(shape, A, size, desc, grand, b):
+    """The bits of plane b of an array with these magnitudes and summaries.
+
+    A summary is at least 2^n exactly if a member is. So a set was split before
+    plane b if its summary is at least `before`, and is split after plane b if
+    it is at least `now`.
+    """
+    now, before = 1 << b, 2 << b
+    D, I = shape.D, shape.I
+    bits = []
+
+    def test(i):
+        bits.append(size[i] >> b & 1)
+        if size[i] >= now:
+            bits.append(int(A[i] < 0))
+
+    # "Pixel pass": the coefficients that stood alone and were not found.
+    for i in range(I):
+        if size[i] < before and (i < D or desc[i // 4] >= before):
+            test(i)
+
+    # "Set pass": the sets that stood before the plane, and what stands once a
+    # set is split in it, each at its own place.
+    asked = []
+    for i in range(D // 4, I // 4):
+        if desc[i] < before and (i < D or grand[i // 4] >= now):
+            asked.append((STEP[DESC] * i, DESC, i))
+            if desc[i] >= now:
+                asked += [(c, PIXEL, c) for c in shape.children(i)]
+    for i in range(D // 4, I // 16):
+        if grand[i] < before and desc[i] >= now:
+            asked.append((STEP[GRAND] * i, GRAND, i))
+    for _, kind, i in sorted(asked):
+        if kind == PIXEL:
+            test(i)
+        else:
+            bits.append(int((desc if kind == DESC else grand)[i] >= now))
+
+    # "Refinement pass": the coefficients found in an earlier plane.
+    bits += [size[i] >> b & 1 for i in range(I) if size[i] >= before]
+    return bits
+
+
+def stream_by_plane(N, L, A):
+    """The whole stream, one list of bits for each plane, P-1 first."""
+    size = [abs(a) for a in A]
+    desc, grand = summaries(N, L, A)
+    return [plane_bits(shape_of(N, L), A, size, desc, grand, b)
+            for b in reversed(range(plane_count(A)))]
+
+
+def encode(N, L, A, budget):
+    """P and the bits written: "The number of bits written is the smaller of
+    the budget and the whole stream's length." A is in linear order."""
+    stream = [bit for plane in stream_by_plane(N, L, A) for bit in plane]
+    return plane_count(A), stream[:budget]
+
+
+def worst_body(N, L, P):
+    """The length of the longest stream of P planes, 0 for P = 0.
+
+    After a plane at most I parts stand; every coefficient is found at most
+    once and every set split at most once. An array whose magnitudes are all
+    2^P - 1 reaches all three.
+    """
+    if P == 0:
+        return 0
+    I, D = 4 ** N, 4 ** (N - L)
+    sets = (I // 4 - D // 4) + (I // 16 - D // 4)
+    return P * I + I + sets
+
+
+def encode_file(N, L, A, budget, lent=None):
+    """The encoder's whole answer, or the first refusal: "Encoding checks 1 to
+    6 in that order." lent gives the lengths of the lent DESC table, GRAND
+    table, marks and output; None stands for lengths that suffice."""
+    refused = check_sizes(N, L)
+    if refused:
+        return refused
+    I = 4 ** N
+    if len(A) != I:
+        return Refused(3, 0)
+    for place, a in enumerate(A):
+        if abs(a) > COEFFICIENT_LIMIT:
+            return Refused(4, place)
+    if lent and (lent[0] < I // 4 or lent[1] < I // 16 or lent[2] < I):
+        return Refused(5, 0)
+    if lent and lent[3] < output_bytes(N, L, plane_count(A), budget):
+        return Refused(6, 0)
+    P, bits = encode(N, L, A, budget)
+    desc, grand = summaries(N, L, A)
+    return Encoded(P, bits, write_file(N, L, P, len(bits), bits), desc, grand,
+                   marks_after(N, L, P, bits))
+
+
+def output_bytes(N, L, P, budget):
+    """The output that check 6 asks for: "12 + the bytes for min(budget, worst
+    body)", the worst body at the array's own P."""
+    return HEADER_BYTES + bytes_for(min(budget, worst_body(N, L, P)))
+
+
+# Decoder.
+
+class Cut(Exception):
+    """There is no next bit."""
+
+
+class Contradiction(Exception):
+    """No array fits the answers."""
+
+
+class Greatest:
+    """The greatest array that the answers allow.
+
+    At first every bit below P is set everywhere. An answer 0 clears bit b of
+    the question's members. An array of exactly P planes fits the answers
+    exactly if each question answered 1 still has a member with bit b and, in
+    plane P-1, some coefficient still has that bit. A ceiling other than the
+    default narrows the arrays to those whose bits all lie in it.
+    """
+
+    def __init__(self, shape, P, ceiling=None):
+        self.shape, self.P = shape, P
+        self.array = list(ceiling or [2 ** P - 1] * shape.I)
+
+    def start(self, b):
+        """Plane b begins: count the members with bit b of each set."""
+        self.b, self.owed = b, set()
+        self.count = [0] * (3 * self.shape.I)
+        self.total = 0
+        for a, holders in zip(self.array, self.shape.holders):
+            if a >> b & 1:
+                self.total += 1
+                for key in holders:
+                    self.count[key] += 1
+
+    def fits(self, kind, i, bit):
+        """Take the answer to a question. Does an array still fit?"""
+        key = self.shape.key(kind, i)
+        if bit:
+            self.owed.add(key)
+            return self.count[key] > 0
+        possible = True
+        for m in self.shape.members[kind][i]:
+            if self.array[m] >> self.b & 1:
+                self.array[m] ^= 1 << self.b
+                self.total -= 1
+                for holder in self.shape.holders[m]:
+                    self.count[holder] -= 1
+                    if self.count[holder] == 0 and holder in self.owed:
+                        possible = False
+        return possible and (self.total > 0 or self.b < self.P - 1)
+
+
+class Decoder:
+    """The parts that stand while a stream is read.
+
+    standing: the sets, as (kind, i); unfound: the coefficients that stand
+    alone and are not found; found: the plane in which each other one was
+    found. In the plane b in progress: read holds the coefficients whose own
+    bit was read, fresh those of a set split in it whose own bit was not, and
+    the refinement pass has passed all places below passed.
+    """
+
+    def __init__(self, N, L, P, bits, ceiling=None):
+        self.shape, self.P, self.bits = shape_of(N, L), P, bits
+        self.greatest = Greatest(self.shape, P, ceiling)
+        self.used = self.finished = self.passed = 0
+        self.b = P
+        self.plane_bits = []
+        self.known, self.negative = [0] * self.shape.I, [False] * self.shape.I
+        D = self.shape.D
+        self.unfound, self.found = set(range(D)), {}
+        self.standing = {(DESC, i) for i in range(D // 4, D)}
+        self.read, self.fresh = set(), set()
+        self.question = None
+
+    def next_bit(self):
+        """The next usable bit."""
+        if self.used == len(self.bits):
+            raise Cut
+        self.used += 1
+        return self.bits[self.used - 1]
+
+    def answer(self, kind, i):
+        """The answer to a question, if an array fits it."""
+        self.question = kind, i
+        bit = self.next_bit()
+        if not self.greatest.fits(kind, i, bit):
+            raise Contradiction
+        return bit
+
+    def test(self, i):
+        """A test bit and, after a 1, the sign. "A test bit 1 whose sign is
+        missing has changed no mark": nothing is noted before the sign."""
+        if self.answer(PIXEL, i):
+            self.negative[i] = self.next_bit() == 1
+            self.known[i] = 1 << self.b
+            self.found[i] = self.b
+            self.unfound.remove(i)
+        self.fresh.discard(i)
+        self.read.add(i)
+
+    def split(self, kind, i):
+        """A set is split into the parts returned."""
+        self.standing.remove((kind, i))
+        if kind == GRAND:
+            parts = [(DESC, c) for c in self.shape.children(i)]
+            self.standing.update(parts)
+            return parts
+        children = self.shape.children(i)
+        self.unfound.update(children)
+        self.fresh.update(children)
+        parts = [(PIXEL, c) for c in children]
+        if self.shape.has_grand(i):
+            self.standing.add((GRAND, i))
+            parts.append((GRAND, i))
+        return parts
+
+    def plane(self, b):
+        """Plane b: the pixel pass, the set pass and the refinement pass."""
+        self.b, self.passed = b, 0
+        self.read, self.fresh = set(), set()
+        self.greatest.start(b)
+        start = self.used
+        found_before = sorted(self.found)
+        for i in sorted(self.unfound):
+            self.test(i)
+        queue = [(STEP[kind] * i, kind, i) for kind, i in self.standing]
+        heapify(queue)
+        while queue:
+            _, kind, i = heappop(queue)
+            if kind == PIXEL:
+                self.test(i)
+            elif self.answer(kind, i):
+                for kind, i in self.split(kind, i):
+                    heappush(queue, (STEP[kind] * i, kind, i))
+        for i in found_before:
+            self.passed = i
+            self.known[i] |= self.answer(PIXEL, i) << b
+            self.read.add(i)
+        self.passed = self.shape.I
+        self.finished += 1
+        self.plane_bits.append(self.used - start)
+
+    def run(self):
+        """Read all usable bits; a refusal or None."""
+        try:
+            for b in reversed(range(self.P)):
+                self.plane(b)
+        except Cut:
+            return None
+        except Contradiction:
+            return Refused(12, self.used - 1)
+        return Refused(13, self.used) if self.used < len(self.bits) else None
+
+    def last_plane(self):
+        """The number of the last finished plane, or P if none."""
+        return self.P - self.finished
+
+    def precision(self, i):
+        """A coefficient's precision k: "b if its own bit of the plane b in
+        progress was read (with its sign, where one follows); else the number
+        of the last finished plane, or P if none"."""
+        return self.b if i in self.read else self.last_plane()
+
+    def value(self, i):
+        """The value from the bits k and above of the magnitude: "Known bits m:
+        if m is 0 the value is 0, else m + 2^(k-1) with its sign; for k = 0 it
+        is m"."""
+        k = self.precision(i)
+        m = self.known[i] >> k << k
+        size = m + (1 << k >> 1) if m else 0
+        return -size if self.negative[i] else size
+
+    def marks(self):
+        """The table of marks, from the parts that stand and the scan's place.
+
+        The first place of each generation of a standing set has a mark: MD for
+        the first generation of a DESC, MG for the second of a GRAND, and MNk
+        for each later one, the k-th below the set's root.
+        """
+        I = self.shape.I
+        marks = [NONE] * I
+        for i in self.unfound:
+            marks[i] = MCP if i in self.fresh else MIP
+        for i, plane in self.found.items():
+            marks[i] = MSP if plane > self.b or i < self.passed else MNP
+        for kind, i in self.standing:
+            first = 1 if kind == DESC else 2
+            generation = first
+            while 4 ** generation * i < I:
+                marks[4 ** generation * i] = MN(generation)
+                generation += 1
+            marks[4 ** first * i] = MD if kind == DESC else MG
+        return marks
+
+
+def decode(N, L, P, bits, ceiling=None):
+    """The answer to the usable bits, or refusal 12 or 13 with its bit."""
+    decoder = Decoder(N, L, P, bits, ceiling)
+    refused = decoder.run()
+    if refused:
+        return refused
+    places = range(decoder.shape.I)
+    return Decoded([decoder.value(i) for i in places],
+                   [decoder.precision(i) for i in places],
+                   decoder.marks(), decoder.used, decoder.finished,
+                   2 ** decoder.last_plane() - 1, decoder.plane_bits)
+
+
+def marks_after(N, L, P, bits):
+    """The marks after bits with which some array's stream begins: "After the
+    same bits, encoder and decoder hold equal tables"."""
+    decoder = Decoder(N, L, P, bits)
+    if decoder.run():
+        raise ValueError('no array has a stream that begins so')
+    return decoder.marks()
+
+
+# Parts that stand.
+
+Parts = namedtuple('Parts', 'alone desc grand split')
+
+
+def parts_after(N, L, A, b):
+    """What stands "After plane b, from magnitudes alone": the coefficients
+    that stand alone, the i of each DESC(i) and GRAND(i) that stands, and the
+    number of all sets split by then."""
+    shape = shape_of(N, L)
+    D, I, level = shape.D, shape.I, 2 ** b
+    # "DESC(i) is split if it has a member of at least 2^b; GRAND(i) likewise."
+    desc_or, grand_or = summaries(N, L, A)
+    desc_split = [summary >= level for summary in desc_or]
+    grand_split = [summary >= level for summary in grand_or]
+    alone = [i for i in range(I) if i < D or desc_split[i // 4]]
+    desc = [i for i in range(D // 4, I // 4)
+            if not desc_split[i] and (i < D or grand_split[i // 4])]
+    grand = [i for i in range(D // 4, I // 16)
+             if desc_split[i] and not grand_split[i]]
+    return Parts(alone, desc, grand, sum(desc_split) + sum(grand_split))
+
+
+def plane_figures(N, L, A, b):
+    """Parts standing after plane b and sets split in it."""
+    parts = parts_after(N, L, A, b)
+    standing = len(parts.alone) + len(parts.desc) + len(parts.grand)
+    return standing, parts.split - parts_after(N, L, A, b + 1).split
+
+
+# File.
+
+def bytes_for(bits):
+    """The bytes that hold so many bits."""
+    return (bits + 7) // 8
+
+
+def pack(bits):
+    """The body: "Body bits fill each byte from its highest bit; the last byte
+    is padded with 0"."""
+    body = bytearray(bytes_for(len(bits)))
+    for n, bit in enumerate(bits):
+        body[n // 8] |= bit << 7 - n % 8
+    return bytes(body)
+
+
+def unpack(body):
+    """All bits of a body."""
+    return [byte >> 7 - n & 1 for byte in body for n in range(8)]
+
+
+def write_file(N, L, P, declared, bits, version=1, letters=b'TXP'):
+    """The file: "Letters T X P; version as 16 bits; N, L, P as a byte each;
+    declared bits as 32 bits; then the body. Numbers have the high byte
+    first"."""
+    return (letters + version.to_bytes(2, 'big') + bytes((N, L, P))
+            + declared.to_bytes(4, 'big') + pack(bits))
+
+
+def check_sizes(N, L):
+    """Refusals 1 and 2."""
+    if not 2 <= N <= 8:
+        return Refused(1, 0)
+    if not 1 <= L <= N - 1:
+        return Refused(2, 0)
+    return None
+
+
+def read_file(data):
+    """The header with the usable bits, or the first refusal in the order
+    "7, 8, 1, 2, 9, 10, 11"."""
+    if len(data) < HEADER_BYTES or data[:3] != b'TXP':
+        return Refused(7, 0)
+    if int.from_bytes(data[3:5], 'big') != 1:
+        return Refused(8, 0)
+    N, L, P = data[5:8]
+    refused = check_sizes(N, L)
+    if refused:
+        return refused
+    if P > PLANE_LIMIT:
+        return Refused(9, 0)
+    declared = int.from_bytes(data[8:12], 'big')
+    body = data[HEADER_BYTES:]
+    if len(body) > bytes_for(declared):
+        return Refused(10, 0)
+    bits = unpack(body)
+    if len(body) == bytes_for(declared) and any(bits[declared:]):
+        return Refused(11, 0)
+    # "usable bits are the smaller of declared and 8 times the bytes present"
+    return Header(N, L, P, declared, bits[:declared])
+
+
+def decode_file(data, lent=None):
+    """A header and its decoded array, or a refusal. lent gives the lengths of
+    the lent values, precisions and marks; None stands for lengths that
+    suffice."""
+    header = read_file(data)
+    if isinstance(header, Refused):
+        return header
+    if lent and min(lent) < 4 ** header.N:
+        return Refused(5, 0)
+    decoded = decode(header.N, header.L, header.P, header.bits)
+    return decoded if isinstance(decoded, Refused) else (header, decoded)
+
+
+def too_large(data):
+    """What txpshow does not take: "A file over 16,384 bytes, or one of at
+    least 12 bytes with right letters and version and N of 7 or 8"."""
+    return (len(data) > SHOW_BYTES
+            or len(data) >= HEADER_BYTES
+            and data[:5] == b'TXP\x00\x01' and data[5] in (7, 8))
+
+
+def show(data):
+    """The whole text that txpshow prints for a file."""
+    if too_large(data):
+        return 'too large\n'
+    answer = decode_file(data)
+    if isinstance(answer, Refused):
+        return 'refused %d %d\n' % answer
+    (N, L, P, declared, _), decoded = answer
+    lines = ['TXP 1 %d %d %d %d %d' % (N, L, P, declared, decoded.used)]
+    for n, bits in enumerate(decoded.plane_bits):
+        b = P - 1 - n
+        standing, split = plane_figures(N, L, decoded.values, b)
+        lines.append('plane %d %d %d %d' % (b, bits, standing, split))
+    raster = to_raster(N, decoded.values)
+    for start in range(0, 4 ** N, 2 ** N):
+        lines.append(' '.join(map(str, raster[start:start + 2 ** N])))
+    return '\n'.join(lines) + '\n'
+
+
+def main(arguments):
+    """The command line."""
+    command, rest = arguments[0] if arguments else '', arguments[1:]
+    if command == 'selftest' and rest in ([], ['full']):
+        import selftest
+        selftest.run(full=bool(rest))
+    elif command == 'show' and len(rest) == 1:
+        with open(rest[0], 'rb') as file:
+            sys.stdout.write(show(file.read()))
+    elif command == 'encode' and len(rest) == 3:
+        N, L, budget = map(int, rest)
+        numbers = [int(word) for word in sys.stdin.read().split()]
+        if not check_sizes(N, L) and len(numbers) == 4 ** N:
+            numbers = to_linear(N, numbers)
+        answer = encode_file(N, L, numbers, budget)
+        if isinstance(answer, Refused):
+            print('refused %d %d' % answer)
+        else:
+            print(answer.P, len(answer.bits))
+            print(answer.file.hex())
+    elif command == 'vectors' and len(rest) == 2:
+        import vectors
+        vectors.write(rest[0], int(rest[1]))
+    else:
+        sys.exit(__doc__)
+
+
+if __name__ == '__main__':
+    main(sys.argv[1:])

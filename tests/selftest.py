@@ -1,0 +1,532 @@
+"""The checks of second.py: the samples of document 01, exhaustive comparisons
+on small cases and random comparisons with the literal scan.
+
+    python3 tests/second.py selftest [full]
+"""
+
+import random
+import time
+from itertools import product
+
+import literal
+from arrays import STYLES, random_array, random_bits
+from second import (
+    DESC, GRAND, PIXEL, Decoder, Encoded, Refused, decode, decode_file, encode,
+    encode_file, linear_place, marks_after, output_bytes, pack, parts_after,
+    plane_count, plane_figures, read_file, shape_of, show, stream_by_plane,
+    summaries, to_linear, to_raster, worst_body, write_file)
+
+NO_BUDGET = 2 ** 32 - 1
+
+SAMPLE = to_linear(2, [5, -3, 0, 0, 0, 1, 2, 0, 0, 0, 0, -1, 0, 0, 0, 0])
+SAMPLE_FILE = bytes.fromhex('54585000010201030000002580C9020B30')
+SAMPLE_TEXT = '''\
+TXP 1 2 1 3 37 37
+plane 2 8 7 0
+plane 1 13 10 1
+plane 0 16 13 1
+5 -3 0 0
+0 1 2 0
+0 0 0 -1
+0 0 0 0
+'''
+
+# The coefficients of docs/ezw-8x8.txt, in raster order.
+EZW = [int(word) for word in '''
+63 -34 49 10 7 13 -12 7 -31 23 14 -13 3 4 6 -1
+15 14 3 -12 5 -7 3 9 -9 -7 -14 8 4 -2 3 2
+-5 9 -1 47 4 6 -2 2 3 0 -3 2 3 -2 0 4
+2 -3 6 -4 3 6 3 6 5 11 5 6 0 3 -4 4'''.split()]
+
+checks = 0
+
+
+def equal(got, wanted, what):
+    """One check."""
+    global checks
+    checks += 1
+    if got != wanted:
+        raise SystemExit('%s\n  got    %s\n  wanted %s' % (what, got, wanted))
+
+
+def bits_of(text):
+    """Bits written as a word of 0 and 1."""
+    return [int(letter) for letter in text]
+
+
+# Samples.
+
+def samples():
+    """The "Sample values", starred and unstarred, and the text of txpshow."""
+    equal(SAMPLE, [5, -3, 0, 1, 0, 0, 2, 0, 0, 0, 0, 0, 0, -1, 0, 0], 'linear')
+    P, bits = encode(2, 1, SAMPLE, NO_BUDGET)
+    equal(P, 3, 'planes')
+    planes = stream_by_plane(2, 1, SAMPLE)
+    equal([len(plane) for plane in planes], [8, 13, 16], 'bits of the planes')
+    figures = [plane_figures(2, 1, SAMPLE, b) for b in (2, 1, 0)]
+    equal(figures, [(7, 0), (10, 1), (13, 1)], 'parts and splits')
+    equal(len(bits), 30 + 2 + 5, 'whole length')
+    equal(pack(bits).hex(), '80c9020b30', 'body')
+    equal(write_file(2, 1, 3, 37, bits), SAMPLE_FILE, 'file')
+
+    def cut(count):
+        answer = decode(2, 1, 3, bits[:count])
+        nonzero = {i: v for i, v in enumerate(answer.values) if v}
+        return nonzero, answer.error
+
+    equal(cut(1)[0], {}, '1 bit')
+    equal(cut(2)[0], {0: 6}, '2 bits')
+    equal(cut(8), ({0: 6}, 3), '8 bits')
+    equal(cut(9), cut(8), '9 bits')
+    equal(cut(21), ({0: 5, 1: -3, 6: 3}, 1), '21 bits')
+    equal(cut(37), ({0: 5, 1: -3, 3: 1, 6: 2, 13: -1}, 0), '37 bits')
+    equal(decode(2, 1, 1, bits_of('0000000')), Refused(12, 6), '0000000')
+    equal(decode(2, 1, 1, bits_of('000010000')), Refused(12, 8), '000010000')
+    equal(worst_body(2, 1, 3), 67, 'worst body')
+    equal(decode(2, 1, 0, [0]), Refused(13, 0), 'P = 0 with one bit')
+    zero = [0] * 16
+    equal(encode_file(1, 1, [0] * 4, 0), Refused(1, 0), 'N = 1')
+    equal(type(encode_file(2, 1, zero, 0)), Encoded, 'N = 2')
+    equal(encode_file(2, 2, zero, 0), Refused(2, 0), 'L = N')
+    for limit in (16_777_215, -16_777_215):
+        equal(encode_file(2, 1, zero[1:] + [limit], 0).P, 24, 'at the limit')
+    for over in (16_777_216, -16_777_216, -2 ** 31):
+        A = zero[:9] + [over] * 7
+        equal(encode_file(2, 1, A, 0), Refused(4, 9), 'over the limit')
+    equal(show(SAMPLE_FILE), SAMPLE_TEXT, 'text of txpshow')
+    equal(marks_after(2, 1, 3, []), [1] * 4 + [5, 0, 0, 0] * 3, 'start marks')
+
+
+def listed(N, L, A):
+    """The bits of each plane of SPIHT with its lists (002, section 3: "NLS uses
+    the same set structures and partitioning rules as SPIHT")."""
+    shape = shape_of(N, L)
+    desc, grand = summaries(N, L, A)
+    pixels = list(range(shape.D))
+    sets = [(DESC, i) for i in range(shape.D // 4, shape.D)]
+    found = []
+    planes = []
+    for b in reversed(range(plane_count(A))):
+        bits, pixels_now, sets_now = [], pixels, sets
+        pixels, sets, found_before = [], [], len(found)
+
+        def test(i):
+            bits.append(abs(A[i]) >> b & 1)
+            if bits[-1]:
+                bits.append(int(A[i] < 0))
+                found.append(i)
+            else:
+                pixels.append(i)
+
+        for i in pixels_now:
+            test(i)
+        for kind, i in sets_now:        # grows while it is read
+            bits.append((desc if kind == DESC else grand)[i] >> b & 1)
+            if not bits[-1]:
+                sets.append((kind, i))
+            elif kind == DESC:
+                for c in shape.children(i):
+                    test(c)
+                if shape.has_grand(i):
+                    sets_now.append((GRAND, i))
+            else:
+                sets_now += [(DESC, c) for c in shape.children(i)]
+        bits += [abs(A[i]) >> b & 1 for i in found[:found_before]]
+        planes.append(bits)
+    return planes
+
+
+def ezw():
+    """002, section 3: "For the coefficients in the 8 by 8 example image given
+    in [1], NLS and SPIHT happen to produce identical bitstreams." This holds
+    for the first two planes, those that the example works through."""
+    A = to_linear(3, EZW)
+    planes = stream_by_plane(3, 2, A)
+    equal(planes[:2], listed(3, 2, A)[:2], '8 by 8 example')
+    # 63, -34, -31, 23; DESC(1) with 49; DESC(2); DESC(3); GRAND(1); GRAND(2)
+    # with DESC(8), DESC(9) with 47, DESC(10), DESC(11).
+    words = '10 11 0 0 1 10 0 0 0 1 0 0 0 0 0 0 1 0 1 0 10 0 0 0 0'
+    equal(planes[0], bits_of(words.replace(' ', '')), 'its first plane')
+    for cut in range(sum(map(len, planes)) + 1):
+        compare_cut(3, 2, A, cut)
+
+
+# Index layer.
+
+FIGURE_1 = '''
+0 1 4 5 16 17 20 21
+2 3 6 7 18 19 22 23
+8 9 12 13 24 25 28 29
+10 11 14 15 26 27 30 31
+32 33 36 37 48 49 52 53'''.split()
+
+
+def trees():
+    """Linear order, children, DESC, GRAND and the summaries, from the rules."""
+    for raster, wanted in enumerate(FIGURE_1):
+        equal(linear_place(3, raster), int(wanted), 'figure 1 of 002')
+    for N in range(2, 9):
+        places = list(range(4 ** N))
+        equal(sorted(linear_place(N, r) for r in places), places, 'bijection')
+        equal(to_raster(N, to_linear(N, places)), places, 'inverse')
+    rng = random.Random(1)
+    for N in range(2, 6):
+        for L in range(1, N):
+            shape = shape_of(N, L)
+            I, D = shape.I, shape.D
+            grand, desc, _ = shape.members
+
+            def ancestors(m):
+                while m >= D:
+                    m //= 4
+                    yield m
+
+            lines = {m: list(ancestors(m)) for m in range(I)}
+            A = random_array(rng, N, 24, 'lengths')
+            tables = summaries(N, L, A)
+            for i in range(I // 4):
+                wanted = [m for m in range(I) if i in lines[m]]
+                equal(sorted(desc[i]), wanted, 'DESC')
+                wanted_or = 0
+                for m in wanted:
+                    wanted_or |= abs(A[m])
+                equal(tables[0][i], wanted_or, 'DESC summary')
+                if i < I // 16:
+                    wanted = [m for m in wanted if m // 4 != i]
+                    equal(sorted(grand[i]), wanted, 'GRAND')
+                else:
+                    equal([m for m in wanted if m // 4 != i], [], 'no GRAND')
+            equal(len(tables[1]), I // 16, 'GRAND entries')
+            equal(tables[0][:D // 4] + tables[1][:D // 4], [0] * (D // 4 * 2),
+                  'entries below D/4')
+
+
+# Comparisons on random arrays.
+
+def compare_cut(N, L, A, budget):
+    """One cut: bits, marks, values and precisions against the literal scan,
+    and the bounds on the error."""
+    P, bits, mark = literal.encode(N, L, A, budget)
+    equal(encode(N, L, A, budget), (P, bits), 'bits')
+    answer = decode(N, L, P, bits)
+    values, precisions, marks, last = literal.decode(N, L, P, bits)
+    equal(answer.marks, mark, 'marks of the encoder')
+    equal(answer.marks, marks, 'marks of the decoder')
+    equal(answer.values, values, 'values')
+    equal(answer.precisions, precisions, 'precisions')
+    equal(answer.used, len(bits), 'used')
+    equal((answer.finished, answer.error), (P - last, 2 ** last - 1), 'error')
+    # "differs nowhere by more than the worst error"
+    equal(max(abs(a - v) for a, v in zip(A, values)) <= answer.error, True,
+          'worst error')
+    equal(all(abs(a) >> k == abs(v) >> k and (v == 0 or (a < 0) == (v < 0))
+              for a, v, k in zip(A, values, precisions)), True, 'known bits')
+
+
+def compare_planes(N, L, A):
+    """Plane by plane: the count of bits from the parts that stand, the sizes of
+    the parts, and the bound."""
+    shape = shape_of(N, L)
+    P = plane_count(A)
+    planes = stream_by_plane(N, L, A)
+    whole = [bit for plane in planes for bit in plane]
+    answer = decode(N, L, P, whole)
+    equal(answer.values, A, 'whole stream')
+    equal(answer.plane_bits, [len(plane) for plane in planes], 'bits by plane')
+    total_parts = total_split = 0
+    for n, plane in enumerate(planes):
+        b = P - 1 - n
+        parts = parts_after(N, L, A, b)
+        size = (len(parts.alone)
+                + sum(len(shape.members[DESC][i]) for i in parts.desc)
+                + sum(len(shape.members[GRAND][i]) for i in parts.grand))
+        equal(size, shape.I, 'sizes add up to I')
+        standing, split = plane_figures(N, L, A, b)
+        found = sum(2 ** b <= abs(a) < 2 ** (b + 1) for a in A)
+        equal(len(plane), standing + split + found, 'bits of a plane')
+        total_parts += standing
+        total_split += split
+        total_found = sum(abs(a) >= 2 ** b for a in A)
+        so_far = sum(answer.plane_bits[:n + 1])
+        equal(so_far, total_parts + total_split + total_found, 'bits so far')
+        equal(so_far <= worst_body(N, L, n + 1), True, 'bound')
+    equal([sorted(plane) for plane in listed(N, L, A)],
+          [sorted(plane) for plane in planes], 'SPIHT, in another order')
+
+
+def random_arrays(count):
+    """Random arrays of every style, mostly small."""
+    rng = random.Random(2)
+    for n in range(count):
+        N = rng.choice((2, 2, 2, 3, 3, 4))
+        L = rng.randint(1, N - 1)
+        P = rng.choice((0, 1, 2, 3, 4, 5, 6, 24))
+        A = random_array(rng, N, P, STYLES[n % len(STYLES)])
+        compare_planes(N, L, A)
+        length = sum(map(len, stream_by_plane(N, L, A)))
+        for budget in (0, rng.randint(0, length), rng.randint(0, length),
+                       length + 1):
+            compare_cut(N, L, A, budget)
+    for N, L in ((5, 1), (5, 4), (6, 2), (6, 5)):
+        A = random_array(rng, N, 9, 'decay')
+        compare_planes(N, L, A)
+        length = sum(map(len, stream_by_plane(N, L, A)))
+        compare_cut(N, L, A, rng.randint(0, length))
+
+
+def worst_bodies():
+    """The worst body is reached by an array of greatest magnitudes."""
+    for N in range(2, 6):
+        for L in range(1, N):
+            for P in (0, 1, 2, 3):
+                A = [2 ** P - 1] * 4 ** N
+                equal(len(encode(N, L, A, NO_BUDGET)[1]), worst_body(N, L, P),
+                      'worst body')
+
+
+# Acceptance.
+
+def brute_force(N, L, P, ceiling):
+    """Every array of exactly P planes whose bits lie in the ceiling: a bit is
+    refused exactly if no such array's stream goes on so."""
+    trie = [None, None]
+    signs = set()
+    ends = set()
+    streams = []
+    submasks = [[m for m in range(top + 1) if m | top == top]
+                for top in ceiling]
+    for A in product(*submasks):
+        if plane_count(A) != P:
+            continue
+        _, bits = encode(N, L, list(A), NO_BUDGET)
+        _, mirrored = encode(N, L, [-a for a in A], NO_BUDGET)
+        equal(decode(N, L, P, bits, ceiling).values, list(A), 'an array fits')
+        equal(decode(N, L, P, mirrored).used, len(bits), 'signs are free')
+        node = trie
+        for bit, other in zip(bits, mirrored):
+            if bit != other:
+                signs.add(id(node))
+            if node[bit] is None:
+                node[bit] = [None, None]
+            node = node[bit]
+        ends.add(id(node))
+        streams.append(bits)
+    seen = set()
+    for bits in streams:
+        node = trie
+        for n in range(len(bits) + 1):
+            if id(node) not in signs and id(node) not in seen:
+                seen.add(id(node))
+                for bit in (0, 1):
+                    if node[bit] is None:
+                        number = 13 if id(node) in ends else 12
+                        equal(decode(N, L, P, bits[:n] + [bit], ceiling),
+                              Refused(number, n), 'no array fits')
+            if n < len(bits):
+                node = node[bits[n]]
+
+
+def all_small(full):
+    """The exhaustive comparison on small cases. With `full`, over every array
+    of N = 2 with P = 1, and else over those with few coefficients."""
+    for places in ((0, 1, 2, 3), range(4, 8), range(12, 16)):
+        ceiling = [0] * 16
+        for i in list(places) + [3, 4, 9, 10, 11, 15]:
+            ceiling[i] = 1
+        brute_force(2, 1, 1, ceiling)
+    rng = random.Random(3)
+    for _ in range(40 if full else 6):
+        for N, L, places in ((2, 1, range(16)),
+                             (3, 1, list(range(16)) + list(range(60, 64))),
+                             (3, 2, list(range(2, 8)) + list(range(16, 32))),
+                             (3, 2, list(range(4, 8)) + list(range(16, 24)))):
+            P = rng.randint(1, 3)
+            ceiling = [0] * 4 ** N
+            for _ in range(8):
+                ceiling[rng.choice(list(places))] |= 1 << rng.randrange(P)
+            ceiling[rng.choice(list(places))] |= 1 << P - 1
+            brute_force(N, L, P, ceiling)
+    if full:
+        brute_force(2, 1, 1, [1] * 16)
+
+
+def first_clash(N, L, P, bits):
+    """The number and kind of the first 0 that the marks forbid, or None.
+
+    (a) plane P-1, the set at 4D-4, all bits so far 0; (b) the fourth of four
+    siblings just split, the others 0, without grandchildren; (c) a GRAND whose
+    four children are not found; (d) the fourth of four sets of one GRAND, the
+    others unsplit, below the first sets.
+    """
+    I, D = 4 ** N, 4 ** (N - L)
+    used = 0
+    clash = None
+
+    def forbidden(what, i, b, mark):
+        if what == 'desc' and i < 4 * D:
+            return ('a' if b == P - 1 and i == 4 * D - 4
+                    and not any(bits[:used]) else None)
+        if what == 'desc':
+            return ('d' if i // 4 % 4 == 3 and mark[i - 12] == mark[i - 8]
+                    == mark[i - 4] == literal.MD else None)
+        if what == 'grand':
+            return 'c' if mark[i // 4:i // 4 + 4] == [literal.MIP] * 4 else None
+        if what == 'own' and mark[i] == literal.MCP:
+            return ('b' if i % 4 == 3 and mark[i - 3:i] == [literal.MIP] * 3
+                    and 4 * (i - 3) >= I else None)
+        return None
+
+    def next_bit(what, i, b, mark):
+        nonlocal used, clash
+        if used == len(bits):
+            raise literal.NoNextBit
+        if bits[used] == 0:
+            kind = forbidden(what, i, b, mark)
+            if kind:
+                clash = used, kind
+                raise literal.NoNextBit
+        used += 1
+        return bits[used - 1]
+
+    literal.scan(N, L, P, next_bit)
+    return clash
+
+
+def clash_kind(decoder):
+    """The kind of contradiction in which a decoder ended, as first_clash."""
+    kind, i = decoder.question
+    if kind == PIXEL:
+        return 'b'
+    if kind == GRAND:
+        return 'c'
+    return 'a' if i < decoder.shape.D else 'd'
+
+
+def random_bodies(count):
+    """Random bodies: the greatest array refuses where the marks do, and what
+    it accepts begins the stream of an array."""
+    rng = random.Random(4)
+    kinds = dict.fromkeys('abcd', 0)
+    for n in range(count):
+        N = rng.choice((2, 2, 3, 3, 4))
+        L = rng.randint(1, N - 1)
+        P = rng.randint(1, 4)
+        style = STYLES[n % len(STYLES)]
+        _, stream = encode(N, L, random_array(rng, N, P, style), NO_BUDGET)
+        keep = rng.choice((0, rng.randint(0, len(stream))))
+        ones = rng.choice((0.05, 0.15, 0.3, 0.5, 0.8))
+        bits = stream[:keep] + random_bits(rng, rng.randint(0, 200), ones)
+        decoder = Decoder(N, L, P, bits)
+        refused = decoder.run()
+        clash = first_clash(N, L, P, bits)
+        if refused and refused.number == 12:
+            equal((refused.place, clash_kind(decoder)), clash, 'contradiction')
+            kinds[clash[1]] += 1
+            bits = bits[:refused.place]
+        else:
+            equal(None, clash, 'no contradiction')
+            if refused:
+                bits = bits[:refused.place]
+        # The greatest array has exactly P planes and a stream that begins so.
+        decoder = Decoder(N, L, P, bits)
+        equal(decoder.run(), None, 'accepted')
+        A = [-a if negative else a for a, negative
+             in zip(decoder.greatest.array, decoder.negative)]
+        equal(encode(N, L, A, len(bits)), (P, bits), 'an array fits')
+    for kind in kinds:
+        equal(kinds[kind] > 0, True, 'kind ' + kind)
+
+
+# Files.
+
+def decode_refusals():
+    """Any faults together give the first of them in the order "7, 8, 1, 2, 9,
+    10, 11, 5, then 12 or 13"."""
+    order = (7, 8, 1, 2, 9, 10, 11, 5, 12)
+    for faults in product((False, True), repeat=len(order)):
+        wrong = {number for number, fault in zip(order, faults) if fault}
+        if {10, 11} <= wrong:
+            continue
+        bits = [0] * 37 if 12 in wrong else encode(2, 1, SAMPLE, 37)[1]
+        data = bytearray(write_file(
+            1 if 1 in wrong else 2, 0 if 2 in wrong else 1,
+            25 if 9 in wrong else 3, 37, bits, 2 if 8 in wrong else 1,
+            b'TXp' if 7 in wrong else b'TXP'))
+        if 11 in wrong:
+            data[-1] |= 1
+        if 10 in wrong:
+            data.append(0)
+        lent = (16, 15, 16) if 5 in wrong else (16, 16, 16)
+        answer = decode_file(bytes(data), lent)
+        first = next((number for number in order if number in wrong), None)
+        number = answer.number if isinstance(answer, Refused) else None
+        equal(number, first, 'faults %s' % sorted(wrong))
+        if first == 12:
+            equal(answer.place, 6, 'place of 12')
+
+
+def encode_refusals():
+    """Any faults together: "Encoding checks 1 to 6 in that order"."""
+    for faults in product((False, True), repeat=6):
+        wrong = {number for number, fault in enumerate(faults, 1) if fault}
+        A = SAMPLE[:15] + [16_777_216 if 4 in wrong else 0]
+        A += [0] if 3 in wrong else []
+        P = 25 if 4 in wrong else 3
+        need = output_bytes(2, 1, P, 40)
+        answer = encode_file(
+            1 if 1 in wrong else 2, 0 if 2 in wrong else 1, A, 40,
+            (4, 0 if 5 in wrong else 1, 16, need - (6 in wrong)))
+        first = min(wrong, default=None)
+        number = answer.number if isinstance(answer, Refused) else None
+        equal(number, first, 'faults %s' % sorted(wrong))
+        if first == 4:
+            equal(answer.place, 15, 'place of 4')
+
+
+def files():
+    """Usable bits, and the rules of txpshow."""
+    short = SAMPLE_FILE[:-2]
+    equal(len(read_file(short).bits), 24, 'short file')
+    huge = SAMPLE_FILE[:8] + b'\xff' * 4
+    equal(len(read_file(huge + SAMPLE_FILE[12:16]).bits), 32, 'huge declared')
+    equal(show(huge + SAMPLE_FILE[12:]), 'refused 13 37\n', 'padding is usable')
+    empty = b'TXP\0\1\2\1\0'
+    rows = '0 0 0 0\n' * 4
+    equal(show(empty + bytes(4)), 'TXP 1 2 1 0 0 0\n' + rows, 'P = 0')
+    equal(show(empty + b'\0\0\0\1'), 'TXP 1 2 1 0 1 0\n' + rows,
+          'P = 0, bits declared and absent')
+    equal(show(empty + b'\0\0\0\1\0'), 'refused 13 0\n', 'P = 0, a bit present')
+    equal(show(b''), 'refused 7 0\n', 'no bytes')
+    equal(show(b'x' * 16_384), 'refused 7 0\n', '16,384 bytes')
+    equal(show(b'x' * 16_385), 'too large\n', '16,385 bytes')
+    for N, wanted in ((6, 'refused 2 0\n'), (7, 'too large\n'),
+                      (8, 'too large\n'), (9, 'refused 1 0\n')):
+        equal(show(b'TXP\0\1' + bytes((N, 0, 99)) + bytes(4)), wanted, 'N')
+    equal(show(b'TXP\0\1\7\0\0\0\0\0'), 'refused 7 0\n', '11 bytes')
+    equal(show(b'TXP\0\2\7\0\0\0\0\0\0'), 'refused 8 0\n', 'version 2')
+    rng = random.Random(5)
+    for n in range(200):
+        N = rng.randint(2, 3)
+        L, P = rng.randint(1, N - 1), rng.randint(0, 24)
+        A = random_array(rng, N, P, STYLES[n % len(STYLES)])
+        budget = rng.choice((NO_BUDGET, rng.randint(0, 300)))
+        answer = encode_file(N, L, A, budget)
+        header = read_file(answer.file)
+        equal(tuple(header), (N, L, P, len(answer.bits), answer.bits), 'file')
+        equal(len(answer.file) <= output_bytes(N, L, P, budget), True, 'room')
+
+
+def run(full=False):
+    """All checks."""
+    started = time.time()
+    samples()
+    ezw()
+    trees()
+    random_arrays(6000 if full else 1200)
+    worst_bodies()
+    all_small(full)
+    random_bodies(20000 if full else 3000)
+    decode_refusals()
+    encode_refusals()
+    files()
+    print('%d checks passed in %.0f seconds' % (checks, time.time() - started))
