@@ -1,0 +1,132 @@
+-- Words of the decoder's inner contracts, which no promise to a caller uses: the body answers, and what is known of each coefficient is kept.
+use Prim.Native.Nat.{ℕ, suc, _+_, _*_, _-_, _/_, _%_, _^_, _≤_, _<_}
+use mathlib.Core.Path.{_≡_}
+use mathlib.Core.Bool.{Bool, true, false, _&&_, _||_, cond}
+use mathlib.Core.List.{List}
+use lib.Dec.{leb, eqb}
+use lib.IntN.{ℤ, pos}
+use lib.ListN.{length, getD, set}
+use Rattle.sizes.specs.Sizes.{limit}
+use Rattle.bits.specs.Bits.{digit, bitAt}
+use Rattle.coef.specs.Coef.{at, magnitude, negative, signed}
+use Rattle.nls.specs.Scan.{Question, bitOf, signOf, inDesc, inGrand, Pass, pixels, sets, refining}
+use Rattle.nls.specs.Reading.{Known, noted}
+use Rattle.coder.specs.Scans.{Seen, halt, refuse, move, Ran, last, isBad}
+use Rattle.coder.specs.Visits.{Source, Sv, sv}
+use Rattle.coder.specs.declared.Turn.{Turn}
+use Rattle.coder.specs.declared.Turn.the-variants.{Stop, Bad, Go}
+
+-- what is known, and the number of bits used
+pub record Read : Type 0 where
+  pub known : Known
+  pub n : ℕ
+
+abbrev pub read : List ℤ → List ℕ → ℕ → Read
+read v p n = record { known = record { bits = v; planes = p }; n = n }
+
+-- A value as the code makes it of a sign and a magnitude. In every scan the magnitude is within the limit.
+abbrev pub joined : Bool → ℕ → ℤ
+joined below size = cond (leb size limit) (signed below size) (pos 0)
+
+-- what is kept of an answer: `learn` of nls, with values as the code makes them
+abbrev pub keep : Pass → ℕ → Question → Bool → Known → Known
+keep refining b (bitOf i c) a k = noted i (joined (negative (at (k .bits) i)) (magnitude (at (k .bits) i) + digit a * 2 ^ b)) b k
+keep pixels b (bitOf i c) false k = record { bits = k .bits; planes = set (k .planes) i b }
+keep pixels b (bitOf i c) true k = k
+keep sets b (bitOf i c) false k = record { bits = k .bits; planes = set (k .planes) i b }
+keep sets b (bitOf i c) true k = k
+keep pass b (signOf i) a k = noted i (joined a (2 ^ b)) b k
+keep pass b (inDesc g c) a k = k
+keep pass b (inGrand g c) a k = k
+
+-- Refusal 12: the zeros that no array fits, by the question, the place and the marks.
+-- place t has the mark v
+abbrev pub is : List ℕ → ℕ → ℕ → Bool
+is m t v = eqb (getD m t 0) v
+
+-- the fourth child, where the others were just found 0 and nothing lies below them
+unfoldable pub childClash : ℕ → ℕ → List ℕ → Bool
+childClash I t m = eqb (t % 4) 3 && (leb I (16 * (t / 4)) && (is m (t - 1) 1 && (is m (t - 2) 1 && is m (t - 3) 1)))
+
+-- a GRAND, where the four children were just found 0
+unfoldable pub grandClash : ℕ → List ℕ → Bool
+grandClash t m = is m (4 * (t / 16)) 1 && (is m (4 * (t / 16) + 1) 1 && (is m (4 * (t / 16) + 2) 1 && is m (4 * (t / 16) + 3) 1))
+
+-- the fourth DESC of a split GRAND, where the others were just answered 0; or the last root of plane P-1, where all bits so far were 0
+unfoldable pub lastClash : ℕ → List ℕ → Bool
+lastClash t m = eqb (t / 4 % 4) 3 && (is m (4 * (t / 4 - 1)) 5 && (is m (4 * (t / 4 - 2)) 5 && is m (4 * (t / 4 - 3)) 5))
+
+unfoldable pub rootClash : ℕ → ℕ → ℕ → ℕ → ℕ → Bool
+rootClash D P b used t = eqb (t + 4) (4 * D) && (eqb (suc b) P && eqb used (D + 3 * D / 4 - 1))
+
+unfoldable pub descClash : ℕ → ℕ → ℕ → ℕ → ℕ → List ℕ → Bool
+descClash D P b used t m = cond (leb (4 * D) t) (lastClash t m) (rootClash D P b used t)
+
+abbrev pub bars : ℕ → ℕ → ℕ → ℕ → Question → ℕ → List ℕ → ℕ → Bool
+bars I D P b (bitOf j c) t m used = childClash I t m
+bars I D P b (signOf j) t m used = false
+bars I D P b (inDesc g c) t m used = descClash D P b used t m
+bars I D P b (inGrand g c) t m used = grandClash t m
+
+abbrev pub reader : List ℕ → ℕ → ℕ → ℕ → ℕ → Source Read
+reader body usable I D P =
+    record {
+      budget = usable;
+      used = λ o. o .n;
+      next = λ q o. bitAt body (o .n);
+      keep = λ p b q x o. record { known = keep p b q x (o .known); n = o .n + 1 };
+      bars = λ b q t m o. bars I D P b q t m (o .n);
+    }
+
+abbrev pub st : List ℕ → List ℤ → List ℕ → ℕ → Sv Read
+st m v p n = sv m (read v p n)
+
+abbrev pub after : Seen (Sv Read) → Sv Read
+after (halt t) = t
+after (refuse t) = t
+after (move p t) = t
+
+abbrev pub answer : Seen (Sv Read) → Turn
+answer (halt t) = Stop (t .rest .n)
+answer (refuse t) = Bad (t .rest .n)
+answer (move p t) = Go p (t .rest .n)
+
+abbrev pub Falls : ℕ → ℕ → ℕ → Turn → Type 0
+Falls usable place n (Stop k) = (n ≤ k) × (k ≤ usable)
+Falls usable place n (Bad k) = (n ≤ k) × (k ≤ usable)
+Falls usable place n (Go p k) = (place ≤ p) × (n ≤ k) × (k ≤ usable) × (place + n < p + k)
+
+-- the answer r, and the marks, values and precisions left behind, are those of s
+pub record Does (s : Seen (Sv Read)) (usable place n : ℕ) (r : Turn) (m : List ℕ) (v : List ℤ) (p : List ℕ) : Type 0 where
+  pub answered : r ≡ answer s
+  pub marked : m ≡ after s .marks
+  pub valued : v ≡ after s .rest .known .bits
+  pub known : p ≡ after s .rest .known .planes
+  pub falls : Falls usable place n r
+
+-- what a visit asks of its room
+pub record Room (m : List ℕ) (v : List ℤ) (p : List ℕ) (all usable place n b : ℕ) : Type 0 where
+  pub below : place < all
+  pub size : length m ≡ all
+  pub inValues : length v ≡ all
+  pub inPrecisions : length p ≡ all
+  pub near : all ≤ 65536
+  pub spent : n ≤ usable
+  pub plane : b < 24
+
+-- the sizes, in range
+pub record Sizes (all coarsest top : ℕ) : Type 0 where
+  pub near : all ≤ 65536
+  pub wide : 4 ≤ coarsest
+  pub room : 4 * coarsest ≤ all
+  pub tops : top < 25
+
+-- the count n, the planes left, the refusal, and the tables are those where the scan ended
+pub record Holds (ran : Ran (Sv Read)) (l : ℕ) (n left : ℕ) (bad : Bool) (m : List ℕ) (v : List ℤ) (p : List ℕ) : Type 0 where
+  pub count : n ≡ last ran .rest .n
+  pub lefts : left ≡ l
+  pub refuses : bad ≡ isBad ran
+  pub marked : m ≡ last ran .marks
+  pub valued : v ≡ last ran .rest .known .bits
+  pub known : p ≡ last ran .rest .known .planes
+  pub within : left < 25

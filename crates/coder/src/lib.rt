@@ -1,0 +1,36 @@
+// The coders of a body.
+mod body;
+mod checks;
+mod finish;
+mod marks;
+mod reading;
+mod writing;
+
+pub use body::DecodeAnswer;
+pub use body::EncodeAnswer;
+pub use body::ReadTo;
+pub use body::WorstAnswer;
+pub use body::Written;
+pub use body::decode;
+pub use body::encode;
+pub use body::worst_body;
+
+// What a visit of the encoder leaves to do: nothing, for want of a bit, or the place to go on at; and the number of bits put.
+pub enum Step {
+    Stop(usize),
+    Go(usize, usize),
+}
+
+// The same for the decoder and the bits used; it may also have met a bit that fits no array.
+pub enum Turn {
+    Stop(usize),
+    Bad(usize),
+    Go(usize, usize),
+}
+
+// Where the decoder's scan ended: the bits used, the planes not finished, and whether the next bit fits no array.
+pub struct Reached {
+    pub bits: usize,
+    pub left: u32,
+    pub bad: bool,
+}

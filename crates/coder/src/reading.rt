@@ -1,0 +1,450 @@
+// The decoder's scan: visits, passes, planes.
+use crate::Reached;
+use crate::Turn;
+ghost use mathlib.Core.Path.{_≡_};
+ghost use mathlib.Core.Bool.{_&&_, false};
+ghost use mathlib.Core.List.{List};
+ghost use Prim.Native.Nat.{ℕ, _+_, _*_, _/_, _<_, _≤_, _^_};
+ghost use lib.Dec.{leb};
+ghost use lib.IntN.{ℤ};
+ghost use lib.ListN.{length, getD, set};
+ghost use Rattle.bits.specs.Bits.{bitAt, digit};
+ghost use Rattle.coef.specs.Coef.{at, magnitude, negative};
+ghost use Rattle.nls.specs.Scan.{pixels, bitOf, inDesc, inGrand};
+ghost use Rattle.coder.specs.Scans.{planes, leftOf};
+ghost use Rattle.coder.specs.Visits.{oneSeen, testSeen, pixelsSeen, setsSeen, refiningSeen, visitSeen, scanOf, descSplit, grandSplit};
+ghost use Rattle.coder.specs.Reading.{joined, is, childClash, grandClash, lastClash, rootClash, descClash, reader, read, st, Does, Room, Sizes, Holds};
+
+// The bit with this number; 0 past the end.
+fn bit_at(body: &[u8], n: usize) -> bool
+    ensures { λ r. ⌜ r ≡ bitAt (now (body .entry)) n ⌝ }
+{
+    match bits::fetch(body, n) {
+        bits::Next::Bit(x) => x,
+        bits::Next::NoMore => false,
+    }
+}
+
+// A value of a sign and a magnitude; 0 for one over the limit.
+pub(crate) fn value_of(negative: bool, magnitude: u32) -> i32
+    ensures { λ r. ⌜ r ≡ joined negative magnitude ⌝ }
+{
+    match coef::join_of(coef::Signed {
+        negative,
+        magnitude,
+    }) {
+        coef::Joined::Is(v) => v,
+        coef::Joined::TooLarge => 0,
+    }
+}
+
+// A coefficient that is found in plane b.
+fn found(values: &mut [i32], b: u32, place: usize, negative: bool)
+    requires { ⌜ (place < length (now values)) × (b < 24) ⌝ }
+    ensures { λ _. ⌜ now (values .exit) ≡ set (now (values .entry)) place (joined negative (2 ^ b)) ⌝ }
+{
+    let v = value_of(negative, 1u32 << b);
+    values[place] = v;
+}
+
+// One more known bit of a value.
+fn refined(values: &mut [i32], b: u32, place: usize, x: bool)
+    requires { ⌜ (place < length (now values)) × (b < 24) ⌝ }
+    ensures { λ _. ⌜ now (values .exit) ≡ set (now (values .entry)) place (joined (negative (at (now (values .entry)) place)) (magnitude (at (now (values .entry)) place) + digit x * 2 ^ b)) ⌝ }
+{
+    let old = values[place];
+    let size = coef::magnitude(old) + ((x as u32) << b);
+    let v = value_of(coef::is_negative(old), size);
+    values[place] = v;
+}
+
+// Whether three marks are all of one code.
+fn three(marks: &[u8], p: usize, q: usize, r: usize, code: u8) -> bool
+    requires { ⌜ (p < length (now marks)) × (q < length (now marks)) × (r < length (now marks)) ⌝ }
+    ensures { λ z. ⌜ z ≡ (is (now (marks .entry)) p code && (is (now (marks .entry)) q code && is (now (marks .entry)) r code)) ⌝ }
+{
+    if marks[p] != code {
+        return false;
+    }
+    if marks[q] != code {
+        return false;
+    }
+    marks[r] == code
+}
+
+// Whether a child's 0 fits no array.
+fn child_clash(marks: &[u8], all: usize, place: usize) -> bool
+    requires { ⌜ (place < all) × (length (now marks) ≡ all) × (all ≤ 65536) ⌝ }
+    ensures { λ r. ⌜ r ≡ childClash all place (now (marks .entry)) ⌝ }
+{
+    if place % 4 != 3 {
+        return false;
+    }
+    if 16 * (place / 4) < all {
+        return false;
+    }
+    three(marks, place - 1, place - 2, place - 3, 1)
+}
+
+// Whether the 0 of a GRAND fits no array.
+fn grand_clash(marks: &[u8], all: usize, place: usize) -> bool
+    requires { ⌜ (place < all) × (length (now marks) ≡ all) × (16 ≤ all) ⌝ }
+    ensures { λ r. ⌜ r ≡ grandClash place (now (marks .entry)) ⌝ }
+{
+    let up = 4 * (place / 16);
+    if marks[up] != 1 {
+        return false;
+    }
+    three(marks, up + 1, up + 2, up + 3, 1)
+}
+
+// Whether the 0 of the last DESC of a split GRAND fits no array.
+fn last_clash(marks: &[u8], all: usize, place: usize) -> bool
+    requires { ⌜ (place < all) × (length (now marks) ≡ all) ⌝ }
+    ensures { λ r. ⌜ r ≡ lastClash place (now (marks .entry)) ⌝ }
+{
+    let up = place / 4;
+    if up % 4 != 3 {
+        return false;
+    }
+    three(marks, 4 * (up - 1), 4 * (up - 2), 4 * (up - 3), 5)
+}
+
+// Whether the 0 of the last root fits no array.
+fn root_clash(coarsest: usize, top: u32, n: usize, b: u32, place: usize) -> bool
+    requires { ⌜ (place < 65536) × (coarsest ≤ 65536) × (4 ≤ coarsest) × (b < 24) ⌝ }
+    ensures { λ r. ⌜ r ≡ rootClash coarsest top b n place ⌝ }
+{
+    if place + 4 != 4 * coarsest {
+        return false;
+    }
+    if b + 1 != top {
+        return false;
+    }
+    n == coarsest + 3 * coarsest / 4 - 1
+}
+
+// Whether the 0 of a DESC fits no array.
+fn desc_clash(
+    marks: &[u8],
+    all: usize,
+    coarsest: usize,
+    top: u32,
+    n: usize,
+    b: u32,
+    place: usize,
+) -> bool
+    requires { ⌜ (place < all) × (length (now marks) ≡ all) × (b < 24) × Sizes all coarsest top ⌝ }
+    ensures { λ r. ⌜ r ≡ descClash coarsest top b n place (now (marks .entry)) ⌝ }
+{
+    if 4 * coarsest <= place {
+        return last_clash(marks, all, place);
+    }
+    root_clash(coarsest, top, n, b, place)
+}
+
+// Whether a coefficient's 0 fits no array: in the set pass it may not.
+fn one_clash(marks: &[u8], all: usize, place: usize, in_sets: bool) -> bool
+    requires { ⌜ (place < all) × (length (now marks) ≡ all) × (all ≤ 65536) ⌝ }
+    ensures { λ r. ⌜ r ≡ (in_sets && childClash all place (now (marks .entry))) ⌝ }
+{
+    if in_sets {
+        return child_clash(marks, all, place);
+    }
+    false
+}
+
+// A coefficient by itself: its bit, and after a 1 its sign.
+fn coefficient(
+    body: &[u8],
+    marks: &mut [u8],
+    values: &mut [i32],
+    precisions: &mut [u8],
+    all: usize,
+    usable: usize,
+    n: usize,
+    b: u32,
+    place: usize,
+    in_sets: bool,
+) -> Turn
+    requires { ⌜ Room (now marks) (now values) (now precisions) all usable place n b ⌝ }
+    ensures { λ r. ⌜ Does (oneSeen (reader (now (body .entry)) usable all 0 0) pixels b place (in_sets && childClash all place (now (marks .entry))) (now (marks .entry)) (read (now (values .entry)) (now (precisions .entry)) n)) usable place n r (now (marks .exit)) (now (values .exit)) (now (precisions .exit)) ⌝ }
+{
+    if usable <= n {
+        return Turn::Stop(n);
+    }
+    let k = n + 1;
+    if bit_at(body, n) {
+        if usable <= k {
+            return Turn::Stop(k);
+        }
+        found(values, b, place, bit_at(body, k));
+        precisions[place] = b as u8;
+        marks[place] = 2;
+        return Turn::Go(place + 1, k + 1);
+    }
+    if one_clash(marks, all, place, in_sets) {
+        return Turn::Bad(n);
+    }
+    precisions[place] = b as u8;
+    marks[place] = 1;
+    Turn::Go(place + 1, k)
+}
+
+// A place of the pixel pass.
+fn pixel(
+    body: &[u8],
+    marks: &mut [u8],
+    values: &mut [i32],
+    precisions: &mut [u8],
+    all: usize,
+    usable: usize,
+    n: usize,
+    b: u32,
+    place: usize,
+) -> Turn
+    requires { ⌜ Room (now marks) (now values) (now precisions) all usable place n b ⌝ }
+    ensures { λ r. ⌜ Does (pixelsSeen (reader (now (body .entry)) usable all 0 0) b place (getD (now (marks .entry)) place 0) (now (marks .entry)) (read (now (values .entry)) (now (precisions .entry)) n)) usable place n r (now (marks .exit)) (now (values .exit)) (now (precisions .exit)) ⌝ }
+{
+    let mark = marks[place];
+    if mark == 1 {
+        return coefficient(
+            body,
+            marks,
+            values,
+            precisions,
+            all,
+            usable,
+            n,
+            b,
+            place,
+            false,
+        );
+    }
+    let next = place + crate::marks::skip(mark);
+    Turn::Go(next, n)
+}
+
+// A place of the refinement pass.
+fn refine(
+    body: &[u8],
+    marks: &mut [u8],
+    values: &mut [i32],
+    precisions: &mut [u8],
+    all: usize,
+    usable: usize,
+    n: usize,
+    b: u32,
+    place: usize,
+) -> Turn
+    requires { ⌜ Room (now marks) (now values) (now precisions) all usable place n b ⌝ }
+    ensures { λ r. ⌜ Does (refiningSeen (reader (now (body .entry)) usable all 0 0) b place (getD (now (marks .entry)) place 0) (now (marks .entry)) (read (now (values .entry)) (now (precisions .entry)) n)) usable place n r (now (marks .exit)) (now (values .exit)) (now (precisions .exit)) ⌝ }
+{
+    let mark = marks[place];
+    if mark == 3 {
+        if usable <= n {
+            return Turn::Stop(n);
+        }
+        refined(values, b, place, bit_at(body, n));
+        precisions[place] = b as u8;
+        return Turn::Go(place + 1, n + 1);
+    }
+    if mark == 2 {
+        marks[place] = 3;
+        return Turn::Go(place + 1, n);
+    }
+    let next = place + crate::marks::skip(mark);
+    Turn::Go(next, n)
+}
+
+// The test of a DESC.
+fn test_desc(
+    body: &[u8],
+    marks: &mut [u8],
+    all: usize,
+    coarsest: usize,
+    top: u32,
+    usable: usize,
+    n: usize,
+    b: u32,
+    place: usize,
+) -> Turn
+    requires { ⌜ (place < all) × (length (now marks) ≡ all) × (b < 24) × (n ≤ usable) × Sizes all coarsest top ⌝ }
+    ensures { λ r. ⌜ ((v : List ℤ) (p : List ℕ) → Does (testSeen (reader (now (body .entry)) usable all coarsest top) b place (inDesc (place / 4) b) 4 (descClash coarsest top b n place (now (marks .entry))) (descSplit all place (now (marks .entry))) (now (marks .entry)) (read v p n)) usable place n r (now (marks .exit)) v p) ⌝ }
+{
+    if usable <= n {
+        return Turn::Stop(n);
+    }
+    if bit_at(body, n) {
+        crate::marks::split_desc(marks, all, place);
+        return Turn::Go(place, n + 1);
+    }
+    if desc_clash(marks, all, coarsest, top, n, b, place) {
+        return Turn::Bad(n);
+    }
+    Turn::Go(place + 4, n + 1)
+}
+
+// The test of a GRAND.
+fn test_grand(
+    body: &[u8],
+    marks: &mut [u8],
+    all: usize,
+    usable: usize,
+    n: usize,
+    b: u32,
+    place: usize,
+) -> Turn
+    requires { ⌜ (place < all) × (length (now marks) ≡ all) × (all ≤ 65536) × (16 ≤ all) × (n ≤ usable) ⌝ }
+    ensures { λ r. ⌜ ((v : List ℤ) (p : List ℕ) → Does (testSeen (reader (now (body .entry)) usable all 0 0) b place (inGrand (place / 16) b) 16 (grandClash place (now (marks .entry))) (grandSplit all place (now (marks .entry))) (now (marks .entry)) (read v p n)) usable place n r (now (marks .exit)) v p) ⌝ }
+{
+    if usable <= n {
+        return Turn::Stop(n);
+    }
+    if bit_at(body, n) {
+        crate::marks::split_grand(marks, all, place);
+        return Turn::Go(place, n + 1);
+    }
+    if grand_clash(marks, all, place) {
+        return Turn::Bad(n);
+    }
+    Turn::Go(place + 16, n + 1)
+}
+
+// A place of the set pass.
+fn sets(
+    body: &[u8],
+    marks: &mut [u8],
+    values: &mut [i32],
+    precisions: &mut [u8],
+    all: usize,
+    coarsest: usize,
+    top: u32,
+    usable: usize,
+    n: usize,
+    b: u32,
+    place: usize,
+) -> Turn
+    requires { ⌜ Room (now marks) (now values) (now precisions) all usable place n b × Sizes all coarsest top ⌝ }
+    ensures { λ r. ⌜ Does (setsSeen (reader (now (body .entry)) usable all coarsest top) all b place (getD (now (marks .entry)) place 0) (now (marks .entry)) (read (now (values .entry)) (now (precisions .entry)) n)) usable place n r (now (marks .exit)) (now (values .exit)) (now (precisions .exit)) ⌝ }
+{
+    let mark = marks[place];
+    if mark == 4 {
+        return coefficient(
+            body,
+            marks,
+            values,
+            precisions,
+            all,
+            usable,
+            n,
+            b,
+            place,
+            true,
+        );
+    }
+    if mark == 5 {
+        return test_desc(body, marks, all, coarsest, top, usable, n, b, place);
+    }
+    if mark == 6 {
+        return test_grand(body, marks, all, usable, n, b, place);
+    }
+    let next = place + crate::marks::set_skip(mark);
+    Turn::Go(next, n)
+}
+
+// A place of a pass.
+fn visit(
+    body: &[u8],
+    marks: &mut [u8],
+    values: &mut [i32],
+    precisions: &mut [u8],
+    all: usize,
+    coarsest: usize,
+    top: u32,
+    usable: usize,
+    n: usize,
+    b: u32,
+    pass: u32,
+    place: usize,
+) -> Turn
+    requires { ⌜ Room (now marks) (now values) (now precisions) all usable place n b × Sizes all coarsest top ⌝ }
+    ensures { λ r. ⌜ Does (visitSeen (reader (now (body .entry)) usable all coarsest top) all b pass place (st (now (marks .entry)) (now (values .entry)) (now (precisions .entry)) n)) usable place n r (now (marks .exit)) (now (values .exit)) (now (precisions .exit)) ⌝ }
+{
+    if pass == 0 {
+        return pixel(body, marks, values, precisions, all, usable, n, b, place);
+    }
+    if pass == 1 {
+        return sets(
+            body,
+            marks,
+            values,
+            precisions,
+            all,
+            coarsest,
+            top,
+            usable,
+            n,
+            b,
+            place,
+        );
+    }
+    refine(body, marks, values, precisions, all, usable, n, b, place)
+}
+
+// The scan of `top` planes, left where no usable bit is left or the next one fits no array.
+pub(crate) fn scan(
+    body: &[u8],
+    marks: &mut [u8],
+    values: &mut [i32],
+    precisions: &mut [u8],
+    all: usize,
+    coarsest: usize,
+    top: u32,
+    usable: usize,
+) -> Reached
+    requires { ⌜ (length (now marks) ≡ all) × (length (now values) ≡ all) × (length (now precisions) ≡ all) × Sizes all coarsest top ⌝ }
+    ensures { λ r. ⌜ Holds (planes (scanOf (reader (now (body .entry)) usable all coarsest top) all) top (st (now (marks .entry)) (now (values .entry)) (now (precisions .entry)) 0)) (leftOf (scanOf (reader (now (body .entry)) usable all coarsest top) all) top (st (now (marks .entry)) (now (values .entry)) (now (precisions .entry)) 0)) (r .bits) (r .left) (r .bad) (now (marks .exit)) (now (values .exit)) (now (precisions .exit)) ⌝ }
+{
+    let mut n = 0;
+    let mut left = top;
+    let mut bad = false;
+    'scan: while 0 < left {
+        let b = left - 1;
+        for pass in 0..3 {
+            let mut place = 0;
+            while place < all {
+                match visit(
+                    body,
+                    marks,
+                    values,
+                    precisions,
+                    all,
+                    coarsest,
+                    top,
+                    usable,
+                    n,
+                    b,
+                    pass,
+                    place,
+                ) {
+                    Turn::Stop(k) => {
+                        n = k;
+                        break 'scan;
+                    }
+                    Turn::Bad(k) => {
+                        n = k;
+                        bad = true;
+                        break 'scan;
+                    }
+                    Turn::Go(p, k) => {
+                        place = p;
+                        n = k;
+                    }
+                }
+            }
+        }
+        left = b;
+    }
+    Reached { bits: n, left, bad }
+}
