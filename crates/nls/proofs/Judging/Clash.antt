@@ -1,6 +1,6 @@
 -- Refusal 12, one half: where the marks say so, every array that fits answers 1, so a 0 fits none.
 use mathlib.Core.Path.{_≡_, refl, sym, subst, _∙_}
-use mathlib.Core.Bool.{Bool, true, false, true≢false}
+use mathlib.Core.Bool.{true, false, true≢false}
 use mathlib.Core.List.{List}
 use Prim.Native.Nat.{ℕ, zero, suc, _+_, _*_, _/_, _%_, _^_, _≤_, _<_}
 use native.Mathlib.Omega.{arith}
@@ -11,7 +11,7 @@ use Rattle.sizes.proofs.Laws.{both}
 use Rattle.nls.specs.Scan.{bitOf, inDesc, inGrand}
 use Rattle.nls.proofs.Tiled.{Tiled}
 use Rattle.nls.proofs.Arrays.{Bits, inside, ans, below, member}
-use Rattle.nls.proofs.Machine.Table.{Cfg, alone, stands, Ok, alone-no, no-alone, stands-no, no-dg, low}
+use Rattle.nls.proofs.Machine.Table.{Cfg, alone, stands, Ok, alone-no, no-alone, stands-no, no-dg, low, alone-yes, stands-yes}
 use Rattle.nls.proofs.Machine.Cover.{Under, kid, far, Core, Sets, is-alone, is-D, is-G}
 use Rattle.nls.proofs.Machine.Steps.{preds, From}
 use Rattle.nls.proofs.Reading.Told.{fam, Known, under-below, under-ge}
@@ -132,11 +132,7 @@ module _ (N : ℕ) {D : ℕ} (P : ℕ) (sz : Tiled D (4 ^ N)) where
         it = is-alone sz c m kk t ti (omega arith) (omega arith)
 
         sd : c .sD (t / 4) ≡ true
-        sd = pick (c .sD (t / 4)) refl
-          where
-            pick : (x : Bool) → c .sD (t / 4) ≡ x → c .sD (t / 4) ≡ true
-            pick true e = e
-            pick false e = absurd (true≢false (sym (it .0) ∙ alone-no D I c t (omega arith) e))
+        sd = alone-yes D I c t (omega arith) (it .0)
 
         me : (e : ℕ) → b ≤ e → A .has t e ≡ true → Dec (e ≡ b) → A .has t b ≡ true
         me e h a (yes z) = subst (λ (x : ℕ). A .has t x ≡ true) z a
@@ -160,11 +156,7 @@ module _ (N : ℕ) {D : ℕ} (P : ℕ) (sz : Tiled D (4 ^ N)) where
         is = is-D sz c m kk t ti mk
 
         sg : c .sG (t / 4 / 4) ≡ true
-        sg = pick (c .sG (t / 4 / 4)) refl
-          where
-            pick : (x : Bool) → c .sG (t / 4 / 4) ≡ x → c .sG (t / 4 / 4) ≡ true
-            pick true e = e
-            pick false e = absurd (true≢false (sym (is .1) ∙ stands-no D I c (t / 4) (omega arith) e))
+        sg = stands-yes D I c (t / 4) (omega arith) (is .1)
 
         go : (j e h : ℕ) → j < I → h / 4 ≡ t / 4 / 4 → Under h j → b ≤ e → A .has j e ≡ true → Dec (h ≡ t / 4) → ans N A (inDesc (t / 4) b) ≡ true
         go j e h hj z u be a (yes q) =
