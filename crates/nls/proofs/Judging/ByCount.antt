@@ -29,10 +29,6 @@ use Rattle.nls.proofs.Judging.Decide.{clash-by, None, clash-to, clash-f
 use Rattle.nls.proofs.Judging.Flag.{F1, Fl, on-ask1, Blank, blank-run, flag-to, flag-of, z, g1, lit}
 use Rattle.nls.proofs.Judging.Decoder.{Right, Some}
 
-f-or : (x : Bool) → x ≡ false → (x || false) ≡ false
-f-or true e = absurd (true≢false e)
-f-or false e = refl
-
 module _ (N : ℕ) {D : ℕ} (P : ℕ) (sz : Tiled D (4 ^ N)) where
   abbrev I : ℕ
   I = 4 ^ N
@@ -174,7 +170,7 @@ module _ (N : ℕ) {D : ℕ} (P : ℕ) (sz : Tiled D (4 ^ N)) where
       over1 x (inr t) = omega (arith, t .1)
 
       on-0 : (x y : ℕ) → y ≡ x + 1 → Tally n hit x → Tally (n + 1) (hit || false) y
-      on-0 x y e (inl t) = inl (f-or hit (t .0), omega (arith, t .1))
+      on-0 x y e (inl t) = inl (or-false hit ∙ t .0, omega (arith, t .1))
       on-0 x y e (inr t) = inr (or-left hit false (t .0), omega (arith, t .1))
 
       jt-pix : (b i : ℕ) (m : List ℕ) (x y a : Bool) → ltb i I ≡ x → eqb (getD m i 0) 1 ≡ y → AA (suc b) pixels i false m → J-at n hit (suc b) pixels i false m → told N A (asked I (lookPixels b i m x y)) a

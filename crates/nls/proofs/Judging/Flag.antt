@@ -10,6 +10,7 @@ use native.Mathlib.Decide.{decLt, ℕ-discrete}
 use lib.ListN.{getD}
 use lib.Dec.{ltb, eqb}
 use Rattle.nls.specs.Scan.{State, Look, over, silent, asks, Question, bitOf, signOf, inDesc, inGrand, Pass, pixels, sets, refining, look, lookAt, lookPixels, lookSets, lookRefining, ask, asked, next, reach, start}
+use Rattle.nls.proofs.Judging.Apart.{whole-D}
 use Rattle.nls.proofs.Tiled.{Tiled}
 use Rattle.nls.proofs.Booleans.{neither}
 use Rattle.nls.proofs.Arrays.{Bits, told, Fit}
@@ -22,7 +23,6 @@ use Rattle.nls.proofs.Machine.Steps.{Fam, Good, Good-at, Learned, On-as
 use Rattle.nls.proofs.Judging.Clash.{root}
 use Rattle.nls.proofs.Machine.Start.{nothing, good-start}
 use Rattle.nls.proofs.Judging.Open.{All, All-at, Owing, all-next, all-run, all-start}
-use Rattle.nls.proofs.Judging.Enough.{whole-D}
 use Rattle.nls.proofs.Judging.Decide.{None}
 
 -- a 1 was read
@@ -183,7 +183,7 @@ module _ (N : ℕ) {D : ℕ} (P : ℕ) (sz : Tiled D (4 ^ N)) where
         go (yes y) = true≢false (sym s ∙ unsplit n h (kk .ok .lo h s) y)
         go (no y) =
             let r : (g : ℕ) × (D ≤ 4 * g) × (g < D) × Under g h = root sz h h (omega arith) (omega arith) in
-            whole-D N P sz (z .1 .0) (kk .ok) (r .0) h (r .1) (unsplit n (r .0) (r .1) (r .2)) (r .3) s
+            whole-D sz (z .1 .0) (kk .ok) (r .0) h (r .1) (unsplit n (r .0) (r .1) (r .2)) (r .3) s
 
     none-owed : None D i m → (p : Question) → Plain p → O p → ⊥
     none-owed n (signOf j) y o = y

@@ -16,7 +16,7 @@ use Rattle.nls.proofs.Tiled.{Tiled}
 use Rattle.nls.proofs.Booleans.{not-true-false}
 use Rattle.nls.proofs.Arrays.{Bits, inside, ans, below, _⊑_, told, any-find, any-some, Fit}
 use Rattle.nls.proofs.Machine.Run.{fit-append}
-use Rattle.nls.proofs.Judging.Most.{most, most-fits, most-keeps, most-below, clear}
+use Rattle.nls.proofs.Judging.Most.{most, most-fits, most-keeps, most-below, clear, gone}
 use Rattle.nls.proofs.Reading.Know.{least, least-below}
 use Rattle.nls.proofs.Judging.Owed.{Owed, owed-true, change}
 use Rattle.nls.proofs.Machine.Cover.{Under, is-alone, is-D, is-G}
@@ -30,12 +30,7 @@ use Rattle.nls.proofs.Judging.Enough.{Enough, Open1, enough-pix, open-p
 module _ (N : ℕ) where
   clear-in : (q : Question) (b : ℕ) (W : Bits) (j : ℕ) → inside N q j ≡ true → (clear N q b W) .has j b ≡ true → ⊥
   unfolding clear
-  clear-in q b W j i h = go (inside N q j) (eqb b b) (W .has j b) i (eq-eqb b b refl) h
-    where
-      go : (x y z : Bool) → x ≡ true → y ≡ true → (not (x && y) && z) ≡ true → ⊥
-      go true true z hx hy r = false≢true r
-      go true false z hx hy r = false≢true hy
-      go false y z hx hy r = false≢true hx
+  clear-in q b W j i h = gone (inside N q j) (eqb b b) (W .has j b) i (eq-eqb b b refl) h
 
   clear-below : (q : Question) (b : ℕ) (W : Bits) (j e : ℕ) → (clear N q b W) .has j e ≡ true → W .has j e ≡ true
   unfolding clear
