@@ -2,15 +2,15 @@
 use mathlib.Core.Path.{_≡_, refl, sym, ap, subst, _∙_}
 use mathlib.Core.Bool.{Bool, true, false, true≢false}
 use mathlib.Core.List.{List}
-use Prim.Native.Nat.{ℕ, suc, _*_, _/_, _%_, _^_, _≤_, _<_}
+use Prim.Native.Nat.{ℕ, suc, _*_, _/_, _^_, _≤_, _<_}
 use native.Mathlib.Omega.{arith}
 use native.Mathlib.Decide.{decLt}
 use lib.ListN.{getD}
 use Rattle.nls.specs.Scan.{Question, bitOf, inDesc, inGrand}
 use Rattle.nls.proofs.Tiled.{Tiled}
 use Rattle.nls.proofs.Arrays.{Bits}
-use Rattle.nls.proofs.Machine.Table.{Cfg, alone, stands, alone-no}
-use Rattle.nls.proofs.Machine.Cover.{Under, kid, far, is-alone, is-D, is-G}
+use Rattle.nls.proofs.Machine.Table.{Cfg, alone, alone-no}
+use Rattle.nls.proofs.Machine.Cover.{Under, kid, far, is-alone, is-D, is-G, Desc-at, Grand-at, Alone-at}
 use Rattle.nls.proofs.Machine.Steps.{preds, From}
 use Rattle.nls.proofs.Reading.Told.{fam, under-ge}
 use Rattle.nls.proofs.Judging.Clash.{Clash, dead-D, dead-G, via}
@@ -50,7 +50,7 @@ module _ (N : ℕ) {D : ℕ} (P : ℕ) (sz : Tiled D (4 ^ N)) where
       (b t : ℕ) (m : List ℕ) (c : Cfg) (ti : t < I) where
     -- the pixel pass
     module _ (p : InPix N P sz W vv (preds (fam N W k) b) k W O b t c m) (mk : getD m t 0 ≡ 1) where
-      it-p : (alone D I c t ≡ true) × (c .al t ≡ getD m t 0)
+      it-p : Alone-at D I c m t
       it-p = is-alone sz c m (p .g .core) t ti (omega (arith, mk)) (omega (arith, mk))
 
       pub enough-pix : Enough W O b (λ j. j ≡ t)
@@ -69,7 +69,7 @@ module _ (N : ℕ) {D : ℕ} (P : ℕ) (sz : Tiled D (4 ^ N)) where
 
     -- the refinement pass
     module _ (p : InFine N P sz W vv (preds (fam N W k) b) k W O b t c m) (mk : getD m t 0 ≡ 3) where
-      it-f : (alone D I c t ≡ true) × (c .al t ≡ getD m t 0)
+      it-f : Alone-at D I c m t
       it-f = is-alone sz c m (p .g .core) t ti (omega (arith, mk)) (omega (arith, mk))
 
       was : (e : ℕ) × (b < e) × (k .has t e ≡ true)
@@ -106,7 +106,7 @@ module _ (N : ℕ) {D : ℕ} (P : ℕ) (sz : Tiled D (4 ^ N)) where
 
       -- MCP
       module _ (mk : getD m t 0 ≡ 4) where
-        it-c : (alone D I c t ≡ true) × (c .al t ≡ getD m t 0)
+        it-c : Alone-at D I c m t
         it-c = is-alone sz c m (p .g .core) t ti (omega (arith, mk)) (omega (arith, mk))
 
         abbrev SpC : ℕ → Type 0
@@ -132,7 +132,7 @@ module _ (N : ℕ) {D : ℕ} (P : ℕ) (sz : Tiled D (4 ^ N)) where
 
       -- MD
       module _ (mk : getD m t 0 ≡ 5) where
-        is-d : (t % 4 ≡ 0) × (stands D I c (t / 4) ≡ true) × (c .sD (t / 4) ≡ false) × (D ≤ t)
+        is-d : Desc-at D I c t
         is-d = is-D sz c m (p .g .core) t ti mk
 
         lo-d : D ≤ 4 * (t / 4)
@@ -197,7 +197,7 @@ module _ (N : ℕ) {D : ℕ} (P : ℕ) (sz : Tiled D (4 ^ N)) where
 
       -- MG
       module _ (mk : getD m t 0 ≡ 6) where
-        is-g : (t ≡ 16 * (t / 16)) × (c .sD (t / 16) ≡ true) × (c .sG (t / 16) ≡ false) × (D ≤ 4 * (t / 16)) × (alone D I c t ≡ false)
+        is-g : Grand-at D I c t
         is-g = is-G sz c m (p .g .core) t ti mk
 
         abbrev SpG : ℕ → Type 0

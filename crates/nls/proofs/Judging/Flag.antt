@@ -4,7 +4,7 @@ use mathlib.Core.Bool.{Bool, true, false, not, true≢false, false≢true, _||_}
 use mathlib.Core.Logic.{_⊎_, inl, inr}
 use mathlib.Core.Option.{Option, none, some}
 use mathlib.Core.List.{List, [], _∷_}
-use Prim.Native.Nat.{ℕ, zero, suc, _+_, _*_, _/_, _%_, _^_, _≤_, _<_}
+use Prim.Native.Nat.{ℕ, zero, suc, _+_, _*_, _/_, _^_, _≤_, _<_}
 use native.Mathlib.Omega.{arith}
 use native.Mathlib.Decide.{decLt, ℕ-discrete}
 use lib.ListN.{getD}
@@ -18,7 +18,7 @@ use Rattle.nls.proofs.Judging.Most.{most, afterO}
 use Rattle.nls.proofs.Reading.Know.{least, know, knowO, know-sgn-has}
 use Rattle.nls.proofs.Judging.Owed.{Owed}
 use Rattle.nls.proofs.Machine.Table.{alone, stands, no-stands, alone-no, alone-low}
-use Rattle.nls.proofs.Machine.Cover.{Under, Core, is-D, mark-D}
+use Rattle.nls.proofs.Machine.Cover.{Under, Core, is-D, mark-D, Desc-at}
 use Rattle.nls.proofs.Machine.Steps.{Fam, Good, Good-at, Learned, On-ask, good-next, good-mono}
 use Rattle.nls.proofs.Judging.Clash.{root}
 use Rattle.nls.proofs.Machine.Start.{nothing, good-start}
@@ -155,7 +155,7 @@ module _ (N : ℕ) {D : ℕ} (P : ℕ) (sz : Tiled D (4 ^ N)) where
     kk : Core sz (z .1 .0) m
     kk = z .1 .1 .g .core
 
-    isd : (i % 4 ≡ 0) × (stands D I (z .1 .0) (i / 4) ≡ true) × ((z .1 .0) .sD (i / 4) ≡ false) × (D ≤ i)
+    isd : Desc-at D I (z .1 .0) i
     isd = is-D sz (z .1 .0) m kk i hi mk
 
     -- no 1: places below D have MIP

@@ -13,7 +13,7 @@ use Rattle.nls.proofs.Tiled.{Tiled}
 use Rattle.nls.proofs.Booleans.{neither}
 use Rattle.nls.proofs.Arrays.{Bits}
 use Rattle.nls.proofs.Machine.Table.{Cfg, alone, stands, alone-yes, alone-low, alone-kid, stands-yes, stands-low, stands-kid}
-use Rattle.nls.proofs.Machine.Cover.{Under, kid, far, Core, Sets, is-alone, is-D, is-G, mark-D, mark-G}
+use Rattle.nls.proofs.Machine.Cover.{Under, kid, far, Core, Sets, is-alone, is-D, is-G, mark-D, mark-G, Desc-at, Grand-at, Alone-at}
 use Rattle.nls.proofs.Machine.Steps.{preds, From}
 use Rattle.nls.proofs.Reading.Told.{fam, Known, under-ge}
 use Rattle.nls.proofs.Judging.Apart.{Cmp, same, over, below, cmp}
@@ -53,7 +53,7 @@ module _ {D I : ℕ} (sz : Tiled D I) where
           two : (j : ℕ) → j < t → (1 ≤ getD m j 0) × (getD m j 0 ≤ 2) → (c .al j ≡ 1) ⊎ (c .al j ≡ 2)
           two j l q = pick (ℕ-discrete (getD m j 0) 1) (is-alone sz c m kk j (omega arith) (q .0) (omega (arith, q .1)))
             where
-              pick : Dec (getD m j 0 ≡ 1) → (alone D I c j ≡ true) × (c .al j ≡ getD m j 0) → (c .al j ≡ 1) ⊎ (c .al j ≡ 2)
+              pick : Dec (getD m j 0 ≡ 1) → Alone-at D I c m j → (c .al j ≡ 1) ⊎ (c .al j ≡ 2)
               pick (yes z) it = inl (it .1 ∙ z)
               pick (no z) it = inr (omega (arith, it .1, q .0, q .1))
 
@@ -72,7 +72,7 @@ module _ (N : ℕ) {D : ℕ} (P : ℕ) (sz : Tiled D (4 ^ N)) where
     pub room-child : getD m t 0 ≡ 4 → (Clash D I P b t m → ⊥) → Spare sz W k b (λ j. Under (t / 4) j × (j ≡ t → ⊥))
     room-child mk n = go (ℕ-discrete (t % 4) 3) (decLt (16 * (t / 4)) I)
       where
-        it : (alone D I c t ≡ true) × (c .al t ≡ getD m t 0)
+        it : Alone-at D I c m t
         it = is-alone sz c m kk t ti (omega arith) (omega arith)
 
         c4 : (D ≤ t) × (16 * (t / 4) < I → c .sG (t / 4) ≡ false) × ((j : ℕ) → j / 4 ≡ t / 4 → j < t → (c .al j ≡ 1) ⊎ (c .al j ≡ 2))
@@ -120,7 +120,7 @@ module _ (N : ℕ) {D : ℕ} (P : ℕ) (sz : Tiled D (4 ^ N)) where
     pub room-desc : getD m t 0 ≡ 5 → 4 * D ≤ t → (Clash D I P b t m → ⊥) → Spare sz W k b (λ j. (h : ℕ) × (h / 4 ≡ t / 4 / 4) × (h ≡ t / 4 → ⊥) × Under h j)
     room-desc mk big n = go (ℕ-discrete (t / 4 % 4) 3)
       where
-        is : (t % 4 ≡ 0) × (stands D I c (t / 4) ≡ true) × (c .sD (t / 4) ≡ false) × (D ≤ t)
+        is : Desc-at D I c t
         is = is-D sz c m kk t ti mk
 
         split : (h : ℕ) → h / 4 ≡ t / 4 / 4 → (h ≡ t / 4 → ⊥) → c .sD h ≡ true → Spare sz W k b (λ j. (h : ℕ) × (h / 4 ≡ t / 4 / 4) × (h ≡ t / 4 → ⊥) × Under h j)
@@ -171,7 +171,7 @@ module _ (N : ℕ) {D : ℕ} (P : ℕ) (sz : Tiled D (4 ^ N)) where
     pub room-grand : getD m t 0 ≡ 6 → (Clash D I P b t m → ⊥) → Spare sz W k b (λ j. j / 4 ≡ t / 16)
     room-grand mk n = found (four 4 (lit≤ tt))
       where
-        is : (t ≡ 16 * (t / 16)) × (c .sD (t / 16) ≡ true) × (c .sG (t / 16) ≡ false) × (D ≤ 4 * (t / 16)) × (alone D I c t ≡ false)
+        is : Grand-at D I c t
         is = is-G sz c m kk t ti mk
 
         kid-alone : (j : ℕ) → j / 4 ≡ t / 16 → alone D I c j ≡ true
@@ -216,7 +216,7 @@ module _ (N : ℕ) {D : ℕ} (P : ℕ) (sz : Tiled D (4 ^ N)) where
     pub room-root : getD m t 0 ≡ 5 → t < 4 * D → suc b ≡ P → (Clash D I P b t m → ⊥) → (j : ℕ) × (j < I) × (W .has j b ≡ true) × (Under (t / 4) j → ⊥)
     room-root mk tD bP n = go (ℕ-discrete (t + 4) (4 * D))
       where
-        is : (t % 4 ≡ 0) × (stands D I c (t / 4) ≡ true) × (c .sD (t / 4) ≡ false) × (D ≤ t)
+        is : Desc-at D I c t
         is = is-D sz c m kk t ti mk
 
         top : (j e : ℕ) → b ≤ e → W .has j e ≡ true → W .has j b ≡ true
