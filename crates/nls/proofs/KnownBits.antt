@@ -23,7 +23,7 @@ use Rattle.nls.specs.Judging.{Begins}
 use Rattle.nls.proofs.Tiled.{Tiled, tiled}
 use Rattle.nls.proofs.Arrays.{Bits, bits-of, ans, told, Fit}
 use Rattle.nls.proofs.Machine.Table.{Cfg, alone}
-use Rattle.nls.proofs.Machine.Cover.{Core, More, is-alone}
+use Rattle.nls.proofs.Machine.Cover.{Core, More, is-alone, Alone-at}
 use Rattle.nls.proofs.Machine.Steps.{Good-at, From, preds, from-good}
 use Rattle.nls.proofs.Machine.Start.{good-start}
 use Rattle.nls.proofs.Machine.Start as first
@@ -95,7 +95,7 @@ module _ (N L : ℕ) (size : Sized N L) (P : ℕ) (A : List ℤ) (under : (i : �
       on false q = refl
       on true q =
           let held : (alone D I c i ≡ true) × (2 ≤ c .al i) × (c .al i ≤ 3) = more .zs i hi (e, f e a u i hi q) in
-          let same : (alone D I c i ≡ true) × (c .al i ≡ getD m i 0) = is-alone sz c m core i hi (mark .0) (mark .1) in
+          let same : Alone-at D I c m i = is-alone sz c m core i hi (mark .0) (mark .1) in
           absurd (mark .2 (omega arith, omega arith))
 
   -- nothing is noted

@@ -28,6 +28,15 @@ module _ {D I : ℕ} (sz : Tiled D I) (c : Cfg) (o : Ok D I c) where
   not-first : (g : ℕ) → alone D I c g ≡ false → stands D I c g ≡ false
   not-first g a = let r : (D ≤ g) × (c .sD (g / 4) ≡ false) = no-alone D I c g a in stands-no D I c g (r .0) (no-gd D I c o (g / 4) (r .1))
 
+  -- what is inside a set that stands is not split
+  pub whole-D : (g x : ℕ) → D ≤ 4 * g → c .sD g ≡ false → Under g x → c .sD x ≡ true → ⊥
+  whole-D g x lo n w d = true≢false (sym d ∙ subst (λ (y : ℕ). c .sD y ≡ false) {x = 4 * x / 4} {y = x} (omega arith)
+      ((no-alone D I c (4 * x) (dead-D sz c o g (4 * x) lo n (far {i = 4 * x} (subst (λ (y : ℕ). Under g y) {x = x} {y = 4 * x / 4} (omega arith) w)))) .1))
+
+  pub whole-G : (q x : ℕ) → D ≤ 4 * q → c .sG q ≡ false → Under q x → c .sD x ≡ true → ⊥
+  whole-G q x lo n w d = true≢false (sym d ∙ subst (λ (y : ℕ). c .sD y ≡ false) {x = 4 * x / 4} {y = x} (omega arith)
+      ((no-alone D I c (4 * x) (dead-G sz c o q (4 * x) lo n (subst (λ (y : ℕ). Under q y) {x = x} {y = 4 * x / 4} (omega arith) w))) .1))
+
   -- DESC(h) and DESC(g)
   pub apart-DD : (h g j : ℕ) → D ≤ 4 * h → stands D I c h ≡ true → c .sD h ≡ false → D ≤ 4 * g → stands D I c g ≡ true → c .sD g ≡ false → Under h j → Under g j → h ≡ g
   apart-DD h g j a sh nh b sg ng u v = go (cmp h g j u v)
@@ -41,25 +50,17 @@ module _ {D I : ℕ} (sz : Tiled D I) (c : Cfg) (o : Ok D I c) where
   pub apart-GD : (q g j : ℕ) → D ≤ 4 * q → c .sD q ≡ true → c .sG q ≡ false → D ≤ 4 * g → stands D I c g ≡ true → c .sD g ≡ false → Under q (j / 4) → Under g j → ⊥
   apart-GD q g j a dq nq b sg ng u v = let r : (h : ℕ) × (h / 4 ≡ q) × Under h j = via q j u in go (r .0) (r .1) (cmp (r .0) g j (r .2) v)
     where
-      at : (x : ℕ) → Under g x → c .sD x ≡ true → ⊥
-      at x w d = true≢false (sym d ∙ subst (λ (y : ℕ). c .sD y ≡ false) {x = 4 * x / 4} {y = x} (omega arith)
-          ((no-alone D I c (4 * x) (dead-D sz c o g (4 * x) b ng (far {i = 4 * x} (subst (λ (y : ℕ). Under g y) {x = x} {y = 4 * x / 4} (omega arith) w)))) .1))
-
       go : (h : ℕ) → h / 4 ≡ q → Cmp h g → ⊥
       go h e (same z) = true≢false (sym sg ∙ stands-no D I c g (omega arith) (subst (λ (x : ℕ). c .sG x ≡ false) {x = q} {y = g / 4} (omega arith) nq))
       go h e (over w) = true≢false (sym sg ∙ not-first g (dead-G sz c o q g a nq (grand-of q h g e w)))
       go h e (below (kid z)) = true≢false (sym (subst (λ (x : ℕ). c .sD x ≡ true) (sym e ∙ z) dq) ∙ ng)
-      go h e (below (far w)) = at q (subst (λ (x : ℕ). Under g x) e w) dq
+      go h e (below (far w)) = whole-D g q b ng (subst (λ (x : ℕ). Under g x) e w) dq
 
   -- GRAND(q) and GRAND(p)
   pub apart-GG : (q p j : ℕ) → D ≤ 4 * q → c .sD q ≡ true → c .sG q ≡ false → D ≤ 4 * p → c .sD p ≡ true → c .sG p ≡ false → Under q (j / 4) → Under p (j / 4) → q ≡ p
   apart-GG q p j a dq nq b dp np u v = go (cmp q p (j / 4) u v)
     where
-      at : (x y : ℕ) → D ≤ 4 * x → c .sG x ≡ false → Under x y → c .sD y ≡ true → ⊥
-      at x y lo n w d = true≢false (sym d ∙ subst (λ (z : ℕ). c .sD z ≡ false) {x = 4 * y / 4} {y = y} (omega arith)
-          ((no-alone D I c (4 * y) (dead-G sz c o x (4 * y) lo n (subst (λ (z : ℕ). Under x z) {x = y} {y = 4 * y / 4} (omega arith) w))) .1))
-
       go : Cmp q p → q ≡ p
       go (same e) = e
-      go (over w) = absurd (at q p a nq w dp)
-      go (below w) = absurd (at p q b np w dq)
+      go (over w) = absurd (whole-G q p a nq w dp)
+      go (below w) = absurd (whole-G p q b np w dq)

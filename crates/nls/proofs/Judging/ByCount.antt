@@ -18,7 +18,7 @@ use Rattle.nls.proofs.Arrays.{Bits, _⊑_, told, Fit}
 use Rattle.nls.proofs.Judging.Most.{most, afterO}
 use Rattle.nls.proofs.Reading.Know.{least, knowO, belowO}
 use Rattle.nls.proofs.Machine.Table.{Cfg, alone, stands, no-alone, no-stands, alone-no}
-use Rattle.nls.proofs.Machine.Cover.{Core, is-alone, is-D, is-G, mark-D, sskip-small}
+use Rattle.nls.proofs.Machine.Cover.{Core, is-alone, is-D, is-G, mark-D, sskip-small, Desc-at, Grand-at, Alone-at}
 use Rattle.nls.proofs.Machine.Steps.{Good, Good-at, good-next, good-mono}
 use Rattle.nls.proofs.Judging.Clash.{Valid}
 use Rattle.nls.proofs.Machine.Start.{nothing, good-start, first}
@@ -28,10 +28,6 @@ use Rattle.nls.proofs.Judging.Owed.{Owed}
 use Rattle.nls.proofs.Judging.Decide.{clash-by, None, clash-to, clash-from}
 use Rattle.nls.proofs.Judging.Flag.{F1, Fl, on-ask1, Blank, blank-run, flag-to, flag-of, z, g1, lit}
 use Rattle.nls.proofs.Judging.Decoder.{Right, Some}
-
-f-or : (x : Bool) → x ≡ false → (x || false) ≡ false
-f-or true e = absurd (true≢false e)
-f-or false e = refl
 
 module _ (N : ℕ) {D : ℕ} (P : ℕ) (sz : Tiled D (4 ^ N)) where
   abbrev I : ℕ
@@ -174,7 +170,7 @@ module _ (N : ℕ) {D : ℕ} (P : ℕ) (sz : Tiled D (4 ^ N)) where
       over1 x (inr t) = omega (arith, t .1)
 
       on-0 : (x y : ℕ) → y ≡ x + 1 → Tally n hit x → Tally (n + 1) (hit || false) y
-      on-0 x y e (inl t) = inl (f-or hit (t .0), omega (arith, t .1))
+      on-0 x y e (inl t) = inl (or-false hit ∙ t .0, omega (arith, t .1))
       on-0 x y e (inr t) = inr (or-left hit false (t .0), omega (arith, t .1))
 
       jt-pix : (b i : ℕ) (m : List ℕ) (x y a : Bool) → ltb i I ≡ x → eqb (getD m i 0) 1 ≡ y → AA (suc b) pixels i false m → J-at n hit (suc b) pixels i false m → told N A (asked I (lookPixels b i m x y)) a
@@ -187,7 +183,7 @@ module _ (N : ℕ) {D : ℕ} (P : ℕ) (sz : Tiled D (4 ^ N)) where
           mk : getD m i 0 ≡ 1
           mk = eqb-true _ _ ey
 
-          it : (alone D I (z .1 .0) i ≡ true) × ((z .1 .0) .al i ≡ getD m i 0)
+          it : Alone-at D I (z .1 .0) m i
           it = is-alone sz (z .1 .0) m (z .1 .1 .g .core) i (ltb-true i I ex) (omega (arith, mk)) (omega (arith, mk))
 
           low : suc b ≡ P → Dec (i < D) → i < D
@@ -200,15 +196,15 @@ module _ (N : ℕ) {D : ℕ} (P : ℕ) (sz : Tiled D (4 ^ N)) where
       jt-sets b i m true false false false a ex ed eg ec z f j t = absurd t
       jt-sets b i m true true g c true ex ed eg ec z f j t = λ e l. inr (or-true hit, over1 (D + (i / 4 - D / 4)) (j e l))
       jt-sets b i m true true g c false ex ed eg ec z f j t = λ e l.
-          (let is : (i % 4 ≡ 0) × (stands D I (z .1 .0) (i / 4) ≡ true) × ((z .1 .0) .sD (i / 4) ≡ false) × (D ≤ i) = is-D sz (z .1 .0) m (z .1 .1 .g .core) i (ltb-true i I ex) (eqb-true _ _ ed) in
+          (let is : Desc-at D I (z .1 .0) i = is-D sz (z .1 .0) m (z .1 .1 .g .core) i (ltb-true i I ex) (eqb-true _ _ ed) in
           on-0 (D + (i / 4 - D / 4)) (D + ((i + 4) / 4 - D / 4)) (omega (arith, is .0, is .3)) (j e (omega arith)))
       jt-sets b i m true false true c true ex ed eg ec z f j t = λ e l. absurd (far (is-G sz (z .1 .0) m (z .1 .1 .g .core) i (ltb-true i I ex) (eqb-true _ _ eg)) l)
         where
-          far : (i ≡ 16 * (i / 16)) × ((z .1 .0) .sD (i / 16) ≡ true) × ((z .1 .0) .sG (i / 16) ≡ false) × (D ≤ 4 * (i / 16)) × (alone D I (z .1 .0) i ≡ false) → i < 4 * D → ⊥
+          far : Grand-at D I (z .1 .0) i → i < 4 * D → ⊥
           far r l = omega (arith, r .0, r .3)
       jt-sets b i m true false true c false ex ed eg ec z f j t = λ e l. absurd (far (is-G sz (z .1 .0) m (z .1 .1 .g .core) i (ltb-true i I ex) (eqb-true _ _ eg)) l)
         where
-          far : (i ≡ 16 * (i / 16)) × ((z .1 .0) .sD (i / 16) ≡ true) × ((z .1 .0) .sG (i / 16) ≡ false) × (D ≤ 4 * (i / 16)) × (alone D I (z .1 .0) i ≡ false) → i + 16 < 4 * D → ⊥
+          far : Grand-at D I (z .1 .0) i → i + 16 < 4 * D → ⊥
           far r l = omega (arith, r .0, r .3)
       jt-sets b i m true false false true true ex ed eg ec z f j t = λ e l. (or-true hit, over1 (D + (i / 4 - D / 4)) (j e l))
       jt-sets b i m true false false true false ex ed eg ec z f j t = λ e l. go (j e (omega arith))
@@ -222,7 +218,7 @@ module _ (N : ℕ) {D : ℕ} (P : ℕ) (sz : Tiled D (4 ^ N)) where
           lo : D ≤ i
           lo = (z .1 .1 .fr .c4 hi mk) .0
 
-          it : (alone D I (f .1 .0) i ≡ true) × ((f .1 .0) .al i ≡ getD m i 0)
+          it : Alone-at D I (f .1 .0) m i
           it = is-alone sz (f .1 .0) m (f .1 .1 .core) i hi (omega (arith, mk)) (omega (arith, mk))
 
           was : (x : Bool) → (f .1 .0) .sD (i / 4) ≡ x → fl

@@ -1,6 +1,6 @@
 -- Refusal 12, one half: where the marks say so, every array that fits answers 1, so a 0 fits none.
 use mathlib.Core.Path.{_≡_, refl, sym, subst, _∙_}
-use mathlib.Core.Bool.{Bool, true, false, true≢false}
+use mathlib.Core.Bool.{true, false, true≢false}
 use mathlib.Core.List.{List}
 use Prim.Native.Nat.{ℕ, zero, suc, _+_, _*_, _/_, _%_, _^_, _≤_, _<_}
 use native.Mathlib.Omega.{arith}
@@ -11,8 +11,8 @@ use Rattle.sizes.proofs.Laws.{both}
 use Rattle.nls.specs.Scan.{bitOf, inDesc, inGrand}
 use Rattle.nls.proofs.Tiled.{Tiled}
 use Rattle.nls.proofs.Arrays.{Bits, inside, ans, below, member}
-use Rattle.nls.proofs.Machine.Table.{Cfg, alone, stands, Ok, alone-no, no-alone, stands-no, no-dg, low}
-use Rattle.nls.proofs.Machine.Cover.{Under, kid, far, Core, Sets, is-alone, is-D, is-G}
+use Rattle.nls.proofs.Machine.Table.{Cfg, alone, stands, Ok, alone-no, no-alone, stands-no, no-dg, low, alone-yes, stands-yes}
+use Rattle.nls.proofs.Machine.Cover.{Under, kid, far, Core, Sets, is-alone, is-D, is-G, Desc-at, Grand-at, Alone-at}
 use Rattle.nls.proofs.Machine.Steps.{preds, From}
 use Rattle.nls.proofs.Reading.Told.{fam, Known, under-below, under-ge}
 
@@ -77,7 +77,7 @@ module _ (N : ℕ) {D : ℕ} (P : ℕ) (sz : Tiled D (4 ^ N)) where
     mip : (j e : ℕ) → j < I → getD m j 0 ≡ 1 → b ≤ e → A .has j e ≡ true → ⊥
     mip j e hj mk h a = go (ℕ-discrete e b)
       where
-        it : (alone D I c j ≡ true) × (c .al j ≡ getD m j 0)
+        it : Alone-at D I c m j
         it = is-alone sz c m kk j hj (omega arith) (omega arith)
 
         go : Dec (e ≡ b) → ⊥
@@ -113,11 +113,11 @@ module _ (N : ℕ) {D : ℕ} (P : ℕ) (sz : Tiled D (4 ^ N)) where
 
     pub clash-grand : getD m t 0 ≡ 6 → ((j : ℕ) → j / 4 ≡ t / 16 → getD m j 0 ≡ 1) → ans N A (inGrand (t / 16) b) ≡ true
     clash-grand mk f =
-        let is : (t ≡ 16 * (t / 16)) × (c .sD (t / 16) ≡ true) × (c .sG (t / 16) ≡ false) × (D ≤ 4 * (t / 16)) × (alone D I c t ≡ false) = is-G sz c m kk t ti mk in
+        let is : Grand-at D I c t = is-G sz c m kk t ti mk in
         let r : (j : ℕ) × (e : ℕ) × (j < I) × Under (t / 16) j × (b ≤ e) × (A .has j e ≡ true) = p .more .qD (t / 16) (is .1) in
         go is (r .0) (r .1) (r .2) (r .3) (r .4) (r .5)
       where
-        go : (t ≡ 16 * (t / 16)) × (c .sD (t / 16) ≡ true) × (c .sG (t / 16) ≡ false) × (D ≤ 4 * (t / 16)) × (alone D I c t ≡ false)
+        go : Grand-at D I c t
             → (j e : ℕ) → j < I → Under (t / 16) j → b ≤ e → A .has j e ≡ true → ans N A (inGrand (t / 16) b) ≡ true
         go is j e hj (kid z) h a = absurd (mip j e hj (f j z) h a)
         go is j e hj (far u) h a = yes-G (t / 16) j (omega (arith, is .3)) hj u (only-b j e hj (dead-G sz c (kk .ok) (t / 16) j (is .3) (is .2) u) h a)
@@ -128,15 +128,11 @@ module _ (N : ℕ) {D : ℕ} (P : ℕ) (sz : Tiled D (4 ^ N)) where
         let r : (j : ℕ) × (e : ℕ) × (j < I) × Under (t / 4) j × (b ≤ e) × (A .has j e ≡ true) = p .more .qD (t / 4) sd in
         go (r .0) (r .1) (r .2) (r .3) (r .4) (r .5)
       where
-        it : (alone D I c t ≡ true) × (c .al t ≡ getD m t 0)
+        it : Alone-at D I c m t
         it = is-alone sz c m kk t ti (omega arith) (omega arith)
 
         sd : c .sD (t / 4) ≡ true
-        sd = pick (c .sD (t / 4)) refl
-          where
-            pick : (x : Bool) → c .sD (t / 4) ≡ x → c .sD (t / 4) ≡ true
-            pick true e = e
-            pick false e = absurd (true≢false (sym (it .0) ∙ alone-no D I c t (omega arith) e))
+        sd = alone-yes D I c t (omega arith) (it .0)
 
         me : (e : ℕ) → b ≤ e → A .has t e ≡ true → Dec (e ≡ b) → A .has t b ≡ true
         me e h a (yes z) = subst (λ (x : ℕ). A .has t x ≡ true) z a
@@ -156,15 +152,11 @@ module _ (N : ℕ) {D : ℕ} (P : ℕ) (sz : Tiled D (4 ^ N)) where
         let v : (h : ℕ) × (h / 4 ≡ t / 4 / 4) × Under h (r .0) = via (t / 4 / 4) (r .0) (r .3) in
         go (r .0) (r .1) (v .0) (r .2) (v .1) (v .2) (r .4) (r .5) (ℕ-discrete (v .0) (t / 4))
       where
-        is : (t % 4 ≡ 0) × (stands D I c (t / 4) ≡ true) × (c .sD (t / 4) ≡ false) × (D ≤ t)
+        is : Desc-at D I c t
         is = is-D sz c m kk t ti mk
 
         sg : c .sG (t / 4 / 4) ≡ true
-        sg = pick (c .sG (t / 4 / 4)) refl
-          where
-            pick : (x : Bool) → c .sG (t / 4 / 4) ≡ x → c .sG (t / 4 / 4) ≡ true
-            pick true e = e
-            pick false e = absurd (true≢false (sym (is .1) ∙ stands-no D I c (t / 4) (omega arith) e))
+        sg = stands-yes D I c (t / 4) (omega arith) (is .1)
 
         go : (j e h : ℕ) → j < I → h / 4 ≡ t / 4 / 4 → Under h j → b ≤ e → A .has j e ≡ true → Dec (h ≡ t / 4) → ans N A (inDesc (t / 4) b) ≡ true
         go j e h hj z u be a (yes q) =

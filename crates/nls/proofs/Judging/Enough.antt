@@ -2,19 +2,19 @@
 use mathlib.Core.Path.{_≡_, refl, sym, ap, subst, _∙_}
 use mathlib.Core.Bool.{Bool, true, false, true≢false}
 use mathlib.Core.List.{List}
-use Prim.Native.Nat.{ℕ, suc, _*_, _/_, _%_, _^_, _≤_, _<_}
+use Prim.Native.Nat.{ℕ, suc, _*_, _/_, _^_, _≤_, _<_}
 use native.Mathlib.Omega.{arith}
 use native.Mathlib.Decide.{decLt}
 use lib.ListN.{getD}
 use Rattle.nls.specs.Scan.{Question, bitOf, inDesc, inGrand}
 use Rattle.nls.proofs.Tiled.{Tiled}
 use Rattle.nls.proofs.Arrays.{Bits}
-use Rattle.nls.proofs.Machine.Table.{Cfg, alone, stands, Ok, alone-no, no-alone}
-use Rattle.nls.proofs.Machine.Cover.{Under, kid, far, is-alone, is-D, is-G}
+use Rattle.nls.proofs.Machine.Table.{Cfg, alone, alone-no}
+use Rattle.nls.proofs.Machine.Cover.{Under, kid, far, is-alone, is-D, is-G, Desc-at, Grand-at, Alone-at}
 use Rattle.nls.proofs.Machine.Steps.{preds, From}
 use Rattle.nls.proofs.Reading.Told.{fam, under-ge}
 use Rattle.nls.proofs.Judging.Clash.{Clash, dead-D, dead-G, via}
-use Rattle.nls.proofs.Judging.Apart.{Cmp, same, over, below, cmp, grand-of}
+use Rattle.nls.proofs.Judging.Apart.{Cmp, same, over, below, cmp, grand-of, whole-D, whole-G}
 use Rattle.nls.proofs.Judging.Room.{Fresh, fresh-of, Spare, now, past, room-child, room-desc, room-grand, room-root}
 use Rattle.nls.proofs.Judging.Open.{InPix, InSets, InFine}
 
@@ -46,21 +46,11 @@ module _ (N : ℕ) {D : ℕ} (P : ℕ) (sz : Tiled D (4 ^ N)) where
     pub eG : (h x : ℕ) → O (inGrand h b) → Under h (x / 4) → In x → (j : ℕ) × (j < I) × Under h (j / 4) × (W .has j b ≡ true) × (In j → ⊥) × (1 ≤ h)
     pub eT : suc b ≡ P → (j : ℕ) × (j < I) × (W .has j b ≡ true) × (In j → ⊥)
 
-  -- what is inside a set that stands is not split
-  module _ (c : Cfg) (o : Ok D I c) where
-    pub whole-D : (g x : ℕ) → D ≤ 4 * g → c .sD g ≡ false → Under g x → c .sD x ≡ true → ⊥
-    whole-D g x lo n w d = true≢false (sym d ∙ subst (λ (y : ℕ). c .sD y ≡ false) {x = 4 * x / 4} {y = x} (omega arith)
-        ((no-alone D I c (4 * x) (dead-D sz c o g (4 * x) lo n (far {i = 4 * x} (subst (λ (y : ℕ). Under g y) {x = x} {y = 4 * x / 4} (omega arith) w)))) .1))
-
-    whole-G : (q x : ℕ) → D ≤ 4 * q → c .sG q ≡ false → Under q x → c .sD x ≡ true → ⊥
-    whole-G q x lo n w d = true≢false (sym d ∙ subst (λ (y : ℕ). c .sD y ≡ false) {x = 4 * x / 4} {y = x} (omega arith)
-        ((no-alone D I c (4 * x) (dead-G sz c o q (4 * x) lo n (subst (λ (y : ℕ). Under q y) {x = x} {y = 4 * x / 4} (omega arith) w))) .1))
-
   module _ (W k : Bits) (vv : Bool) (O : Question → Type 0) (k⊑W : (j e : ℕ) → k .has j e ≡ true → W .has j e ≡ true) (cap : (j e : ℕ) → W .has j e ≡ true → e < P)
       (b t : ℕ) (m : List ℕ) (c : Cfg) (ti : t < I) where
     -- the pixel pass
     module _ (p : InPix N P sz W vv (preds (fam N W k) b) k W O b t c m) (mk : getD m t 0 ≡ 1) where
-      it-p : (alone D I c t ≡ true) × (c .al t ≡ getD m t 0)
+      it-p : Alone-at D I c m t
       it-p = is-alone sz c m (p .g .core) t ti (omega (arith, mk)) (omega (arith, mk))
 
       pub enough-pix : Enough W O b (λ j. j ≡ t)
@@ -79,7 +69,7 @@ module _ (N : ℕ) {D : ℕ} (P : ℕ) (sz : Tiled D (4 ^ N)) where
 
     -- the refinement pass
     module _ (p : InFine N P sz W vv (preds (fam N W k) b) k W O b t c m) (mk : getD m t 0 ≡ 3) where
-      it-f : (alone D I c t ≡ true) × (c .al t ≡ getD m t 0)
+      it-f : Alone-at D I c m t
       it-f = is-alone sz c m (p .g .core) t ti (omega (arith, mk)) (omega (arith, mk))
 
       was : (e : ℕ) × (b < e) × (k .has t e ≡ true)
@@ -116,7 +106,7 @@ module _ (N : ℕ) {D : ℕ} (P : ℕ) (sz : Tiled D (4 ^ N)) where
 
       -- MCP
       module _ (mk : getD m t 0 ≡ 4) where
-        it-c : (alone D I c t ≡ true) × (c .al t ≡ getD m t 0)
+        it-c : Alone-at D I c m t
         it-c = is-alone sz c m (p .g .core) t ti (omega (arith, mk)) (omega (arith, mk))
 
         abbrev SpC : ℕ → Type 0
@@ -142,7 +132,7 @@ module _ (N : ℕ) {D : ℕ} (P : ℕ) (sz : Tiled D (4 ^ N)) where
 
       -- MD
       module _ (mk : getD m t 0 ≡ 5) where
-        is-d : (t % 4 ≡ 0) × (stands D I c (t / 4) ≡ true) × (c .sD (t / 4) ≡ false) × (D ≤ t)
+        is-d : Desc-at D I c t
         is-d = is-D sz c m (p .g .core) t ti mk
 
         lo-d : D ≤ 4 * (t / 4)
@@ -175,7 +165,7 @@ module _ (N : ℕ) {D : ℕ} (P : ℕ) (sz : Tiled D (4 ^ N)) where
 
             doD : (h x : ℕ) → O (inDesc h b) → Under h x → Under (t / 4) x → Cmp h (t / 4) → (j : ℕ) × (j < I) × Under h j × (W .has j b ≡ true) × (Under (t / 4) j → ⊥) × (1 ≤ h)
             doD h x o u v (same e) = absurd (true≢false (sym ((p .de .oD h b o) .0) ∙ subst (λ (y : ℕ). c .sD y ≡ false) (sym e) (is-d .2)))
-            doD h x o u v (below w) = absurd (whole-D c (p .g .core .ok) (t / 4) h lo-d (is-d .2) w ((p .de .oD h b o) .0))
+            doD h x o u v (below w) = absurd (whole-D sz c (p .g .core .ok) (t / 4) h lo-d (is-d .2) w ((p .de .oD h b o) .0))
             doD h x o u v (over w) = useD SpD (λ j. Under (t / 4) j) (sp (omega (arith, under-ge h (t / 4) w, p .g .core .ok .lo h ((p .de .oD h b o) .0)))) (out-d (omega (arith, under-ge h (t / 4) w, p .g .core .ok .lo h ((p .de .oD h b o) .0)))) h o
                 (λ j s. under-trans h (s .0) j (sibling h (t / 4) (s .0) (s .1) w) (s .3))
 
@@ -196,7 +186,7 @@ module _ (N : ℕ) {D : ℕ} (P : ℕ) (sz : Tiled D (4 ^ N)) where
                 at (over w) = useG SpD (λ j. Under (t / 4) j) (sp (omega (arith, lo, under-ge g (t / 4) w))) (out-d (omega (arith, lo, under-ge g (t / 4) w))) h o
                     (λ j s. grand-of h g j e (under-trans g (s .0) j (sibling g (t / 4) (s .0) (s .1) w) (s .3)))
                 at (below (kid z)) = absurd (true≢false (sym (subst (λ (y : ℕ). c .sD y ≡ true) (sym e ∙ z) sd) ∙ is-d .2))
-                at (below (far w)) = absurd (whole-D c (p .g .core .ok) (t / 4) h lo-d (is-d .2) (subst (λ (y : ℕ). Under (t / 4) y) e w) sd)
+                at (below (far w)) = absurd (whole-D sz c (p .g .core .ok) (t / 4) h lo-d (is-d .2) (subst (λ (y : ℕ). Under (t / 4) y) e w) sd)
 
             doT : suc b ≡ P → Dec (t < 4 * D) → (j : ℕ) × (j < I) × (W .has j b ≡ true) × (Under (t / 4) j → ⊥)
             doT e (yes z) = room-root N P sz W k k⊑W cap b t m c ti above (p .g) fs mk z e n
@@ -207,7 +197,7 @@ module _ (N : ℕ) {D : ℕ} (P : ℕ) (sz : Tiled D (4 ^ N)) where
 
       -- MG
       module _ (mk : getD m t 0 ≡ 6) where
-        is-g : (t ≡ 16 * (t / 16)) × (c .sD (t / 16) ≡ true) × (c .sG (t / 16) ≡ false) × (D ≤ 4 * (t / 16)) × (alone D I c t ≡ false)
+        is-g : Grand-at D I c t
         is-g = is-G sz c m (p .g .core) t ti mk
 
         abbrev SpG : ℕ → Type 0
@@ -231,18 +221,18 @@ module _ (N : ℕ) {D : ℕ} (P : ℕ) (sz : Tiled D (4 ^ N)) where
             sp = room-grand N P sz W k k⊑W cap b t m c ti above (p .g) fs mk n
 
             doD : (h x : ℕ) → O (inDesc h b) → Under h x → Under (t / 16) (x / 4) → (j : ℕ) × (j < I) × Under h j × (W .has j b ≡ true) × (Under (t / 16) (j / 4) → ⊥) × (1 ≤ h)
-            doD h x o (kid z) v = absurd (whole-G c (p .g .core .ok) (t / 16) h (is-g .3) (is-g .2) (subst (λ (y : ℕ). Under (t / 16) y) z v) ((p .de .oD h b o) .0))
+            doD h x o (kid z) v = absurd (whole-G sz c (p .g .core .ok) (t / 16) h (is-g .3) (is-g .2) (subst (λ (y : ℕ). Under (t / 16) y) z v) ((p .de .oD h b o) .0))
             doD h x o (far u) v = at (cmp h (t / 16) (x / 4) u v)
               where
                 at : Cmp h (t / 16) → (j : ℕ) × (j < I) × Under h j × (W .has j b ≡ true) × (Under (t / 16) (j / 4) → ⊥) × (1 ≤ h)
                 at (same e) = useD SpG (λ j. Under (t / 16) (j / 4)) sp out-g h o (λ j s. kid (s ∙ sym e))
                 at (over w) = useD SpG (λ j. Under (t / 16) (j / 4)) sp out-g h o (λ j s. far (subst (λ (y : ℕ). Under h y) (sym s) w))
-                at (below w) = absurd (whole-G c (p .g .core .ok) (t / 16) h (is-g .3) (is-g .2) w ((p .de .oD h b o) .0))
+                at (below w) = absurd (whole-G sz c (p .g .core .ok) (t / 16) h (is-g .3) (is-g .2) w ((p .de .oD h b o) .0))
 
             doG : (h x : ℕ) → O (inGrand h b) → Cmp h (t / 16) → (j : ℕ) × (j < I) × Under h (j / 4) × (W .has j b ≡ true) × (Under (t / 16) (j / 4) → ⊥) × (1 ≤ h)
             doG h x o (same e) = absurd (true≢false (sym ((p .de .oG h b o) .0) ∙ subst (λ (y : ℕ). c .sG y ≡ false) (sym e) (is-g .2)))
             doG h x o (over w) = useG SpG (λ j. Under (t / 16) (j / 4)) sp out-g h o (λ j s. subst (λ (y : ℕ). Under h y) (sym s) w)
-            doG h x o (below w) = absurd (whole-G c (p .g .core .ok) (t / 16) h (is-g .3) (is-g .2) w (p .g .core .ok .gd h ((p .de .oG h b o) .0)))
+            doG h x o (below w) = absurd (whole-G sz c (p .g .core .ok) (t / 16) h (is-g .3) (is-g .2) w (p .g .core .ok .gd h ((p .de .oG h b o) .0)))
 
         pub open-G : Open1 N W b (λ j. Under (t / 16) (j / 4))
         open-G = (t, ti, kid {i = t / 4} (omega arith), p .fr .fG t ti (omega arith) mk t ti (kid {i = t / 4} (omega arith)))

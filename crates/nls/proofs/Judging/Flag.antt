@@ -4,25 +4,25 @@ use mathlib.Core.Bool.{Bool, true, false, not, true≢false, false≢true, _||_}
 use mathlib.Core.Logic.{_⊎_, inl, inr}
 use mathlib.Core.Option.{Option, none, some}
 use mathlib.Core.List.{List, [], _∷_}
-use Prim.Native.Nat.{ℕ, zero, suc, _+_, _*_, _/_, _%_, _^_, _≤_, _<_}
+use Prim.Native.Nat.{ℕ, zero, suc, _+_, _*_, _/_, _^_, _≤_, _<_}
 use native.Mathlib.Omega.{arith}
 use native.Mathlib.Decide.{decLt, ℕ-discrete}
 use lib.ListN.{getD}
 use lib.Dec.{ltb, eqb}
 use Rattle.nls.specs.Scan.{State, Look, over, silent, asks, Question, bitOf, signOf, inDesc, inGrand, Pass, pixels, sets, refining, look, lookAt, lookPixels, lookSets, lookRefining, ask, asked, next, reach, start}
+use Rattle.nls.proofs.Judging.Apart.{whole-D}
 use Rattle.nls.proofs.Tiled.{Tiled}
 use Rattle.nls.proofs.Booleans.{neither}
 use Rattle.nls.proofs.Arrays.{Bits, told, Fit}
 use Rattle.nls.proofs.Judging.Most.{most, afterO}
 use Rattle.nls.proofs.Reading.Know.{least, know, knowO, know-sgn-has}
 use Rattle.nls.proofs.Judging.Owed.{Owed}
-use Rattle.nls.proofs.Machine.Table.{alone, stands, no-alone, no-stands, alone-no}
-use Rattle.nls.proofs.Machine.Cover.{Under, Core, is-D, mark-D}
+use Rattle.nls.proofs.Machine.Table.{alone, stands, no-stands, alone-no, alone-low}
+use Rattle.nls.proofs.Machine.Cover.{Under, Core, is-D, mark-D, Desc-at}
 use Rattle.nls.proofs.Machine.Steps.{Fam, Good, Good-at, Learned, On-ask, good-next, good-mono}
 use Rattle.nls.proofs.Judging.Clash.{root}
 use Rattle.nls.proofs.Machine.Start.{nothing, good-start}
 use Rattle.nls.proofs.Judging.Open.{All, All-at, Owing, all-next, all-run, all-start}
-use Rattle.nls.proofs.Judging.Enough.{whole-D}
 use Rattle.nls.proofs.Judging.Decide.{None}
 
 -- a 1 was read
@@ -155,15 +155,8 @@ module _ (N : ℕ) {D : ℕ} (P : ℕ) (sz : Tiled D (4 ^ N)) where
     kk : Core sz (z .1 .0) m
     kk = z .1 .1 .g .core
 
-    isd : (i % 4 ≡ 0) × (stands D I (z .1 .0) (i / 4) ≡ true) × ((z .1 .0) .sD (i / 4) ≡ false) × (D ≤ i)
+    isd : Desc-at D I (z .1 .0) i
     isd = is-D sz (z .1 .0) m kk i hi mk
-
-    low-alone : (j : ℕ) → j < D → alone D I (z .1 .0) j ≡ true
-    low-alone j h = pick (alone D I (z .1 .0) j) refl
-      where
-        pick : (x : Bool) → alone D I (z .1 .0) j ≡ x → alone D I (z .1 .0) j ≡ true
-        pick true e = e
-        pick false e = absurd (omega (arith, (no-alone D I (z .1 .0) j e) .0))
 
     -- no 1: places below D have MIP
     ones : Blank k → (j : ℕ) → j < D → getD m j 0 ≡ 1
@@ -172,8 +165,8 @@ module _ (N : ℕ) {D : ℕ} (P : ℕ) (sz : Tiled D (4 ^ N)) where
         go : Dec (getD m j 0 ≡ 2) → Dec (getD m j 0 ≡ 3) → Dec (getD m j 0 ≡ 4) → getD m j 0 ≡ 1
         go (yes e) y x = absurd (n j b (z .1 .1 .fr .m2 j (omega arith) e))
         go (no e) (yes y) x = let r : (e : ℕ) × (b < e) × (k .has j e ≡ true) = z .1 .1 .fr .m3 j (omega arith) y in absurd (n j (r .0) (r .2))
-        go (no e) (no y) (yes x) = absurd (omega (arith, isd .3, (z .1 .1 .g .four j (omega arith) (low-alone j h) (sym (kk .tab .solo j (omega arith) (low-alone j h)) ∙ x)) .0))
-        go (no e) (no y) (no x) = omega (arith, kk .tab .solo j (omega arith) (low-alone j h), kk .rng j (omega arith) (low-alone j h))
+        go (no e) (no y) (yes x) = absurd (omega (arith, isd .3, (z .1 .1 .g .four j (omega arith) (alone-low D I (z .1 .0) j h) (sym (kk .tab .solo j (omega arith) (alone-low D I (z .1 .0) j h)) ∙ x)) .0))
+        go (no e) (no y) (no x) = omega (arith, kk .tab .solo j (omega arith) (alone-low D I (z .1 .0) j h), kk .rng j (omega arith) (alone-low D I (z .1 .0) j h))
 
     -- the roots are unsplit
     unsplit : None D i m → (h : ℕ) → D ≤ 4 * h → h < D → (z .1 .0) .sD h ≡ false
@@ -190,7 +183,7 @@ module _ (N : ℕ) {D : ℕ} (P : ℕ) (sz : Tiled D (4 ^ N)) where
         go (yes y) = true≢false (sym s ∙ unsplit n h (kk .ok .lo h s) y)
         go (no y) =
             let r : (g : ℕ) × (D ≤ 4 * g) × (g < D) × Under g h = root sz h h (omega arith) (omega arith) in
-            whole-D N P sz (z .1 .0) (kk .ok) (r .0) h (r .1) (unsplit n (r .0) (r .1) (r .2)) (r .3) s
+            whole-D sz (z .1 .0) (kk .ok) (r .0) h (r .1) (unsplit n (r .0) (r .1) (r .2)) (r .3) s
 
     none-owed : None D i m → (p : Question) → Plain p → O p → ⊥
     none-owed n (signOf j) y o = y

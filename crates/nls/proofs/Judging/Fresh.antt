@@ -13,7 +13,7 @@ use Rattle.nls.proofs.Machine.Table.{Cfg, alone, stands}
 use Rattle.nls.proofs.Machine.Table
 use Rattle.nls.proofs.Machine.Split.{withD, withG, sD-off, stands-D, sD-on, alone-off, al-D-on, al-D-off, sG-D}
 use Rattle.nls.proofs.Machine.Push.{sD-G, al-G, alone-G, stands-G-off, sG-off, sG-on}
-use Rattle.nls.proofs.Machine.Cover.{Under, kid, far, Core, Preds, Pix, Sets, Fine, is-alone, is-D, is-G, mark-D, mark-G}
+use Rattle.nls.proofs.Machine.Cover.{Under, kid, far, Core, Preds, Pix, Sets, Fine, is-alone, is-D, is-G, mark-D, mark-G, Desc-at, Grand-at, Alone-at}
 use Rattle.nls.proofs.Judging.Clash.{dead-D, dead-G}
 use Rattle.nls.proofs.Judging.Apart.{apart-DD, apart-GD, apart-GG, grand-of}
 
@@ -86,14 +86,14 @@ module _ {D I : ℕ} (sz : Tiled D I) where
         c4 = λ hx e. absurd (no4 0 hx e);
       }
         where
-          isD : (x : ℕ) → x < I → getD m x 0 ≡ 5 → (x % 4 ≡ 0) × (stands D I c (x / 4) ≡ true) × (c .sD (x / 4) ≡ false) × (D ≤ x)
+          isD : (x : ℕ) → x < I → getD m x 0 ≡ 5 → Desc-at D I c x
           isD x hx e = is-D sz c m (g .core) x hx e
 
-          isG : (x : ℕ) → x < I → getD m x 0 ≡ 6 → (x ≡ 16 * (x / 16)) × (c .sD (x / 16) ≡ true) × (c .sG (x / 16) ≡ false) × (D ≤ 4 * (x / 16)) × (alone D I c x ≡ false)
+          isG : (x : ℕ) → x < I → getD m x 0 ≡ 6 → Grand-at D I c x
           isG x hx e = is-G sz c m (g .core) x hx e
 
           no4 : (j : ℕ) → j < I → getD m j 0 ≡ 4 → ⊥
-          no4 j hj e = let it : (alone D I c j ≡ true) × (c .al j ≡ getD m j 0) = is-alone sz c m (g .core) j hj (omega arith) (omega arith) in g .no4 j hj (it .0) (it .1 ∙ e)
+          no4 j hj e = let it : Alone-at D I c m j = is-alone sz c m (g .core) j hj (omega arith) (omega arith) in g .no4 j hj (it .0) (it .1 ∙ e)
 
           clash : (j : ℕ) → j < I → 1 ≤ getD m j 0 → getD m j 0 ≤ 2 → alone D I c j ≡ false → ⊥
           clash j hj a1 a2 n = true≢false (sym ((is-alone sz c m (g .core) j hj a1 (omega arith)) .0) ∙ n)
@@ -134,7 +134,7 @@ module _ {D I : ℕ} (sz : Tiled D I) where
         c4 = λ hx e. c4′ hx (sym (off (t + 1) (λ q. omega arith)) ∙ e);
       }
         where
-          it : (alone D I c t ≡ true) × (c .al t ≡ getD m t 0)
+          it : Alone-at D I c m t
           it = is-alone sz c m (g .core) t ti (omega arith) (omega arith)
 
           at : getD (set m t v) t 0 ≡ v
@@ -144,11 +144,11 @@ module _ {D I : ℕ} (sz : Tiled D I) where
           off j n = getD-set-other m t j v 0 n
 
           inD : (x : ℕ) → x < I → getD m x 0 ≡ 5 → (j : ℕ) → Under (x / 4) j → alone D I c j ≡ false
-          inD x hx e j u = let i : (x % 4 ≡ 0) × (stands D I c (x / 4) ≡ true) × (c .sD (x / 4) ≡ false) × (D ≤ x) = is-D sz c m (g .core) x hx e in
+          inD x hx e j u = let i : Desc-at D I c x = is-D sz c m (g .core) x hx e in
               dead-D sz c (g .core .ok) (x / 4) j (omega arith) (i .2) u
 
           inG : (x : ℕ) → x < I → getD m x 0 ≡ 6 → (j : ℕ) → Under (x / 16) (j / 4) → alone D I c j ≡ false
-          inG x hx e j u = let i : (x ≡ 16 * (x / 16)) × (c .sD (x / 16) ≡ true) × (c .sG (x / 16) ≡ false) × (D ≤ 4 * (x / 16)) × (alone D I c x ≡ false) = is-G sz c m (g .core) x hx e in
+          inG x hx e j u = let i : Grand-at D I c x = is-G sz c m (g .core) x hx e in
               dead-G sz c (g .core .ok) (x / 16) j (i .3) (i .2) u
 
           f4′ : (j : ℕ) → j < I → getD (set m t v) j 0 ≡ 4 → Dec (j ≡ t) → T′ b j
@@ -197,7 +197,7 @@ module _ {D I : ℕ} (sz : Tiled D I) where
         where
           no4 : (j : ℕ) → j < I → getD m j 0 ≡ 4 → ⊥
           no4 j hj e =
-              let i : (alone D I c j ≡ true) × (c .al j ≡ getD m j 0) = is-alone sz c m (g .core) j hj (omega arith) (omega arith) in
+              let i : Alone-at D I c m j = is-alone sz c m (g .core) j hj (omega arith) (omega arith) in
               let f : (t ≤ j) × (j / 4 ≡ t / 4) × (alone D I c t ≡ true) × (c .al t ≡ 4) = g .four j hj (i .0) (i .1 ∙ e) in
               n (g .core .tab .solo t ti (f .2) ∙ f .3)
 
@@ -205,10 +205,10 @@ module _ {D I : ℕ} (sz : Tiled D I) where
       frs-hush t w c m g ti p n = frs-on T t w c m g ti p n (λ x hx z e j u y. y) (λ x hx z e j u y. y)
 
       module _ (c : Cfg) (m : List ℕ) (k : Core sz c m) where
-        isD : (x : ℕ) → x < I → getD m x 0 ≡ 5 → (x % 4 ≡ 0) × (stands D I c (x / 4) ≡ true) × (c .sD (x / 4) ≡ false) × (D ≤ x)
+        isD : (x : ℕ) → x < I → getD m x 0 ≡ 5 → Desc-at D I c x
         isD x hx e = is-D sz c m k x hx e
 
-        isG : (x : ℕ) → x < I → getD m x 0 ≡ 6 → (x ≡ 16 * (x / 16)) × (c .sD (x / 16) ≡ true) × (c .sG (x / 16) ≡ false) × (D ≤ 4 * (x / 16)) × (alone D I c x ≡ false)
+        isG : (x : ℕ) → x < I → getD m x 0 ≡ 6 → Grand-at D I c x
         isG x hx e = is-G sz c m k x hx e
 
         -- marks of two standing sets
@@ -257,34 +257,34 @@ module _ {D I : ℕ} (sz : Tiled D I) where
           c′ : Cfg
           c′ = withD (t / 4) c
 
-          is : (t % 4 ≡ 0) × (stands D I c (t / 4) ≡ true) × (c .sD (t / 4) ≡ false) × (D ≤ t)
+          is : Desc-at D I c t
           is = isD c m (g .core) t ti mk
 
-          ia : (j : ℕ) → j < I → 1 ≤ getD m′ j 0 → getD m′ j 0 < 5 → (alone D I c′ j ≡ true) × (c′ .al j ≡ getD m′ j 0)
+          ia : (j : ℕ) → j < I → 1 ≤ getD m′ j 0 → getD m′ j 0 < 5 → Alone-at D I c′ m′ j
           ia j hj a1 a2 = is-alone sz c′ m′ (g′ .core) j hj a1 a2
 
           old : (j : ℕ) → j < I → (v : ℕ) → getD m′ j 0 ≡ v → 1 ≤ v → v < 5 → (v ≡ 4 → ⊥) → Dec (j / 4 ≡ t / 4) → getD m j 0 ≡ v
           old j hj v e v1 v5 n (yes q) = absurd (n (sym e ∙ sym ((ia j hj (omega arith) (omega arith)) .1) ∙ al-D-on (t / 4) c j q))
           old j hj v e v1 v5 n (no q) =
-              let i : (alone D I c′ j ≡ true) × (c′ .al j ≡ getD m′ j 0) = ia j hj (omega arith) (omega arith) in
+              let i : Alone-at D I c′ m′ j = ia j hj (omega arith) (omega arith) in
               g .core .tab .solo j hj (sym (alone-off D I (t / 4) c j q) ∙ i .0) ∙ sym (al-D-off (t / 4) c j q) ∙ i .1 ∙ e
 
           f4′ : (j : ℕ) → j < I → getD m′ j 0 ≡ 4 → Dec (j / 4 ≡ t / 4) → T b j
           f4′ j hj e (yes q) = p .fD t ti (omega arith) mk j hj (kid q)
           f4′ j hj e (no q) =
-              let i : (alone D I c′ j ≡ true) × (c′ .al j ≡ getD m′ j 0) = ia j hj (omega arith) (omega arith) in
+              let i : Alone-at D I c′ m′ j = ia j hj (omega arith) (omega arith) in
               p .f4 j hj (g .core .tab .solo j hj (sym (alone-off D I (t / 4) c j q) ∙ i .0) ∙ sym (al-D-off (t / 4) c j q) ∙ i .1 ∙ e)
 
           fD′ : (x : ℕ) → x < I → t ≤ x → getD m′ x 0 ≡ 5 → (j : ℕ) → j < I → Under (x / 4) j → Dec (x / 4 ≡ t / 4) → T b j
           fD′ x hx z e j hj u (yes q) = absurd (true≢false (sym (sD-on (t / 4) c (x / 4) q) ∙ (isD c′ m′ (g′ .core) x hx e) .2))
           fD′ x hx z e j hj u (no q) =
-              let i : (x % 4 ≡ 0) × (stands D I c′ (x / 4) ≡ true) × (c′ .sD (x / 4) ≡ false) × (D ≤ x) = isD c′ m′ (g′ .core) x hx e in
+              let i : Desc-at D I c′ x = isD c′ m′ (g′ .core) x hx e in
               p .fD x hx z (mark-D′ c m (g .core) x hx (i .0) (i .3) (sym (stands-D D I (t / 4) c (x / 4)) ∙ i .1) (sym (sD-off (t / 4) c (x / 4) q) ∙ i .2)) j hj u
 
           fG′ : (x : ℕ) → x < I → t ≤ x → getD m′ x 0 ≡ 6 → (j : ℕ) → j < I → Under (x / 16) (j / 4) → Dec (x / 16 ≡ t / 4) → T b j
           fG′ x hx z e j hj u (yes q) = p .fD t ti (omega arith) mk j hj (far (subst (λ (y : ℕ). Under y (j / 4)) q u))
           fG′ x hx z e j hj u (no q) =
-              let i : (x ≡ 16 * (x / 16)) × (c′ .sD (x / 16) ≡ true) × (c′ .sG (x / 16) ≡ false) × (D ≤ 4 * (x / 16)) × (alone D I c′ x ≡ false) = isG c′ m′ (g′ .core) x hx e in
+              let i : Grand-at D I c′ x = isG c′ m′ (g′ .core) x hx e in
               p .fG x hx z (mark-G′ c m (g .core) x hx (i .0) (i .3) (sym (sD-off (t / 4) c (x / 16) q) ∙ i .1) (sym (sG-D (t / 4) c (x / 16)) ∙ i .2)) j hj u
 
       -- GRAND is split: the four sets are open, since it was
@@ -301,27 +301,27 @@ module _ {D I : ℕ} (sz : Tiled D I) where
           c′ : Cfg
           c′ = withG (t / 16) c
 
-          is : (t ≡ 16 * (t / 16)) × (c .sD (t / 16) ≡ true) × (c .sG (t / 16) ≡ false) × (D ≤ 4 * (t / 16)) × (alone D I c t ≡ false)
+          is : Grand-at D I c t
           is = isG c m (g .core) t ti mk
 
-          ia : (j : ℕ) → j < I → 1 ≤ getD m′ j 0 → getD m′ j 0 < 5 → (alone D I c′ j ≡ true) × (c′ .al j ≡ getD m′ j 0)
+          ia : (j : ℕ) → j < I → 1 ≤ getD m′ j 0 → getD m′ j 0 < 5 → Alone-at D I c′ m′ j
           ia j hj a1 a2 = is-alone sz c′ m′ (g′ .core) j hj a1 a2
 
           old : (j : ℕ) → j < I → (v : ℕ) → getD m′ j 0 ≡ v → 1 ≤ v → v < 5 → getD m j 0 ≡ v
           old j hj v e v1 v5 =
-              let i : (alone D I c′ j ≡ true) × (c′ .al j ≡ getD m′ j 0) = ia j hj (omega arith) (omega arith) in
+              let i : Alone-at D I c′ m′ j = ia j hj (omega arith) (omega arith) in
               g .core .tab .solo j hj (sym (alone-G D I (t / 16) c j) ∙ i .0) ∙ sym (al-G (t / 16) c j) ∙ i .1 ∙ e
 
           fD′ : (x : ℕ) → x < I → t ≤ x → getD m′ x 0 ≡ 5 → (j : ℕ) → j < I → Under (x / 4) j → Dec (x / 4 / 4 ≡ t / 16) → T b j
           fD′ x hx z e j hj u (yes q) = p .fG t ti (omega arith) mk j hj (grand-of (t / 16) (x / 4) j q u)
           fD′ x hx z e j hj u (no q) =
-              let i : (x % 4 ≡ 0) × (stands D I c′ (x / 4) ≡ true) × (c′ .sD (x / 4) ≡ false) × (D ≤ x) = isD c′ m′ (g′ .core) x hx e in
+              let i : Desc-at D I c′ x = isD c′ m′ (g′ .core) x hx e in
               p .fD x hx z (mark-D′ c m (g .core) x hx (i .0) (i .3) (sym (stands-G-off D I (t / 16) c (x / 4) q) ∙ i .1) (sym (sD-G (t / 16) c (x / 4)) ∙ i .2)) j hj u
 
           fG′ : (x : ℕ) → x < I → t ≤ x → getD m′ x 0 ≡ 6 → (j : ℕ) → j < I → Under (x / 16) (j / 4) → Dec (x / 16 ≡ t / 16) → T b j
           fG′ x hx z e j hj u (yes q) = absurd (true≢false (sym (sG-on (t / 16) c (x / 16) q) ∙ (isG c′ m′ (g′ .core) x hx e) .2))
           fG′ x hx z e j hj u (no q) =
-              let i : (x ≡ 16 * (x / 16)) × (c′ .sD (x / 16) ≡ true) × (c′ .sG (x / 16) ≡ false) × (D ≤ 4 * (x / 16)) × (alone D I c′ x ≡ false) = isG c′ m′ (g′ .core) x hx e in
+              let i : Grand-at D I c′ x = isG c′ m′ (g′ .core) x hx e in
               p .fG x hx z (mark-G′ c m (g .core) x hx (i .0) (i .3) (sym (sD-G (t / 16) c (x / 16)) ∙ i .1) (sym (sG-off (t / 16) c (x / 16) q) ∙ i .2)) j hj u
 
       -- the next plane: nothing is settled in it, and no MNP is left
@@ -334,5 +334,5 @@ module _ {D I : ℕ} (sz : Tiled D I) where
         where
           none : (j : ℕ) → j < I → getD m j 0 ≡ 2 → ⊥
           none j hj e =
-              let i : (alone D I c j ≡ true) × (c .al j ≡ getD m j 0) = is-alone sz c m (g .core) j hj (omega arith) (omega arith) in
+              let i : Alone-at D I c m j = is-alone sz c m (g .core) j hj (omega arith) (omega arith) in
               omega (arith, g .two j hj (i .0) (i .1 ∙ e))

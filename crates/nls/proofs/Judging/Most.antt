@@ -32,6 +32,12 @@ stays true true v h e = absurd (h refl refl)
 stays true false v h e = e
 stays false y v h e = e
 
+-- and one that is goes
+pub gone : (x y z : Bool) → x ≡ true → y ≡ true → (not (x && y) && z) ≡ true → ⊥
+gone true true z hx hy h = false≢true h
+gone true false z hx hy h = false≢true hy
+gone false y z hx hy h = false≢true hx
+
 module _ (N : ℕ) where
   abbrev pub afterO : Option Question → Bool → Bits → Bits
   afterO none a w = w
@@ -73,12 +79,12 @@ module _ (N : ℕ) where
       → any (4 ^ N) (λ k. (ltb k (4 ^ N) && s k) && w .has k b) ≡ false
   set-gone s w v b l = not-true-false _ λ e.
       let r : (j : ℕ) × (j < 4 ^ N) × (((ltb j (4 ^ N) && s j) && w .has j b) ≡ true) = any-find (4 ^ N) (λ k. (ltb k (4 ^ N) && s k) && w .has k b) e in
-      gone (ltb (r .0) (4 ^ N) && s (r .0)) (eqb b b) (w .has (r .0) b) (v .has (r .0) b) (eq-eqb b b refl) (r .2) (l (r .0) b)
+      none-left (ltb (r .0) (4 ^ N) && s (r .0)) (eqb b b) (w .has (r .0) b) (v .has (r .0) b) (eq-eqb b b refl) (r .2) (l (r .0) b)
     where
-      gone : (x y u z : Bool) → y ≡ true → (x && u) ≡ true → (u ≡ true → (not (x && y) && z) ≡ true) → ⊥
-      gone true true u z hy h k = false≢true (k h)
-      gone true false u z hy h k = false≢true hy
-      gone false y u z hy h k = false≢true h
+      none-left : (x y u z : Bool) → y ≡ true → (x && u) ≡ true → (u ≡ true → (not (x && y) && z) ≡ true) → ⊥
+      none-left true true u z hy h k = false≢true (k h)
+      none-left true false u z hy h k = false≢true hy
+      none-left false y u z hy h k = false≢true h
 
   -- The answer of w is a, where w lies below what a leaves and above an array that answers a, with that array's sign
   answers : (A w v : Bits) (q : Question) (a : Bool) → ans N A q ≡ a → A ⊑ w → w ⊑ after N q a v → ((i : ℕ) → (after N q a v) .neg i ≡ A .neg i → w .neg i ≡ A .neg i)
@@ -86,11 +92,6 @@ module _ (N : ℕ) where
   unfolding after clear sign _⊑_ ans inside
   answers A w v (bitOf i b) true e l k n = l i b e
   answers A w v (bitOf i b) false e l k n = not-true-false (w .has i b) λ h. gone (eqb i i) (eqb b b) (v .has i b) (eq-eqb i i refl) (eq-eqb b b refl) (k i b h)
-    where
-      gone : (x y z : Bool) → x ≡ true → y ≡ true → (not (x && y) && z) ≡ true → ⊥
-      gone true true z hx hy h = false≢true h
-      gone true false z hx hy h = false≢true hy
-      gone false y z hx hy h = false≢true hx
   answers A w v (signOf i) true e l k n = n i (sign-self i _ v ∙ sym e) ∙ e
   answers A w v (signOf i) false e l k n = n i (sign-self i _ v ∙ sym e) ∙ e
   answers A w v (inDesc g b) true e l k n = any-mono (4 ^ N) (λ j. ltb j (4 ^ N) && below N g j) (λ j. A .has j b) (λ j. w .has j b) (λ j h. l j b h) e

@@ -4,7 +4,7 @@ use mathlib.Core.Bool.{Bool, true, false, _&&_, _||_, true≢false, false≢true
 use mathlib.Core.Logic.{_⊎_, inl, inr}
 use mathlib.Core.Option.{some}
 use mathlib.Core.List.{List, [], _∷_}
-use Prim.Native.Nat.{ℕ, zero, suc, _+_, _*_, _/_, _%_, _^_, _≤_, _<_}
+use Prim.Native.Nat.{ℕ, zero, suc, _+_, _*_, _/_, _^_, _≤_, _<_}
 use native.Mathlib.Omega.{arith}
 use native.Mathlib.Decide.{ℕ-discrete}
 use lib.ListN.{getD, set}
@@ -15,10 +15,10 @@ use Rattle.nls.specs.Marks.{skip, setSkip, splitDesc, splitGrand, startM
 use Rattle.nls.specs.Scan.{State, Look, over, silent, asks, Question, bitOf, signOf, inDesc, inGrand, Pass, pixels, sets, refining, at, look, lookAt, lookPixels, lookSets, lookRefining, tell, tellAt, tellSets, silently, settle, movesLeft, ask, asked, next, reach, start}
 use Rattle.nls.proofs.Tiled.{Tiled}
 use Rattle.nls.proofs.Arrays.{Bits, ans, inside, below, _⊑_, told, sign, Fit}
-use Rattle.nls.proofs.Machine.Table.{Cfg, alone, stands, alone-no}
+use Rattle.nls.proofs.Machine.Table.{Cfg, alone, alone-no}
 use Rattle.nls.proofs.Machine.Split.{withD, withG, withA, same-D, same-G, al-at, al-else, al-D-on, al-D-off, sD-off}
 use Rattle.nls.proofs.Machine.Push.{al-G, sD-G}
-use Rattle.nls.proofs.Machine.Cover.{Under, Preds, hide, is-alone, Pix, Sets, Fine, pix-hush, pix-zero, pix-one, pix-end, sets-hush, sets-D0, sets-D1, sets-G0, sets-G1, sets-C, sets-end, fine-hush, fine-ask, fine-np, fine-end, is-D, is-G, More}
+use Rattle.nls.proofs.Machine.Cover.{Under, Preds, hide, is-alone, Pix, Sets, Fine, pix-hush, pix-zero, pix-one, pix-end, sets-hush, sets-D0, sets-D1, sets-G0, sets-G1, sets-C, sets-end, fine-hush, fine-ask, fine-np, fine-end, is-D, is-G, More, Desc-at, Grand-at, Alone-at}
 use Rattle.nls.proofs.Machine.Steps.{Fam, preds, From, more-Z, pix-Z, sets-Z, fine-Z}
 use Rattle.nls.proofs.Judging.Most.{afterO, after, clear, stays, most}
 use Rattle.nls.proofs.Reading.Know.{know, knowO, know-grows, know-one, know-sgn-has, know-neg, add, least}
@@ -261,7 +261,7 @@ module _ (N : ℕ) {D : ℕ} (P : ℕ) (sz : Tiled D (4 ^ N)) (W : Bits) (vv : B
         mk : getD m i 0 ≡ 2
         mk = eqb-true _ _ en
 
-        it : (alone D I c i ≡ true) × (c .al i ≡ getD m i 0)
+        it : Alone-at D I c m i
         it = is-alone sz c m (p .g .core) i hi (omega (arith, mk)) (omega (arith, mk))
 
         al′ : (j : ℕ) → (withA i 3 c) .al j ≡ 3 → (c .al j ≡ 3 → j < i) → Dec (j ≡ i) → j < i + 1
@@ -405,7 +405,7 @@ module _ (N : ℕ) {D : ℕ} (P : ℕ) (sz : Tiled D (4 ^ N)) (W : Bits) (vv : B
         mk : getD m i 0 ≡ 1
         mk = eqb-true _ _ ey
 
-        it : (alone D I c i ≡ true) × (c .al i ≡ getD m i 0)
+        it : Alone-at D I c m i
         it = is-alone sz c m (p .g .core) i hi (omega (arith, mk)) (omega (arith, mk))
 
         l : Known W (know (bitOf i b) true k) b i × ((j : ℕ) → Zof (know (bitOf i b) true k) j → (j ≡ i → ⊥) → Zof k j)
@@ -438,7 +438,7 @@ module _ (N : ℕ) {D : ℕ} (P : ℕ) (sz : Tiled D (4 ^ N)) (W : Bits) (vv : B
         mk : getD m i 0 ≡ 1
         mk = eqb-true _ _ ey
 
-        it : (alone D I c i ≡ true) × (c .al i ≡ getD m i 0)
+        it : Alone-at D I c m i
         it = is-alone sz c m (p .g .core) i hi (omega (arith, mk)) (omega (arith, mk))
 
         l : Known W (know (bitOf i b) false k) b i × ((j : ℕ) → Zof (know (bitOf i b) false k) j → Zof k j)
@@ -469,7 +469,7 @@ module _ (N : ℕ) {D : ℕ} (P : ℕ) (sz : Tiled D (4 ^ N)) (W : Bits) (vv : B
         p : InPix (hide i (preds (G k) b)) k w O b i c m
         p = z .1 .1
 
-        it : (alone D I c i ≡ true) × (c .al i ≡ getD m i 0)
+        it : Alone-at D I c m i
         it = is-alone sz c m (p .g .core) i (z .2) (omega (arith, z .3)) (omega (arith, z .3))
 
         l : ((know (signOf i) a k) .neg i ≡ W .neg i) × ((j : ℕ) → Zof (know (signOf i) a k) j → Zof k j)
@@ -481,10 +481,10 @@ module _ (N : ℕ) {D : ℕ} (P : ℕ) (sz : Tiled D (4 ^ N)) (W : Bits) (vv : B
 
     -- nothing inside a set that stands is known, in the set pass
     module _ (b i : ℕ) (m : List ℕ) (c : Cfg) (p : InSets (preds (G k) b) k w O b i c m) (hi : i < I) where
-      atD : getD m i 0 ≡ 5 → (i % 4 ≡ 0) × (stands D I c (i / 4) ≡ true) × (c .sD (i / 4) ≡ false) × (D ≤ i)
+      atD : getD m i 0 ≡ 5 → Desc-at D I c i
       atD mk = is-D sz c m (p .g .core) i hi mk
 
-      atG : getD m i 0 ≡ 6 → (i ≡ 16 * (i / 16)) × (c .sD (i / 16) ≡ true) × (c .sG (i / 16) ≡ false) × (D ≤ 4 * (i / 16)) × (alone D I c i ≡ false)
+      atG : getD m i 0 ≡ 6 → Grand-at D I c i
       atG mk = is-G sz c m (p .g .core) i hi mk
 
       inD : getD m i 0 ≡ 5 → (j : ℕ) → Under (i / 4) j → alone D I c j ≡ false
@@ -631,7 +631,7 @@ module _ (N : ℕ) {D : ℕ} (P : ℕ) (sz : Tiled D (4 ^ N)) (W : Bits) (vv : B
         p : InSets (preds (G k) b) k w O b i c m
         p = z .1 .1
 
-        it : (alone D I c i ≡ true) × (c .al i ≡ getD m i 0)
+        it : Alone-at D I c m i
         it = is-alone sz c m (p .g .core) i hi (omega (arith, mk)) (omega (arith, mk))
 
         l : Known W (know (bitOf i b) true k) b i × ((j : ℕ) → Zof (know (bitOf i b) true k) j → (j ≡ i → ⊥) → Zof k j)
@@ -663,7 +663,7 @@ module _ (N : ℕ) {D : ℕ} (P : ℕ) (sz : Tiled D (4 ^ N)) (W : Bits) (vv : B
         p : InSets (preds (G k) b) k w O b i c m
         p = z .1 .1
 
-        it : (alone D I c i ≡ true) × (c .al i ≡ getD m i 0)
+        it : Alone-at D I c m i
         it = is-alone sz c m (p .g .core) i hi (omega (arith, mk)) (omega (arith, mk))
 
         al′ : (j : ℕ) → (withA i 1 c) .al j ≡ 3 → (c .al j ≡ 3 → j < 0) → Dec (j ≡ i) → j < 0
@@ -693,7 +693,7 @@ module _ (N : ℕ) {D : ℕ} (P : ℕ) (sz : Tiled D (4 ^ N)) (W : Bits) (vv : B
         p : InSets (hide i (preds (G k) b)) k w O b i c m
         p = z .1 .1
 
-        it : (alone D I c i ≡ true) × (c .al i ≡ getD m i 0)
+        it : Alone-at D I c m i
         it = is-alone sz c m (p .g .core) i (z .2) (omega (arith, z .3)) (omega (arith, z .3))
 
         l : ((know (signOf i) a k) .neg i ≡ W .neg i) × ((j : ℕ) → Zof (know (signOf i) a k) j → Zof k j)
@@ -738,7 +738,7 @@ module _ (N : ℕ) {D : ℕ} (P : ℕ) (sz : Tiled D (4 ^ N)) (W : Bits) (vv : B
         p : InFine (preds (G k) b) k w O b i c m
         p = z .1 .1
 
-        it : (alone D I c i ≡ true) × (c .al i ≡ getD m i 0)
+        it : Alone-at D I c m i
         it = is-alone sz c m (p .g .core) i hi (omega (arith, mk)) (omega (arith, mk))
 
         l : Known W (know (bitOf i b) true k) b i × ((j : ℕ) → Zof (know (bitOf i b) true k) j → (j ≡ i → ⊥) → Zof k j)

@@ -4,7 +4,7 @@ use mathlib.Core.Bool.{Bool, true, false, not, _&&_, true≢false, false≢true}
 use mathlib.Core.Logic.{_⊎_, inl, inr}
 use mathlib.Core.Option.{none, some}
 use mathlib.Core.List.{List, [], _∷_, _++_}
-use Prim.Native.Nat.{ℕ, zero, suc, _*_, _/_, _%_, _^_, _≤_, _<_}
+use Prim.Native.Nat.{ℕ, zero, suc, _/_, _^_, _≤_, _<_}
 use native.Mathlib.Omega.{arith}
 use native.Mathlib.Decide.{ℕ-discrete}
 use lib.ListN.{getD}
@@ -16,11 +16,10 @@ use Rattle.nls.proofs.Tiled.{Tiled}
 use Rattle.nls.proofs.Booleans.{not-true-false}
 use Rattle.nls.proofs.Arrays.{Bits, inside, ans, below, _⊑_, told, any-find, any-some, Fit}
 use Rattle.nls.proofs.Machine.Run.{fit-append}
-use Rattle.nls.proofs.Judging.Most.{most, most-fits, most-keeps, most-below, clear}
+use Rattle.nls.proofs.Judging.Most.{most, most-fits, most-keeps, most-below, clear, gone}
 use Rattle.nls.proofs.Reading.Know.{least, least-below}
 use Rattle.nls.proofs.Judging.Owed.{Owed, owed-true, change}
-use Rattle.nls.proofs.Machine.Cover.{Under, is-alone, is-D, is-G}
-use Rattle.nls.proofs.Machine.Table.{alone, stands}
+use Rattle.nls.proofs.Machine.Cover.{Under, is-alone, is-D, is-G, Desc-at, Grand-at, Alone-at}
 use Rattle.nls.proofs.Reading.Told.{under-below, below-under}
 use Rattle.nls.proofs.Judging.Clash.{Valid, Clash}
 use Rattle.nls.proofs.Machine.Start.{nothing}
@@ -30,12 +29,7 @@ use Rattle.nls.proofs.Judging.Enough.{Enough, Open1, enough-pix, open-p
 module _ (N : ℕ) where
   clear-in : (q : Question) (b : ℕ) (W : Bits) (j : ℕ) → inside N q j ≡ true → (clear N q b W) .has j b ≡ true → ⊥
   unfolding clear
-  clear-in q b W j i h = go (inside N q j) (eqb b b) (W .has j b) i (eq-eqb b b refl) h
-    where
-      go : (x y z : Bool) → x ≡ true → y ≡ true → (not (x && y) && z) ≡ true → ⊥
-      go true true z hx hy r = false≢true r
-      go true false z hx hy r = false≢true hy
-      go false y z hx hy r = false≢true hx
+  clear-in q b W j i h = gone (inside N q j) (eqb b b) (W .has j b) i (eq-eqb b b refl) h
 
   clear-below : (q : Question) (b : ℕ) (W : Bits) (j e : ℕ) → (clear N q b W) .has j e ≡ true → W .has j e ≡ true
   unfolding clear
@@ -232,11 +226,11 @@ module _ (N : ℕ) {D : ℕ} (P : ℕ) (sz : Tiled D (4 ^ N)) where
     yes-sets b i m true false false false ex ed eg ec z = tt
     yes-sets b i m true true g c ex ed eg ec z =
         let r : Open1 N W b (λ j. Under (i / 4) j) = open-D N P sz W k vv O k⊑W cap b i m (z .1 .0) (ltb-true i I ex) (z .0) (z .1 .1) (eqb-true _ _ ed) in
-        let is : (i % 4 ≡ 0) × (stands D I (z .1 .0) (i / 4) ≡ true) × ((z .1 .0) .sD (i / 4) ≡ false) × (D ≤ i) = is-D sz (z .1 .0) m (z .1 .1 .g .core) i (ltb-true i I ex) (eqb-true _ _ ed) in
+        let is : Desc-at D I (z .1 .0) i = is-D sz (z .1 .0) m (z .1 .1 .g .core) i (ltb-true i I ex) (eqb-true _ _ ed) in
         yes-desc N W (i / 4) b (r .0) (r .1) (in-desc N (i / 4) b (r .0) (omega (arith, is .3)) (r .1) (r .2)) (r .3)
     yes-sets b i m true false true c ex ed eg ec z =
         let r : Open1 N W b (λ j. Under (i / 16) (j / 4)) = open-G N P sz W k vv O k⊑W cap b i m (z .1 .0) (ltb-true i I ex) (z .0) (z .1 .1) (eqb-true _ _ eg) in
-        let is : (i ≡ 16 * (i / 16)) × ((z .1 .0) .sD (i / 16) ≡ true) × ((z .1 .0) .sG (i / 16) ≡ false) × (D ≤ 4 * (i / 16)) × (alone D I (z .1 .0) i ≡ false) = is-G sz (z .1 .0) m (z .1 .1 .g .core) i (ltb-true i I ex) (eqb-true _ _ eg) in
+        let is : Grand-at D I (z .1 .0) i = is-G sz (z .1 .0) m (z .1 .1 .g .core) i (ltb-true i I ex) (eqb-true _ _ eg) in
         yes-grand N W (i / 16) b (r .0) (r .1) (in-grand N (i / 16) b (r .0) (omega (arith, is .3)) (r .1) (r .2)) (r .3)
     yes-sets b i m true false false true ex ed eg ec z =
         let r : Open1 N W b (λ j. j ≡ i) = open-C N P sz W k vv O k⊑W cap b i m (z .1 .0) (ltb-true i I ex) (z .0) (z .1 .1) (eqb-true _ _ ec) in
@@ -254,12 +248,12 @@ module _ (N : ℕ) {D : ℕ} (P : ℕ) (sz : Tiled D (4 ^ N)) where
 
     sign-pix : (b i : ℕ) (m : List ℕ) → Here (suc b) pixels i true m → W .neg i ≡ vv
     sign-pix b i m z =
-        let it : (alone D I (z .1 .0) i ≡ true) × ((z .1 .0) .al i ≡ getD m i 0) = is-alone sz (z .1 .0) m (z .1 .1 .g .core) i (z .2) (omega (arith, z .3)) (omega (arith, z .3)) in
+        let it : Alone-at D I (z .1 .0) m i = is-alone sz (z .1 .0) m (z .1 .1 .g .core) i (z .2) (omega (arith, z .3)) (omega (arith, z .3)) in
         z .1 .1 .ho .ng i (λ a l u. omega (arith, it .1, z .3))
 
     sign-sets : (b i : ℕ) (m : List ℕ) → Here (suc b) sets i true m → W .neg i ≡ vv
     sign-sets b i m z =
-        let it : (alone D I (z .1 .0) i ≡ true) × ((z .1 .0) .al i ≡ getD m i 0) = is-alone sz (z .1 .0) m (z .1 .1 .g .core) i (z .2) (omega (arith, z .3)) (omega (arith, z .3)) in
+        let it : Alone-at D I (z .1 .0) m i = is-alone sz (z .1 .0) m (z .1 .1 .g .core) i (z .2) (omega (arith, z .3)) (omega (arith, z .3)) in
         z .1 .1 .ho .ng i (λ a l u. omega (arith, it .1, z .3))
 
     can-look : (l : ℕ) (p : Pass) (i : ℕ) (s : Bool) (m : List ℕ) → Here l p i s m → (Clash-at l p i s m → ⊥) → CanL (lookAt I l p i s m)

@@ -1,6 +1,6 @@
 -- Refusal 12, the other half, place by place: where there is no clash, the set around the question has a member elsewhere.
 use mathlib.Core.Path.{_≡_, refl, sym, ap, subst, _∙_}
-use mathlib.Core.Bool.{Bool, true, false, _||_, true≢false}
+use mathlib.Core.Bool.{Bool, true, false, _||_}
 use mathlib.Core.Logic.{_⊎_, inl, inr}
 use mathlib.Core.List.{List}
 use Prim.Native.Nat.{ℕ, zero, suc, _+_, _*_, _/_, _%_, _^_, _≤_, _<_}
@@ -12,8 +12,8 @@ use borrow.Author.Tests.{ltb-true, ltb-false, eqb-true, eqb-false}
 use Rattle.nls.proofs.Tiled.{Tiled}
 use Rattle.nls.proofs.Booleans.{neither}
 use Rattle.nls.proofs.Arrays.{Bits}
-use Rattle.nls.proofs.Machine.Table.{Cfg, alone, stands, alone-no, no-alone, stands-no, no-stands}
-use Rattle.nls.proofs.Machine.Cover.{Under, kid, far, Core, Sets, is-alone, is-D, is-G, mark-D, mark-G}
+use Rattle.nls.proofs.Machine.Table.{Cfg, alone, stands, alone-yes, alone-low, alone-kid, stands-yes, stands-low, stands-kid}
+use Rattle.nls.proofs.Machine.Cover.{Under, kid, far, Core, Sets, is-alone, is-D, is-G, mark-D, mark-G, Desc-at, Grand-at, Alone-at}
 use Rattle.nls.proofs.Machine.Steps.{preds, From}
 use Rattle.nls.proofs.Reading.Told.{fam, Known, under-ge}
 use Rattle.nls.proofs.Judging.Apart.{Cmp, same, over, below, cmp}
@@ -53,7 +53,7 @@ module _ {D I : ℕ} (sz : Tiled D I) where
           two : (j : ℕ) → j < t → (1 ≤ getD m j 0) × (getD m j 0 ≤ 2) → (c .al j ≡ 1) ⊎ (c .al j ≡ 2)
           two j l q = pick (ℕ-discrete (getD m j 0) 1) (is-alone sz c m kk j (omega arith) (q .0) (omega (arith, q .1)))
             where
-              pick : Dec (getD m j 0 ≡ 1) → (alone D I c j ≡ true) × (c .al j ≡ getD m j 0) → (c .al j ≡ 1) ⊎ (c .al j ≡ 2)
+              pick : Dec (getD m j 0 ≡ 1) → Alone-at D I c m j → (c .al j ≡ 1) ⊎ (c .al j ≡ 2)
               pick (yes z) it = inl (it .1 ∙ z)
               pick (no z) it = inr (omega (arith, it .1, q .0, q .1))
 
@@ -72,25 +72,17 @@ module _ (N : ℕ) {D : ℕ} (P : ℕ) (sz : Tiled D (4 ^ N)) where
     pub room-child : getD m t 0 ≡ 4 → (Clash D I P b t m → ⊥) → Spare sz W k b (λ j. Under (t / 4) j × (j ≡ t → ⊥))
     room-child mk n = go (ℕ-discrete (t % 4) 3) (decLt (16 * (t / 4)) I)
       where
-        it : (alone D I c t ≡ true) × (c .al t ≡ getD m t 0)
+        it : Alone-at D I c m t
         it = is-alone sz c m kk t ti (omega arith) (omega arith)
 
         c4 : (D ≤ t) × (16 * (t / 4) < I → c .sG (t / 4) ≡ false) × ((j : ℕ) → j / 4 ≡ t / 4 → j < t → (c .al j ≡ 1) ⊎ (c .al j ≡ 2))
         c4 = f .c4 (it .0) (it .1 ∙ mk)
 
         sd : c .sD (t / 4) ≡ true
-        sd = pick (c .sD (t / 4)) refl
-          where
-            pick : (x : Bool) → c .sD (t / 4) ≡ x → c .sD (t / 4) ≡ true
-            pick true e = e
-            pick false e = absurd (true≢false (sym (it .0) ∙ alone-no D I c t (c4 .0) e))
+        sd = alone-yes D I c t (c4 .0) (it .0)
 
         sib : (j : ℕ) → j / 4 ≡ t / 4 → alone D I c j ≡ true
-        sib j e = pick (alone D I c j) refl
-          where
-            pick : (x : Bool) → alone D I c j ≡ x → alone D I c j ≡ true
-            pick true z = z
-            pick false z = absurd (true≢false (sym (subst (λ (x : ℕ). c .sD x ≡ true) (sym e) sd) ∙ (no-alone D I c j z) .1))
+        sib j e = alone-kid D I c j (subst (λ (x : ℕ). c .sD x ≡ true) (sym e) sd)
 
         -- look at the three before t
         three : (r : ℕ) → r ≤ 3 → ((j : ℕ) → j / 4 ≡ t / 4 → j < 4 * (t / 4) + r → getD m j 0 ≡ 1) ⊎ ((j : ℕ) × (j / 4 ≡ t / 4) × (j < 4 * (t / 4) + r) × (getD m j 0 ≡ 1 → ⊥))
@@ -128,7 +120,7 @@ module _ (N : ℕ) {D : ℕ} (P : ℕ) (sz : Tiled D (4 ^ N)) where
     pub room-desc : getD m t 0 ≡ 5 → 4 * D ≤ t → (Clash D I P b t m → ⊥) → Spare sz W k b (λ j. (h : ℕ) × (h / 4 ≡ t / 4 / 4) × (h ≡ t / 4 → ⊥) × Under h j)
     room-desc mk big n = go (ℕ-discrete (t / 4 % 4) 3)
       where
-        is : (t % 4 ≡ 0) × (stands D I c (t / 4) ≡ true) × (c .sD (t / 4) ≡ false) × (D ≤ t)
+        is : Desc-at D I c t
         is = is-D sz c m kk t ti mk
 
         split : (h : ℕ) → h / 4 ≡ t / 4 / 4 → (h ≡ t / 4 → ⊥) → c .sD h ≡ true → Spare sz W k b (λ j. (h : ℕ) × (h / 4 ≡ t / 4 / 4) × (h ≡ t / 4 → ⊥) × Under h j)
@@ -141,11 +133,7 @@ module _ (N : ℕ) {D : ℕ} (P : ℕ) (sz : Tiled D (4 ^ N)) where
             at j x hj u le w (no q) = past j x hj (h, e, ne, u) (omega arith) (above x (omega arith) (cap j x w) j hj w)
 
         sg : (h : ℕ) → h / 4 ≡ t / 4 / 4 → stands D I c h ≡ true
-        sg h e = pick (stands D I c h) refl
-          where
-            pick : (x : Bool) → stands D I c h ≡ x → stands D I c h ≡ true
-            pick true z = z
-            pick false z = absurd (true≢false (sym (is .1) ∙ stands-no D I c (t / 4) (omega arith) (subst (λ (x : ℕ). c .sG x ≡ false) e ((no-stands D I c h z) .1))))
+        sg h e = stands-kid D I c h (subst (λ (x : ℕ). c .sG x ≡ true) (sym e) (stands-yes D I c (t / 4) (omega arith) (is .1)))
 
         later : (t / 4 % 4 ≡ 3 → ⊥) → (x : Bool) → c .sD (t / 4 + 1) ≡ x → Spare sz W k b (λ j. (h : ℕ) × (h / 4 ≡ t / 4 / 4) × (h ≡ t / 4 → ⊥) × Under h j)
         later z true e = split (t / 4 + 1) (omega arith) (λ q. omega arith) e
@@ -183,15 +171,11 @@ module _ (N : ℕ) {D : ℕ} (P : ℕ) (sz : Tiled D (4 ^ N)) where
     pub room-grand : getD m t 0 ≡ 6 → (Clash D I P b t m → ⊥) → Spare sz W k b (λ j. j / 4 ≡ t / 16)
     room-grand mk n = found (four 4 (lit≤ tt))
       where
-        is : (t ≡ 16 * (t / 16)) × (c .sD (t / 16) ≡ true) × (c .sG (t / 16) ≡ false) × (D ≤ 4 * (t / 16)) × (alone D I c t ≡ false)
+        is : Grand-at D I c t
         is = is-G sz c m kk t ti mk
 
         kid-alone : (j : ℕ) → j / 4 ≡ t / 16 → alone D I c j ≡ true
-        kid-alone j e = pick (alone D I c j) refl
-          where
-            pick : (x : Bool) → alone D I c j ≡ x → alone D I c j ≡ true
-            pick true z = z
-            pick false z = absurd (true≢false (sym (subst (λ (x : ℕ). c .sD x ≡ true) (sym e) (is .1)) ∙ (no-alone D I c j z) .1))
+        kid-alone j e = alone-kid D I c j (subst (λ (x : ℕ). c .sD x ≡ true) (sym e) (is .1))
 
         four : (r : ℕ) → r ≤ 4 → ((j : ℕ) → j / 4 ≡ t / 16 → j < 4 * (t / 16) + r → getD m j 0 ≡ 1) ⊎ ((j : ℕ) × (j / 4 ≡ t / 16) × (getD m j 0 ≡ 1 → ⊥))
         four zero h = inl (λ j e z. absurd (omega arith))
@@ -232,15 +216,8 @@ module _ (N : ℕ) {D : ℕ} (P : ℕ) (sz : Tiled D (4 ^ N)) where
     pub room-root : getD m t 0 ≡ 5 → t < 4 * D → suc b ≡ P → (Clash D I P b t m → ⊥) → (j : ℕ) × (j < I) × (W .has j b ≡ true) × (Under (t / 4) j → ⊥)
     room-root mk tD bP n = go (ℕ-discrete (t + 4) (4 * D))
       where
-        is : (t % 4 ≡ 0) × (stands D I c (t / 4) ≡ true) × (c .sD (t / 4) ≡ false) × (D ≤ t)
+        is : Desc-at D I c t
         is = is-D sz c m kk t ti mk
-
-        st : (h : ℕ) → h < D → stands D I c h ≡ true
-        st h e = pick (stands D I c h) refl
-          where
-            pick : (x : Bool) → stands D I c h ≡ x → stands D I c h ≡ true
-            pick true z = z
-            pick false z = absurd (omega (arith, (no-stands D I c h z) .0))
 
         top : (j e : ℕ) → b ≤ e → W .has j e ≡ true → W .has j b ≡ true
         top j e h w = subst (λ (x : ℕ). W .has j x ≡ true) {x = e} {y = b} (omega (arith, cap j e w)) w
@@ -267,21 +244,14 @@ module _ (N : ℕ) {D : ℕ} (P : ℕ) (sz : Tiled D (4 ^ N)) where
         or-yes true y e h = refl
         or-yes false y e h = absurd (h e)
 
-        al-D : (j : ℕ) → j < D → alone D I c j ≡ true
-        al-D j h = pick (alone D I c j) refl
-          where
-            pick : (x : Bool) → alone D I c j ≡ x → alone D I c j ≡ true
-            pick true z = z
-            pick false z = absurd (omega (arith, (no-alone D I c j z) .0))
-
         low-one : (j : ℕ) → j < D → (getD m j 0 ≡ 1 → ⊥) → Dec (c .al j ≡ 2) → Dec (c .al j ≡ 3) → (j : ℕ) × (j < I) × (W .has j b ≡ true) × (Under (t / 4) j → ⊥)
-        low-one j h z (yes a) y = (j, omega arith, k⊑W j b (f .m2 j (omega arith) (al-D j h) a), λ u. omega (arith, under-ge (t / 4) j u, is .0, is .3))
-        low-one j h z (no a) (yes y) = let r : (x : ℕ) × (b < x) × (k .has j x ≡ true) = f .m3 j (omega arith) (al-D j h) y in absurd (omega (arith, r .1, cap j (r .0) (k⊑W j (r .0) (r .2))))
+        low-one j h z (yes a) y = (j, omega arith, k⊑W j b (f .m2 j (omega arith) (alone-low D I c j h) a), λ u. omega (arith, under-ge (t / 4) j u, is .0, is .3))
+        low-one j h z (no a) (yes y) = let r : (x : ℕ) × (b < x) × (k .has j x ≡ true) = f .m3 j (omega arith) (alone-low D I c j h) y in absurd (omega (arith, r .1, cap j (r .0) (k⊑W j (r .0) (r .2))))
         low-one j h z (no a) (no y) = absurd (last4 (ℕ-discrete (c .al j) 4))
           where
             last4 : Dec (c .al j ≡ 4) → ⊥
-            last4 (yes x) = omega (arith, p .four j (omega arith) (al-D j h) x, is .3)
-            last4 (no x) = z (omega (arith, kk .tab .solo j (omega arith) (al-D j h), kk .rng j (omega arith) (al-D j h)))
+            last4 (yes x) = omega (arith, p .four j (omega arith) (alone-low D I c j h) x, is .3)
+            last4 (no x) = z (omega (arith, kk .tab .solo j (omega arith) (alone-low D I c j h), kk .rng j (omega arith) (alone-low D I c j h)))
 
         last : t + 4 ≡ 4 * D → ((j : ℕ) → j < D → eqb (getD m j 0) 1 ≡ true) ⊎ ((j : ℕ) × (j < D) × (eqb (getD m j 0) 1 ≡ false))
             → ((h : ℕ) → h < t / 4 → (eqb (getD m (4 * h) 0) 5 || ltb (4 * h) D) ≡ true) ⊎ ((h : ℕ) × (h < t / 4) × ((eqb (getD m (4 * h) 0) 5 || ltb (4 * h) D) ≡ false))
@@ -292,14 +262,14 @@ module _ (N : ℕ) {D : ℕ} (P : ℕ) (sz : Tiled D (4 ^ N)) where
           where
             bad : (h : ℕ) → h < t / 4 → (eqb (getD m (4 * h) 0) 5 ≡ false) × (ltb (4 * h) D ≡ false) → (x : Bool) → c .sD h ≡ x → (j : ℕ) × (j < I) × (W .has j b ≡ true) × (Under (t / 4) j → ⊥)
             bad h ht q true s = split h (ltb-false (4 * h) D (q .1)) (omega arith) (λ z. omega arith) s
-            bad h ht q false s = absurd (eqb-false _ _ (q .0) (mark-D sz c m kk h (ltb-false (4 * h) D (q .1)) (omega arith) (st h (omega arith)) s))
+            bad h ht q false s = absurd (eqb-false _ _ (q .0) (mark-D sz c m kk h (ltb-false (4 * h) D (q .1)) (omega arith) (stands-low D I c h (omega arith)) s))
 
         later : (t + 4 ≡ 4 * D → ⊥) → (x : Bool) → c .sD (t / 4 + 1) ≡ x → (j : ℕ) × (j < I) × (W .has j b ≡ true) × (Under (t / 4) j → ⊥)
         later z true s = split (t / 4 + 1) (omega (arith, is .3)) (omega (arith, is .0)) (λ q. omega arith) s
         later z false s = (
           4 * (t / 4 + 1),
           omega (arith, is .0),
-          f .fD (t / 4 + 1) (omega (arith, is .3)) (omega (arith, is .0)) (omega arith) (st (t / 4 + 1) (omega (arith, is .0))) s (4 * (t / 4 + 1)) (omega (arith, is .0)) (kid {i = 4 * (t / 4 + 1)} (omega arith)),
+          f .fD (t / 4 + 1) (omega (arith, is .3)) (omega (arith, is .0)) (omega arith) (stands-low D I c (t / 4 + 1) (omega (arith, is .0))) s (4 * (t / 4 + 1)) (omega (arith, is .0)) (kid {i = 4 * (t / 4 + 1)} (omega arith)),
           λ u. root-apart (t / 4) (t / 4 + 1) (4 * (t / 4 + 1)) (omega (arith, is .0, is .3)) (omega arith) (omega (arith, is .3)) (omega (arith, is .0)) (λ q. omega arith) u (kid {i = 4 * (t / 4 + 1)} (omega arith)),
         )
 

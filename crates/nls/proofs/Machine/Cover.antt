@@ -121,6 +121,16 @@ up-6-no x (yes a) b e = omega (arith, up-low x a)
 up-6-no x (no a) (yes b) e = omega (arith, up-5 x (omega arith) b)
 up-6-no x (no a) (no b) e = omega (arith, up-7 x (omega arith))
 
+-- what the mark at a place says: MD, that DESC(t / 4) stands; MG, that GRAND(t / 16) does; a mark from 1 to 4, that the coefficient stands alone
+abbrev pub Desc-at : ℕ → ℕ → Cfg → ℕ → Type 0
+Desc-at D I c t = (t % 4 ≡ 0) × (stands D I c (t / 4) ≡ true) × (c .sD (t / 4) ≡ false) × (D ≤ t)
+
+abbrev pub Grand-at : ℕ → ℕ → Cfg → ℕ → Type 0
+Grand-at D I c t = (t ≡ 16 * (t / 16)) × (c .sD (t / 16) ≡ true) × (c .sG (t / 16) ≡ false) × (D ≤ 4 * (t / 16)) × (alone D I c t ≡ false)
+
+abbrev pub Alone-at : ℕ → ℕ → Cfg → List ℕ → ℕ → Type 0
+Alone-at D I c m t = (alone D I c t ≡ true) × (c .al t ≡ getD m t 0)
+
 module _ {D I : ℕ} (sz : Tiled D I) where
   pub record Core (c : Cfg) (l : List ℕ) : Type 0 where
     pub len : length l ≡ I
@@ -209,14 +219,14 @@ module _ {D I : ℕ} (sz : Tiled D I) where
     pub done : (j : ℕ) → j < I → (alone D I c j ≡ true → c .al j ≡ 3 → t ≤ j → ⊥) → X j
 
   -- a mark from 1 to 4 is that of a coefficient which stands alone
-  pub is-alone : (c : Cfg) (l : List ℕ) → Core c l → (j : ℕ) → j < I → 1 ≤ getD l j 0 → getD l j 0 < 5 → (alone D I c j ≡ true) × (c .al j ≡ getD l j 0)
+  pub is-alone : (c : Cfg) (l : List ℕ) → Core c l → (j : ℕ) → j < I → 1 ≤ getD l j 0 → getD l j 0 < 5 → Alone-at D I c l j
   is-alone c l k j h a b = go (alone D I c j) refl
     where
       no-way : (getD l j 0 ≡ 0) ⊎ (5 ≤ getD l j 0) → ⊥
       no-way (inl e) = omega arith
       no-way (inr e) = omega arith
 
-      go : (x : Bool) → alone D I c j ≡ x → (alone D I c j ≡ true) × (c .al j ≡ getD l j 0)
+      go : (x : Bool) → alone D I c j ≡ x → Alone-at D I c l j
       go true e = (e, sym (k .tab .solo j h e))
       go false e = absurd (no-way (kind-no sz c (k .ok) (λ i. getD l i 0) (k .tab) j h e))
 
@@ -308,7 +318,7 @@ module _ {D I : ℕ} (sz : Tiled D I) where
     done = λ j hj a b z. done′ j hj (was j a) b z (ℕ-discrete j t);
   }
     where
-      it : (alone D I c t ≡ true) × (c .al t ≡ getD l t 0)
+      it : Alone-at D I c l t
       it = is-alone c l (p .core) t h (omega arith) (omega arith)
 
       was : (j : ℕ) → alone D I (withA t 2 c) j ≡ true → alone D I c j ≡ true
@@ -358,7 +368,7 @@ module _ {D I : ℕ} (sz : Tiled D I) where
     done = λ j hj e. done′ j hj e (ℕ-discrete j t);
   }
     where
-      it : (alone D I c t ≡ true) × (c .al t ≡ getD l t 0)
+      it : Alone-at D I c l t
       it = is-alone c l (p .core) t h (omega arith) (omega arith)
 
       two′ : (j : ℕ) → j < I → alone D I c j ≡ true → c .al j ≡ 2 → Dec (j ≡ t) → t + 1 ≤ j
@@ -379,7 +389,7 @@ module _ {D I : ℕ} (sz : Tiled D I) where
     done = λ j hj e. done′ j hj (λ a. e (alone-A D I t 3 c j ∙ a)) (ℕ-discrete j t);
   }
     where
-      it : (alone D I c t ≡ true) × (c .al t ≡ getD l t 0)
+      it : Alone-at D I c l t
       it = is-alone c l (p .core) t h (omega arith) (omega arith)
 
       was : (j : ℕ) → alone D I (withA t 3 c) j ≡ true → alone D I c j ≡ true
@@ -615,7 +625,7 @@ module _ {D I : ℕ} (sz : Tiled D I) where
     dG = λ q a b z s d. dG′ q a b z s d (ℕ-discrete (16 * q) t);
   }
     where
-      it : (alone D I c t ≡ true) × (c .al t ≡ getD l t 0)
+      it : Alone-at D I c l t
       it = is-alone c l (p .core) t ti (omega arith) (omega arith)
 
       t4 : c .al t ≡ 4
@@ -659,7 +669,7 @@ module _ {D I : ℕ} (sz : Tiled D I) where
       dG′ q a b z s d (no e) = p .dG q a b (omega arith) (sym (same-D t v c q) ∙ s) (sym (same-G t v c q) ∙ d)
 
   -- what the mark 5 says
-  pub is-D : (c : Cfg) (l : List ℕ) → Core c l → (t : ℕ) → t < I → getD l t 0 ≡ 5 → (t % 4 ≡ 0) × (stands D I c (t / 4) ≡ true) × (c .sD (t / 4) ≡ false) × (D ≤ t)
+  pub is-D : (c : Cfg) (l : List ℕ) → Core c l → (t : ℕ) → t < I → getD l t 0 ≡ 5 → Desc-at D I c t
   is-D c l k t ti m = go (ℕ-discrete (t % 4) 0) (stands D I c (t / 4)) refl (ℕ-discrete (t / 4 % 4) 0) (c .sD (t / 4 / 4)) refl
     where
       a : alone D I c t ≡ false
@@ -669,7 +679,7 @@ module _ {D I : ℕ} (sz : Tiled D I) where
       b = no-alone D I c t a
 
       go : Dec (t % 4 ≡ 0) → (x : Bool) → stands D I c (t / 4) ≡ x → Dec (t / 4 % 4 ≡ 0) → (y : Bool) → c .sD (t / 4 / 4) ≡ y
-          → (t % 4 ≡ 0) × (stands D I c (t / 4) ≡ true) × (c .sD (t / 4) ≡ false) × (D ≤ t)
+          → Desc-at D I c t
       go (no z) x ex w y ey = absurd (omega (arith, k .tab .odd t ti a z))
       go (yes z) true ex w y ey = (z, ex, b .1, b .0)
       go (yes z) false ex (no w) y ey = absurd (omega (arith, k .tab .side t ti a ex w))
@@ -761,14 +771,14 @@ module _ {D I : ℕ} (sz : Tiled D I) where
 
   -- what the mark 6 says
   pub is-G : (c : Cfg) (l : List ℕ) → Core c l → (t : ℕ) → t < I → getD l t 0 ≡ 6
-      → (t ≡ 16 * (t / 16)) × (c .sD (t / 16) ≡ true) × (c .sG (t / 16) ≡ false) × (D ≤ 4 * (t / 16)) × (alone D I c t ≡ false)
+      → Grand-at D I c t
   is-G c l k t ti m = go (ℕ-discrete (t % 4) 0) (stands D I c (t / 4)) refl (ℕ-discrete (t / 4 % 4) 0) (c .sD (t / 4 / 4)) refl
     where
       a : alone D I c t ≡ false
       a = not-alone c l k t ti (omega arith)
 
       go : Dec (t % 4 ≡ 0) → (x : Bool) → stands D I c (t / 4) ≡ x → Dec (t / 4 % 4 ≡ 0) → (y : Bool) → c .sD (t / 4 / 4) ≡ y
-          → (t ≡ 16 * (t / 16)) × (c .sD (t / 16) ≡ true) × (c .sG (t / 16) ≡ false) × (D ≤ 4 * (t / 16)) × (alone D I c t ≡ false)
+          → Grand-at D I c t
       go (no z) x ex w y ey = absurd (omega (arith, k .tab .odd t ti a z))
       go (yes z) true ex w y ey = absurd (omega (arith, k .tab .head t ti a z ex))
       go (yes z) false ex (no w) y ey = absurd (omega (arith, k .tab .side t ti a ex w))
@@ -801,7 +811,7 @@ module _ {D I : ℕ} (sz : Tiled D I) where
       q : ℕ
       q = t / 16
 
-      is : (t ≡ 16 * (t / 16)) × (c .sD (t / 16) ≡ true) × (c .sG (t / 16) ≡ false) × (D ≤ 4 * (t / 16)) × (alone D I c t ≡ false)
+      is : Grand-at D I c t
       is = is-G c l k t ti m
 
       q-hi : 16 * q < I

@@ -24,11 +24,11 @@ skip-pos m = go (ltb m 5) (ltb m 7)
 
 pub sskip-pos : (m : ℕ) → 1 ≤ setSkip m
 unfolding setSkip
-sskip-pos m = go (ltb m 5)
+sskip-pos m = go (ltb m 5) refl
   where
-    go : (x : Bool) → 1 ≤ (elim x as (λ _. ℕ) [ true ↦ 4 | false ↦ skip m ])
-    go true = lit≤ tt
-    go false = skip-pos m
+    go : (x : Bool) → ltb m 5 ≡ x → 1 ≤ setSkip m
+    go true e = rw (e, setSkip) (lit≤ tt)
+    go false e = rw (e, setSkip) (skip-pos m)
 
 module _ (I : ℕ) where
   abbrev pub Falls : ℕ → Look → Type 0

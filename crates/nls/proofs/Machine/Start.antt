@@ -1,6 +1,6 @@
 -- The table at the start, and that the invariant of the scan holds there.
-use mathlib.Core.Path.{_≡_, refl, sym, ap, subst, _∙_}
-use mathlib.Core.Bool.{Bool, true, false, _||_, false≢true}
+use mathlib.Core.Path.{_≡_, sym, ap, subst, _∙_}
+use mathlib.Core.Bool.{true, false, false≢true, or-false}
 use mathlib.Core.Logic.{_⊎_, inl, inr}
 use mathlib.Core.List.{List, _++_}
 use Prim.Native.Nat.{ℕ, zero, suc, _+_, _*_, _-_, _/_, _%_, _≤_, _<_}
@@ -45,19 +45,11 @@ module _ {D I : ℕ} (sz : Tiled D I) where
 
   al-0 : (j : ℕ) → alone D I c0 j ≡ true → j < D
   unfolding alone
-  al-0 j a = ltb-true j D (go (ltb j D) a)
-    where
-      go : (x : Bool) → (x || false) ≡ true → x ≡ true
-      go true e = refl
-      go false e = e
+  al-0 j a = ltb-true j D (sym (or-false (ltb j D)) ∙ a)
 
   st-0 : (h : ℕ) → stands D I c0 h ≡ true → h < D
   unfolding stands
-  st-0 h a = ltb-true h D (go (ltb h D) a)
-    where
-      go : (x : Bool) → (x || false) ≡ true → x ≡ true
-      go true e = refl
-      go false e = e
+  st-0 h a = ltb-true h D (sym (or-false (ltb h D)) ∙ a)
 
   abbrev Is : ℕ → Type 0
   Is k = On I D (sz .fours) (omega arith) (3 * D / 4) k

@@ -12,7 +12,7 @@ use Rattle.nls.specs.Scan.{State, Look, over, silent, asks, Question, bi
 use Rattle.nls.proofs.Tiled.{Tiled}
 use Rattle.nls.proofs.Machine.Table.{Cfg, alone}
 use Rattle.nls.proofs.Machine.Split.{withD, withG, withA}
-use Rattle.nls.proofs.Machine.Cover.{Under, Preds, hide, More, is-alone, Pix, Sets, Fine, pix-hush, pix-zero, pix-one, pix-end, sets-hush, sets-D0, sets-D1, sets-G0, sets-G1, sets-C, sets-end, fine-hush, fine-ask, fine-np, fine-end, is-D, is-G}
+use Rattle.nls.proofs.Machine.Cover.{Under, Preds, hide, More, is-alone, Pix, Sets, Fine, pix-hush, pix-zero, pix-one, pix-end, sets-hush, sets-D0, sets-D1, sets-G0, sets-G1, sets-C, sets-end, fine-hush, fine-ask, fine-np, fine-end, is-D, is-G, Alone-at}
 
 -- What a run knows: X b j, bit b of j is settled; and, by plane, why a set was split
 pub record Fam : Type 1 where
@@ -243,7 +243,7 @@ module _ {D I : ℕ} (sz : Tiled D I) (P : ℕ) where
       (h .0, (h .1 .0, sets-Z sz (preds F b) (hide i (preds (withZ F Z′) b)) (F .X b) (F .X b) i (h .1 .0) m (shrink-hide F Z′ b i (h .1 .0) (o .1)) (λ j x. x) (h .1 .1)), ltb-true i I ex, eqb-true _ _ ec, o .0)
   tell-sets′ F Z′ b i m true false false true false ex ed eg ec h o =
       let hi : i < I = ltb-true i I ex in
-      let it : (alone D I (h .1 .0) i ≡ true) × ((h .1 .0) .al i ≡ getD m i 0) = is-alone sz (h .1 .0) m (h .1 .1 .core) i hi (omega (arith, eqb-true (getD m i 0) 4 ec)) (omega (arith, eqb-true (getD m i 0) 4 ec)) in (
+      let it : Alone-at D I (h .1 .0) m i = is-alone sz (h .1 .0) m (h .1 .1 .core) i hi (omega (arith, eqb-true (getD m i 0) 4 ec)) (omega (arith, eqb-true (getD m i 0) 4 ec)) in (
         h .0,
         (
           withA i 1 (h .1 .0),
@@ -266,7 +266,7 @@ module _ {D I : ℕ} (sz : Tiled D I) (P : ℕ) where
       hi : i < I
       hi = ltb-true i I ex
 
-      it : (alone D I c i ≡ true) × (c .al i ≡ getD m i 0)
+      it : Alone-at D I c m i
       it = is-alone sz c m (g .1 .1 .core) i hi (omega (arith, eqb-true (getD m i 0) 3 es)) (omega (arith, eqb-true (getD m i 0) 3 es))
 
       got : (a : Bool) → Learned I F Z′ (bitOf i b) a → F .X b i

@@ -7,9 +7,10 @@ use native.Mathlib.Nat.{pow-succ'}
 use native.Mathlib.Decide.{decLt, ℕ-discrete}
 use lib.Dec.{ltb, lit<, lit≤}
 use borrow.Author.Tests.{ltb-false, le-ltb, lt-ltb}
+use Rattle.tree.proofs.Lists.{or-left, or-right}
 use Rattle.nls.specs.Marks.{skip}
 use Rattle.nls.proofs.Tiled.{Tiled}
-use Rattle.nls.proofs.Booleans.{neither}
+use Rattle.nls.proofs.Booleans.{neither, or-off}
 
 -- which sets are split, and the marks of the coefficients that stand alone
 pub record Cfg : Type 0 where
@@ -42,21 +43,46 @@ module _ (D I : ℕ) where
     pub mid : (j : ℕ) → j < I → alone c j ≡ false → j % 4 ≡ 0 → stands c (j / 4) ≡ false → j / 4 % 4 ≡ 0 → c .sD (j / 4 / 4) ≡ true → m j ≡ 6
     pub deep : (j : ℕ) → j < I → alone c j ≡ false → j % 4 ≡ 0 → stands c (j / 4) ≡ false → j / 4 % 4 ≡ 0 → c .sD (j / 4 / 4) ≡ false → m j ≡ up (m (j / 4))
 
-  false-or-i : (a b : Bool) → a ≡ false → b ≡ false → (a || b) ≡ false
-  false-or-i true b h k = absurd (true≢false h)
-  false-or-i false b h k = k
+  -- off the coarsest band: alone as the parent's DESC is split, standing as its GRAND is
+  alone-far : (c : Cfg) (j : ℕ) → D ≤ j → alone c j ≡ c .sD (j / 4)
+  unfolding alone
+  alone-far c j h = or-off (ltb j D) (c .sD (j / 4)) (le-ltb j D h)
+
+  stands-far : (c : Cfg) (h : ℕ) → D ≤ h → stands c h ≡ c .sG (h / 4)
+  unfolding stands
+  stands-far c h l = or-off (ltb h D) (c .sG (h / 4)) (le-ltb h D l)
 
   pub alone-no : (c : Cfg) (j : ℕ) → D ≤ j → c .sD (j / 4) ≡ false → alone c j ≡ false
+  alone-no c j h k = alone-far c j h ∙ k
+
+  pub alone-yes : (c : Cfg) (j : ℕ) → D ≤ j → alone c j ≡ true → c .sD (j / 4) ≡ true
+  alone-yes c j h k = sym (alone-far c j h) ∙ k
+
+  pub alone-low : (c : Cfg) (j : ℕ) → j < D → alone c j ≡ true
   unfolding alone
-  alone-no c j h k = false-or-i (ltb j D) (c .sD (j / 4)) (le-ltb j D h) k
+  alone-low c j h = or-left (ltb j D) (c .sD (j / 4)) (lt-ltb j D h)
+
+  pub alone-kid : (c : Cfg) (j : ℕ) → c .sD (j / 4) ≡ true → alone c j ≡ true
+  unfolding alone
+  alone-kid c j e = or-right (ltb j D) (c .sD (j / 4)) e
 
   pub no-alone : (c : Cfg) (j : ℕ) → alone c j ≡ false → (D ≤ j) × (c .sD (j / 4) ≡ false)
   unfolding alone
   no-alone c j h = let r : (ltb j D ≡ false) × (c .sD (j / 4) ≡ false) = neither (ltb j D) (c .sD (j / 4)) h in (ltb-false j D (r .0), r .1)
 
   pub stands-no : (c : Cfg) (h : ℕ) → D ≤ h → c .sG (h / 4) ≡ false → stands c h ≡ false
+  stands-no c h l k = stands-far c h l ∙ k
+
+  pub stands-yes : (c : Cfg) (h : ℕ) → D ≤ h → stands c h ≡ true → c .sG (h / 4) ≡ true
+  stands-yes c h l k = sym (stands-far c h l) ∙ k
+
+  pub stands-low : (c : Cfg) (h : ℕ) → h < D → stands c h ≡ true
   unfolding stands
-  stands-no c h l k = false-or-i (ltb h D) (c .sG (h / 4)) (le-ltb h D l) k
+  stands-low c h l = or-left (ltb h D) (c .sG (h / 4)) (lt-ltb h D l)
+
+  pub stands-kid : (c : Cfg) (h : ℕ) → c .sG (h / 4) ≡ true → stands c h ≡ true
+  unfolding stands
+  stands-kid c h e = or-right (ltb h D) (c .sG (h / 4)) e
 
   pub no-stands : (c : Cfg) (h : ℕ) → stands c h ≡ false → (D ≤ h) × (c .sG (h / 4) ≡ false)
   unfolding stands
