@@ -1,7 +1,7 @@
 -- The checks of the calls, one way at a time; what they say where all hold; and the numbers that they compare.
-use mathlib.Core.Path.{_≡_, refl, sym, ap, _∙_}
-use mathlib.Core.Bool.{Bool, true, false, _&&_}
-use mathlib.Core.List.{List, _∷_}
+use mathlib.Core.Path.{_≡_, sym, ap, _∙_}
+use mathlib.Core.Bool.{true, false, _&&_}
+use mathlib.Core.List.{List}
 use Prim.Native.Nat.{ℕ, _+_, _*_, _/_, _%_, _-_, _≤_, _<_, min}
 use native.Mathlib.Nat.{mul-le-mul}
 use native.Mathlib.Decide.{decLt}
@@ -10,11 +10,10 @@ use borrow.Author.Tests.{eqb-true, eq-eqb, ne-eqb, leb-true, le-leb, lt-leb}
 use lib.Dec.{leb, eqb}
 use lib.IntN.{ℤ}
 use lib.ListN.{length}
-use Rattle.refusals.specs.Checks.{Check, need, firstOf}
-use Rattle.refusals.specs.declared.Refusal.{Refusal}
+use Rattle.refusals.specs.Checks.{firstOf}
 use Rattle.refusals.specs.declared.Refusal.the-variants.{Side, Levels, Length, Coefficient, Lent, Output, Planes}
-use Rattle.refusals.specs.declared.Outcome.{Outcome}
 use Rattle.refusals.specs.declared.Outcome.the-variants.{Done, Refused}
+use Rattle.refusals.proofs.Laws.{AllHold, passed}
 use Rattle.sizes.specs.Sizes.{mostN, allOf, coarsestOf, sideFits, levelsFit, mostPlanes}
 use Rattle.sizes.proofs.Laws.{both-left, both-right, sized, side-most, all-most, coarsest-least, coarsest-all, coarsest-four}
 use Rattle.bits.specs.Bits.{bytesFor}
@@ -23,12 +22,6 @@ use Rattle.coef.proofs.Laws.{first-le}
 use Rattle.nls.specs.Stream.{worstBody}
 use Rattle.coder.specs.Calls.{EncodeReady}
 use Rattle.coder.specs.Body.{worstChecks, encodeChecks, decodeChecks}
-
--- done is what is left where every check holds
-first-done : (t : Bool) (why : Refusal) (rest : List Check) → firstOf (need t why ∷ rest) ≡ Done → (t ≡ true) × (firstOf rest ≡ Done)
-unfolding firstOf
-first-done true why rest e = (refl, e)
-first-done false why rest e = absurd (let z : _≡_ {A = ℕ} 0 1 = cc in omega arith)
 
 -- ---- the worst body
 
@@ -52,11 +45,9 @@ module _ (N L P : ℕ) where
       worst-well p = rw (s, l, le-leb P mostPlanes p)
 
   pub worst-ready : Done ≡ firstOf (worstChecks N L P) → (sideFits N ≡ true) × (levelsFit N L ≡ true) × (P ≤ mostPlanes)
+  unfolding AllHold
   worst-ready is =
-      let a = first-done (sideFits N) Side _ (sym is) in
-      let b = first-done (levelsFit N L) Levels _ (a .1) in
-      let c = first-done (leb P mostPlanes) Planes _ (b .1) in
-      (a .0, b .0, leb-true P mostPlanes (c .0))
+      let all = passed (worstChecks N L P) (sym is) in (all .0, all .1 .0, leb-true P mostPlanes (all .1 .1 .0))
 
 -- ---- decoding
 
@@ -104,19 +95,18 @@ module _ (N L P values precisions marks : ℕ) where
     pub marksRoom : allOf N ≤ marks
 
   pub decode-ready : Done ≡ firstOf (decodeChecks N L P values precisions marks) → DecodeReady
+  unfolding AllHold
   decode-ready is =
-      let a = first-done (sideFits N) Side _ (sym is) in
-      let b = first-done (levelsFit N L) Levels _ (a .1) in
-      let c = first-done (leb P mostPlanes) Planes _ (b .1) in
-      let d = first-done (leb (allOf N) values && (leb (allOf N) precisions && leb (allOf N) marks)) Lent _ (c .1) in
-      let e = both-right (leb (allOf N) values) (leb (allOf N) precisions && leb (allOf N) marks) (d .0) in
+      let all = passed (decodeChecks N L P values precisions marks) (sym is) in
+      let rooms = all .1 .1 .1 .0 in
+      let others = both-right (leb (allOf N) values) (leb (allOf N) precisions && leb (allOf N) marks) rooms in
       record {
-        side = a .0;
-        levels = b .0;
-        planes = leb-true P mostPlanes (c .0);
-        valuesRoom = leb-true (allOf N) values (both-left (leb (allOf N) values) (leb (allOf N) precisions && leb (allOf N) marks) (d .0));
-        precisionsRoom = leb-true (allOf N) precisions (both-left (leb (allOf N) precisions) (leb (allOf N) marks) e);
-        marksRoom = leb-true (allOf N) marks (both-right (leb (allOf N) precisions) (leb (allOf N) marks) e);
+        side = all .0;
+        levels = all .1 .0;
+        planes = leb-true P mostPlanes (all .1 .1 .0);
+        valuesRoom = leb-true (allOf N) values (both-left (leb (allOf N) values) (leb (allOf N) precisions && leb (allOf N) marks) rooms);
+        precisionsRoom = leb-true (allOf N) precisions (both-left (leb (allOf N) precisions) (leb (allOf N) marks) others);
+        marksRoom = leb-true (allOf N) marks (both-right (leb (allOf N) precisions) (leb (allOf N) marks) others);
       }
 
 -- ---- encoding
@@ -169,26 +159,23 @@ module _ (N L : ℕ) (A : List ℤ) (descs grands marks out offset budget : ℕ)
                 encode-well r = rw (s, l, eq-eqb (length A) (allOf N) w, within-limit, le-leb (allOf N / 4) descs d, le-leb (allOf N / 16) grands g, le-leb (allOf N) marks m, r)
 
   pub encode-ready : Done ≡ firstOf (encodeChecks N L A descs grands marks out offset budget) → EncodeReady N L A descs grands (out - offset) budget × (allOf N ≤ marks) × (offset ≤ out)
+  unfolding AllHold
   encode-ready is =
-      let a = first-done (sideFits N) Side _ (sym is) in
-      let b = first-done (levelsFit N L) Levels _ (a .1) in
-      let c = first-done (eqb (length A) (allOf N)) Length _ (b .1) in
-      let d = first-done (eqb (firstOver A) (length A)) (Coefficient (firstOver A)) _ (c .1) in
-      let e = first-done (leb (allOf N / 4) descs && (leb (allOf N / 16) grands && leb (allOf N) marks)) Lent _ (d .1) in
-      let f = first-done (leb (offset + bytesFor (min budget (worstBody N L (planesOf A)))) out) Output _ (e .1) in
-      let g = both-right (leb (allOf N / 4) descs) (leb (allOf N / 16) grands && leb (allOf N) marks) (e .0) in
-      let r = leb-true (offset + bytesFor (min budget (worstBody N L (planesOf A)))) out (f .0) in (
+      let all = passed (encodeChecks N L A descs grands marks out offset budget) (sym is) in
+      let rooms = all .1 .1 .1 .1 .0 in
+      let others = both-right (leb (allOf N / 4) descs) (leb (allOf N / 16) grands && leb (allOf N) marks) rooms in
+      let fits = leb-true (offset + bytesFor (min budget (worstBody N L (planesOf A)))) out (all .1 .1 .1 .1 .1 .0) in (
         record {
-          side = a .0;
-          levels = b .0;
-          whole = eqb-true (length A) (allOf N) (c .0);
-          limited = eqb-true (firstOver A) (length A) (d .0);
-          descRoom = leb-true (allOf N / 4) descs (both-left (leb (allOf N / 4) descs) (leb (allOf N / 16) grands && leb (allOf N) marks) (e .0));
-          grandRoom = leb-true (allOf N / 16) grands (both-left (leb (allOf N / 16) grands) (leb (allOf N) marks) g);
-          outRoom = omega (arith, r);
+          side = all .0;
+          levels = all .1 .0;
+          whole = eqb-true (length A) (allOf N) (all .1 .1 .0);
+          limited = eqb-true (firstOver A) (length A) (all .1 .1 .1 .0);
+          descRoom = leb-true (allOf N / 4) descs (both-left (leb (allOf N / 4) descs) (leb (allOf N / 16) grands && leb (allOf N) marks) rooms);
+          grandRoom = leb-true (allOf N / 16) grands (both-left (leb (allOf N / 16) grands) (leb (allOf N) marks) others);
+          outRoom = omega (arith, fits);
         },
-        leb-true (allOf N) marks (both-right (leb (allOf N / 16) grands) (leb (allOf N) marks) g),
-        omega (arith, r),
+        leb-true (allOf N) marks (both-right (leb (allOf N / 16) grands) (leb (allOf N) marks) others),
+        omega (arith, fits),
       )
 
 -- ---- the numbers

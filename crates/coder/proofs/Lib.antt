@@ -16,3 +16,5 @@ pub mod CheckLaws
 pub mod FinishLaws
 pub mod EncodeLaws
 pub mod DecodeLaws
+pub mod Decided
+pub mod Calls

@@ -3,7 +3,6 @@ use refusals::Outcome;
 use refusals::Refusal;
 ghost use mathlib.Core.Path.{_≡_};
 ghost use mathlib.Core.List.{_++_};
-ghost use Prim.Native.Nat.{_≤_, min};
 ghost use lib.IntN.{pos};
 ghost use lib.ListN.{length, drop, replicate};
 ghost use Rattle.refusals.specs.Checks.{firstOf, lentAfter};
@@ -11,7 +10,6 @@ ghost use Rattle.sizes.specs.Sizes.{allOf};
 ghost use Rattle.bits.specs.Bits.{bitsOf, bytesFor, packed};
 ghost use Rattle.coef.specs.Coef.{planesOf};
 ghost use Rattle.tree.specs.Summaries.{descTable, grandTable};
-ghost use Rattle.nls.specs.Stream.{worstBody};
 ghost use Rattle.coder.specs.Body.{worstChecks, worstAnswer, encodeChecks, encodeAnswer, encodeEnd, sentBits, sentMarks, outputAfter, decodeChecks, usableBits, tables, Decoded, DecodesTo};
 ghost use Rattle.coder.specs.Calls.{EncodeReady, ReadReady};
 

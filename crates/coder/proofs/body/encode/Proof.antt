@@ -2,7 +2,7 @@ use mathlib.Core.Path.{_≡_, refl, sym, ap, subst, _∙_}
 use Prim.Native.Nat.{ℕ, _-_, _≤_}
 use native.Mathlib.Omega.{arith}
 use borrow.Author.Needs.{needs}
-use lib.ListN.{length, take, drop, length-take, length-drop}
+use lib.ListN.{length, take, drop, length-drop}
 use lib.Seq.{length-take-le}
 use Rattle.sizes.specs.Sizes.{allOf}
 use Rattle.sizes.proofs.Laws.{sized}
@@ -10,7 +10,6 @@ use Rattle.bits.specs.Bits.{packed}
 use Rattle.bits.proofs.Laws.{packed-length}
 use Rattle.coef.specs.Coef.{planesOf}
 use Rattle.nls.proofs.Streams.{marks-length}
-use Rattle.coder.specs.declared.body.Written.{Written}
 use Rattle.coder.specs.declared.body.EncodeAnswer.the-variants.{Done}
 use Rattle.coder.specs.Body.{sentBits, sentMarks}
 use Rattle.coder.specs.Calls.{EncodeReady}

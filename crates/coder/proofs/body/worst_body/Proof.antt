@@ -1,4 +1,4 @@
-use mathlib.Core.Path.{_≡_, sym, ap, _∙_}
+use mathlib.Core.Path.{sym, ap, _∙_}
 use borrow.Author.Needs.{needs}
 use Rattle.coder.specs.declared.body.WorstAnswer.the-variants.{Bits}
 use Rattle.coder.proofs.CheckLaws.{worst-ready}

@@ -1,0 +1,164 @@
+-- What the contracts of `encode` and `decode` give together: demand 2 at the level of the calls. The hypotheses are clauses of the two contracts.
+use Prim.Native.Nat.{ℕ, _+_, _*_, _-_, _≤_, _<_, min}
+use mathlib.Core.Path.{_≡_, refl, sym, ap, subst, _∙_}
+use mathlib.Core.Bool.{Bool}
+use mathlib.Core.List.{List, _++_}
+use native.Mathlib.Decide.{decLt}
+use native.Mathlib.Omega.{arith}
+use lib.IntN.{ℤ, pos, natAbs, _-ℤ_}
+use lib.ListN.{length, take, drop, replicate, length-append, length-take, List·getD-append}
+use lib.Seq.{take-all, length-take-le, drop-at}
+use Rattle.refusals.specs.Checks.{firstOf}
+use Rattle.refusals.specs.declared.Refusal.the-variants.{Contradiction, Beyond}
+use Rattle.refusals.specs.declared.Outcome.{Outcome}
+use Rattle.refusals.specs.declared.Outcome.the-variants as outcome
+use Rattle.sizes.specs.Sizes.{allOf, Sized}
+use Rattle.sizes.specs.Tables.{table}
+use Rattle.sizes.proofs.Laws.{sized}
+use Rattle.sizes.proofs.Tables.{table-length}
+use Rattle.bits.specs.Bits.{packed}
+use Rattle.bits.proofs.Laws.{packed-length, bitsOf-append, bitsOf-packed}
+use Rattle.coef.specs.Coef.{at, planesOf}
+use Rattle.coef.proofs.Laws.{planes-of}
+use Rattle.nls.specs.Stream.{stream}
+use Rattle.nls.specs.Reading.{midpoint, valueBy, highBits, precisionAt, valuesBy, precisions, planesFinished, worstError}
+use Rattle.nls.specs.Judging.{Begins, Fits, Contradicts, IsBeyond, Verdict, taken, contradiction, beyond, Judged}
+use Rattle.nls.proofs.Demands as demands
+use Rattle.nls.proofs.Verdicts.{judged-only}
+use Rattle.coder.specs.Body.{encodeChecks, sentBits, encodeAnswer, encodeEnd, sentMarks, outputAfter, decodeChecks, usableBits, decodeAnswer, Tables, tables, ownTables, over, Decoded, DecodesTo}
+use Rattle.coder.specs.Calls.{EncodeReady}
+use Rattle.coder.specs.declared.body.Written.{Written}
+use Rattle.coder.specs.declared.body.EncodeAnswer.{EncodeAnswer}
+use Rattle.coder.specs.declared.body.EncodeAnswer.the-variants as encode
+use Rattle.coder.specs.declared.body.ReadTo.{ReadTo}
+use Rattle.coder.specs.declared.body.DecodeAnswer.{DecodeAnswer}
+use Rattle.coder.specs.declared.body.DecodeAnswer.the-variants as decode
+use Rattle.coder.proofs.CheckLaws.{encode-ready, decode-well}
+use Rattle.coder.proofs.EncodeLaws.{planes-so}
+
+-- ---- a call of `decode` whose checks hold
+
+module _ (N L P : ℕ) (z : Sized N L) (u : List Bool) (held : Tables) (answer : DecodeAnswer) (left : Tables) (d : Decoded N L P u held answer left) where
+  -- the bits fit some array: what they give
+  pub taken-so : Fits N L P u → (answer ≡ decodeAnswer N L P u taken) × (left ≡ over (allOf N) (ownTables N L P u taken) held)
+  taken-so f =
+      let e : d .verdict ≡ taken = judged-only N L z P u (d .verdict) taken (d .judged) f in
+      (d .answered ∙ ap (λ (v : Verdict). decodeAnswer N L P u v) e, d .filled ∙ ap (λ (v : Verdict). over (allOf N) (ownTables N L P u v) held) e)
+
+  -- REFUSED EXACTLY: a body is taken if and only if some array fits, and refused as 12 or 13 at the bit that document 01 says
+  pub done-fits : (r : ReadTo) → answer ≡ decode.Done r → Fits N L P u
+  done-fits r e = go (d .verdict) (d .judged) (sym (d .answered) ∙ e)
+    where
+      go : (v : Verdict) → Judged N L P u v → decodeAnswer N L P u v ≡ decode.Done r → Fits N L P u
+      go taken j f = j
+      go (contradiction k) j f = absurd (let z : _≡_ {A = ℕ} 0 1 = cc in omega arith)
+      go (beyond k) j f = absurd (let z : _≡_ {A = ℕ} 0 1 = cc in omega arith)
+
+  pub fits-done : Fits N L P u → answer ≡ decode.Done (record { used = length u; finished = planesFinished N L P u; error = worstError N L P u })
+  fits-done f = taken-so f .0
+
+  pub twelve : (k : ℕ) → answer ≡ decode.Refused (Contradiction k) → Contradicts N L P u k
+  twelve k e = go (d .verdict) (d .judged) (sym (d .answered) ∙ e)
+    where
+      go : (v : Verdict) → Judged N L P u v → decodeAnswer N L P u v ≡ decode.Refused (Contradiction k) → Contradicts N L P u k
+      go taken j f = absurd (let z : _≡_ {A = ℕ} 0 1 = cc in omega arith)
+      go (contradiction n) j f = let e : n ≡ k = cc in subst (λ (x : ℕ). Contradicts N L P u x) e j
+      go (beyond n) j f = absurd (let z : _≡_ {A = ℕ} 0 1 = cc in omega arith)
+
+  pub thirteen : (k : ℕ) → answer ≡ decode.Refused (Beyond k) → IsBeyond N L P u k
+  thirteen k e = go (d .verdict) (d .judged) (sym (d .answered) ∙ e)
+    where
+      go : (v : Verdict) → Judged N L P u v → decodeAnswer N L P u v ≡ decode.Refused (Beyond k) → IsBeyond N L P u k
+      go taken j f = absurd (let z : _≡_ {A = ℕ} 0 1 = cc in omega arith)
+      go (contradiction n) j f = absurd (let z : _≡_ {A = ℕ} 0 1 = cc in omega arith)
+      go (beyond n) j f = let e : n ≡ k = cc in subst (λ (x : ℕ). IsBeyond N L P u x) e j
+
+  -- CUT: for every array whose stream begins so, the values are the rule's at its own bits and the precisions, and none is further off than the worst error
+  module _ (A : List ℤ) (b : Begins N L P A u) where
+    pub cut : left .values ≡ table (allOf N) (λ i. valueBy midpoint (precisionAt N L P u i) (highBits (precisionAt N L P u i) (at A i))) ++ drop (allOf N) (held .values)
+    cut = ap (λ (t : Tables). t .values) (taken-so (A, b) .1) ∙ ap (λ (l : List ℤ). l ++ drop (allOf N) (held .values)) (demands.cut N L P z A u b)
+
+    pub near : (i : ℕ) → i < allOf N → natAbs (at (left .values) i -ℤ at A i) ≤ worstError N L P u
+    near i h =
+        let long : length (valuesBy N L P u midpoint) ≡ allOf N = table-length (allOf N) _ in
+        subst (λ (y : ℤ). natAbs (y -ℤ at A i) ≤ worstError N L P u)
+        (sym (ap (λ (t : Tables). at (t .values) i) (taken-so (A, b) .1) ∙ List·getD-append (valuesBy N L P u midpoint) (drop (allOf N) (held .values)) (pos 0) i (omega (arith, h, long))))
+        (demands.near N L P z A u b i h)
+
+-- ---- `decode` of what `encode` wrote
+
+module _ (N L : ℕ) (A : List ℤ) (descs grands marks offset budget : ℕ) (out₀ out : List ℕ) (wrote : EncodeAnswer)
+    (encoded : wrote ≡ encodeAnswer N L A budget (firstOf (encodeChecks N L A descs grands marks (length out₀) offset budget)))
+    (written : out ≡ outputAfter (encodeEnd wrote) offset (packed (sentBits N L A budget)) out₀)
+    (w : Written) (done : wrote ≡ encode.Done w) where
+  done-so : (o : Outcome) → encodeAnswer N L A budget o ≡ encode.Done w → (o ≡ outcome.Done) × (w ≡ record { planes = planesOf A; bits = length (sentBits N L A budget) })
+  done-so outcome.Done e = (refl, cc)
+  done-so (outcome.Refused why) e = absurd (let z : _≡_ {A = ℕ} 0 1 = cc in omega arith)
+
+  checked : (firstOf (encodeChecks N L A descs grands marks (length out₀) offset budget) ≡ outcome.Done) × (w ≡ record { planes = planesOf A; bits = length (sentBits N L A budget) })
+  checked = done-so (firstOf (encodeChecks N L A descs grands marks (length out₀) offset budget)) (sym encoded ∙ done)
+
+  ready : EncodeReady N L A descs grands (length out₀ - offset) budget × (allOf N ≤ marks) × (offset ≤ length out₀)
+  ready = encode-ready N L A descs grands marks (length out₀) offset budget (sym (checked .0))
+
+  z : Sized N L
+  z = sized N L (ready .0 .levels)
+
+  abbrev P : ℕ
+  P = planesOf A
+
+  abbrev S : List Bool
+  S = stream N L (planesOf A) A
+
+  abbrev u : List Bool
+  u = sentBits N L A budget
+
+  -- the bits written begin the array's stream
+  pub begins : Begins N L (planesOf A) A (sentBits N L A budget)
+  begins = record { size = ready .0 .whole; planes = planes-of A; same = go (decLt budget (length S)) }
+    where
+      go : Dec (budget < length S) → take (length u) S ≡ u
+      go (yes h) = ap (λ (k : ℕ). take k S) {x = length u} {y = budget} (omega (arith, length-take budget S))
+      go (no h) = take-all (length u) S (omega (arith, length-take budget S)) ∙ sym (take-all budget S (omega arith))
+
+  -- and they are what `decode` reads where they were put
+  pub same-bits : usableBits (w .bits) (drop offset out) ≡ sentBits N L A budget
+  same-bits =
+      let rest : List ℕ = drop (offset + length (packed u)) out₀ in
+      let put : out ≡ take offset out₀ ++ (packed u ++ rest) = written ∙ ap (λ (r : EncodeAnswer). outputAfter (encodeEnd r) offset (packed u) out₀) done in
+      let there : drop offset out ≡ packed u ++ rest = ap (λ (l : List ℕ). drop offset l) put ∙ drop-at (take offset out₀) (packed u ++ rest) offset (length-take-le offset out₀ (ready .2)) in
+      let bits : w .bits ≡ length u = ap (λ (x : Written). x .bits) (checked .1) in
+      let most : min (length u) (8 * length (packed u ++ rest)) ≡ length u = omega (arith, length-append (packed u) rest, packed-length u) in
+      rw (bits, there, most) (bitsOf-append (length u) (packed u) rest (omega (arith, packed-length u)) ∙ bitsOf-packed u)
+
+  module _ (held left : Tables) (read : DecodeAnswer) (hv : allOf N ≤ length (held .values)) (hp : allOf N ≤ length (held .precisions)) (hm : allOf N ≤ length (held .marks))
+      (decoded : DecodesTo (firstOf (decodeChecks N L (w .planes) (length (held .values)) (length (held .precisions)) (length (held .marks)))) N L (w .planes) (usableBits (w .bits) (drop offset out)) held read left) where
+    so : Decoded N L P u held read left
+    so =
+        let planes : w .planes ≡ P = ap (λ (x : Written). x .planes) (checked .1) in
+        let few = planes-so N L A descs grands (length out₀ - offset) budget (ready .0) P (planes-of A) .1 in
+        let well : firstOf (decodeChecks N L P (length (held .values)) (length (held .precisions)) (length (held .marks))) ≡ outcome.Done =
+        sym (decode-well N L P (length (held .values)) (length (held .precisions)) (length (held .marks)) (ready .0 .side) (ready .0 .levels) few hv hp hm) in
+        subst (λ (o : Outcome). DecodesTo o N L P u held read left) well
+        (subst (λ (b : List Bool). DecodesTo (firstOf (decodeChecks N L P (length (held .values)) (length (held .precisions)) (length (held .marks)))) N L P b held read left) same-bits
+        (subst (λ (p : ℕ). DecodesTo (firstOf (decodeChecks N L p (length (held .values)) (length (held .precisions)) (length (held .marks)))) N L p (usableBits (w .bits) (drop offset out)) held read left) planes decoded))
+
+    -- IN STEP: what was written is taken, whatever the budget, and the decoder's marks are the encoder's
+    pub back : (read ≡ decode.Done (record { used = length (sentBits N L A budget); finished = planesFinished N L (planesOf A) (sentBits N L A budget); error = worstError N L (planesOf A) (sentBits N L A budget) }))
+        × (left ≡ over (allOf N) (tables (valuesBy N L (planesOf A) (sentBits N L A budget) midpoint) (precisions N L (planesOf A) (sentBits N L A budget)) (sentMarks N L A budget)) held)
+    back = taken-so N L P z u held read left so (A, begins)
+
+    -- WHOLE: with a budget that does not cut, the array itself, to the last bit
+    pub whole : length (stream N L (planesOf A) A) ≤ budget
+        → (read ≡ decode.Done (record { used = length (stream N L (planesOf A) A); finished = planesOf A; error = 0 }))
+        × (left ≡ over (allOf N) (tables A (replicate (allOf N) 0) (sentMarks N L A budget)) held)
+    whole h =
+        let all : u ≡ S = take-all budget S h in
+        let size = ready .0 .whole in
+        let finished : planesFinished N L P u ≡ P = ap (λ (b : List Bool). planesFinished N L P b) all ∙ demands.whole-finished N L P z A size (planes-of A) in
+        let error : worstError N L P u ≡ 0 = ap (λ (b : List Bool). worstError N L P b) all ∙ demands.whole-error N L P z A size (planes-of A) in
+        let values : valuesBy N L P u midpoint ≡ A = ap (λ (b : List Bool). valuesBy N L P b midpoint) all ∙ demands.whole N L P z A size (planes-of A) in
+        let exact : precisions N L P u ≡ replicate (allOf N) 0 = ap (λ (b : List Bool). precisions N L P b) all ∙ demands.whole-precisions N L P z A size (planes-of A) in (
+          back .0 ∙ (λ i. decode.Done (record { used = length (all i); finished = finished i; error = error i })),
+          back .1 ∙ (λ i. over (allOf N) (tables (values i) (exact i) (sentMarks N L A budget)) held),
+        )
