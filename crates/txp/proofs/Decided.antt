@@ -1,0 +1,55 @@
+-- The contract of each public function decides its outcome: the answer and what is lent to be written.
+use mathlib.Core.Path.{_≡_, refl, sym, ap, _∙_}
+use mathlib.Core.Bool.{Bool}
+use mathlib.Core.List.{List}
+use Prim.Native.Nat.{ℕ}
+use lib.ListN.{length}
+use denote.Ref.{now}
+use Rattle.refusals.specs.Checks.{firstOf}
+use Rattle.refusals.specs.declared.Outcome.{Outcome}
+use Rattle.refusals.specs.declared.Outcome.the-variants.{Done, Refused}
+use Rattle.refusals.proofs.Decided.{OneOutcome}
+use Rattle.sizes.specs.Sizes.{Sized}
+use Rattle.nls.specs.Judging.{Verdict}
+use Rattle.nls.proofs.Verdicts.{judged-only}
+use Rattle.coder.specs.Body.{Tables, tables}
+use Rattle.txp.specs.declared.Header.{Header}
+use Rattle.txp.specs.declared.DecodeAnswer.{DecodeAnswer}
+use Rattle.txp.specs.Header.{headerOf}
+use Rattle.txp.specs.File.{usableBits}
+use Rattle.txp.specs.Calls.{decodeChecks, decodeAnswer, DecodedFile, DecodesTo}
+use Rattle.txp.proofs.CallLaws.{in-range}
+use Rattle.txp.proofs.encode.Reads as encode
+use Rattle.txp.proofs.decode.Reads as decode
+
+-- DESC, GRAND, the marks and the output are the fourth to the seventh parameter
+pub encode-decided : OneOutcome {Lent = List ℕ × List ℕ × List ℕ × List ℕ} encode.Learnt
+    (λ k s. (now (s .1 .1 .1 .0), now (s .1 .1 .1 .1 .0), now (s .1 .1 .1 .1 .1 .0), now (s .1 .1 .1 .1 .1 .1 .0)))
+encode-decided k args r r' s s' p q =
+    let e : r ≡ r' = p .0 ∙ sym (q .0) in
+    let desc : now (s .1 .1 .1 .0) ≡ now (s' .1 .1 .1 .0) = p .1 .0 ∙ rw e (sym (q .1 .0)) in
+    let grand : now (s .1 .1 .1 .1 .0) ≡ now (s' .1 .1 .1 .1 .0) = p .1 .1 .0 ∙ rw e (sym (q .1 .1 .0)) in
+    let marks : now (s .1 .1 .1 .1 .1 .0) ≡ now (s' .1 .1 .1 .1 .1 .0) = p .1 .1 .1 .0 ∙ rw e (sym (q .1 .1 .1 .0)) in
+    let out : now (s .1 .1 .1 .1 .1 .1 .0) ≡ now (s' .1 .1 .1 .1 .1 .1 .0) = p .1 .1 .1 .1 ∙ rw e (sym (q .1 .1 .1 .1)) in
+    (e, cc)
+
+-- a file's header and usable bits decide the rest, where its sizes are in range: there is one verdict on the bits
+module _ (h : Header) (u : List Bool) (held : Tables) (r r' : DecodeAnswer) (left left' : Tables) where
+  one-verdict : Sized (h .n) (h .l) → DecodedFile h u held r left → DecodedFile h u held r' left' → (r ≡ r') × (left ≡ left')
+  one-verdict z p q =
+      let v : p .verdict ≡ q .verdict = judged-only (h .n) (h .l) z (h .p) u (p .verdict) (q .verdict) (p .judged) (q .judged) in
+      (p .answered ∙ ap (λ (x : Verdict). decodeAnswer h u x) v ∙ sym (q .answered), p .filled ∙ rw v (sym (q .filled)))
+
+  one-outcome : (o : Outcome) → (o ≡ Done → Sized (h .n) (h .l)) → DecodesTo o h u held r left → DecodesTo o h u held r' left' → (r ≡ r') × (left ≡ left')
+  one-outcome Done z p q = one-verdict (z refl) p q
+  one-outcome (Refused why) z p q = (p .0 ∙ sym (q .0), p .1 ∙ sym (q .1))
+
+-- values, precisions and marks are the second to the fourth parameter
+pub decode-decided : OneOutcome {Lent = Tables} decode.Learnt (λ k s. tables (now (s .1 .0)) (now (s .1 .1 .0)) (now (s .1 .1 .1 .0)))
+decode-decided k args r r' s s' p q =
+    let file = now (args .0) in
+    let held = tables (now (args .1 .0)) (now (args .1 .1 .0)) (now (args .1 .1 .1 .0)) in
+    one-outcome (headerOf file) (usableBits file) held r r'
+    (tables (now (s .1 .0)) (now (s .1 .1 .0)) (now (s .1 .1 .1 .0))) (tables (now (s' .1 .0)) (now (s' .1 .1 .0)) (now (s' .1 .1 .1 .0)))
+    (firstOf (decodeChecks file (length (held .values)) (length (held .precisions)) (length (held .marks))))
+    (in-range file (length (held .values)) (length (held .precisions)) (length (held .marks))) p q

@@ -1,0 +1,254 @@
+-- What is proved of files: demands 2 and 3 of document 01 at the level of bytes and of the calls. `fileOf` is what encoding writes.
+use mathlib.Core.Path.{_≡_, refl, sym, ap, subst, _∙_}
+use mathlib.Core.Bool.{Bool, true}
+use mathlib.Core.Logic.{_⊎_, inl, inr}
+use mathlib.Core.List.{List, [], _∷_, _++_}
+use Prim.Native.Nat.{ℕ, zero, suc, _+_, _*_, _^_, min, _≤_, _<_}
+use native.Mathlib.Omega.{arith}
+use borrow.Author.Tests.{le-leb, lt-leb}
+use lib.IntN.{ℤ, natAbs, _-ℤ_}
+use lib.ListN.{length, take, drop, replicate, length-take, length-append}
+use lib.Seq.{take-all, take-at}
+use Rattle.refusals.specs.declared.Refusal.{Refusal}
+use Rattle.refusals.specs.declared.Refusal.the-variants.{Letters, Contradiction, Beyond}
+use Rattle.refusals.specs.declared.Outcome.{Outcome}
+use Rattle.refusals.specs.declared.Outcome.the-variants.{Done, Refused}
+use Rattle.refusals.specs.Refusals.{numberOf}
+use Rattle.refusals.specs.Checks.{firstOf, lentAfter}
+use Rattle.sizes.specs.Sizes.{allOf, sideFits, levelsFit, mostPlanes, Sized}
+use Rattle.sizes.specs.Tables.{table}
+use Rattle.sizes.proofs.Laws.{side-most, sized}
+use Rattle.bits.specs.Bits.{bytesFor, packed}
+use Rattle.bits.proofs.Laws.{packed-length}
+use Rattle.coef.specs.Coef.{at, planesOf, firstOver, IsPlanes}
+use Rattle.coef.proofs.Laws.{planes-of, planes-most, first-all}
+use Rattle.nls.specs.Stream.{stream, worstBody}
+use Rattle.nls.specs.Reading.{midpoint, valueBy, highBits, precisionAt, valuesBy, precisions, planesFinished, worstError}
+use Rattle.nls.specs.Judging.{Begins, Fits, Verdict, taken, contradiction, beyond}
+use Rattle.nls.proofs.Demands as scan
+use Rattle.coder.specs.Body.{sentBits, sentMarks, Tables, tables, ownTables, over}
+use Rattle.txp.specs.declared.Header.{Header}
+use Rattle.txp.specs.declared.Encoded.{Encoded}
+use Rattle.txp.specs.declared.EncodeAnswer.{EncodeAnswer}
+use Rattle.txp.specs.declared.EncodeAnswer.the-variants as encode
+use Rattle.txp.specs.declared.DecodeAnswer.{DecodeAnswer}
+use Rattle.txp.specs.declared.DecodeAnswer.the-variants as decode
+use Rattle.txp.specs.Header.{headerSize, headerBytes, headerOf, lettersFit}
+use Rattle.txp.specs.File.{headerFor, fileOf, usableBits}
+use Rattle.txp.specs.Calls.{encodeChecks, encodeAnswer, encodeEnd, roomIn, decodeChecks, decodeAnswer, DecodedFile, DecodesTo, Decodes}
+use Rattle.txp.proofs.Headers as headers
+use Rattle.txp.proofs.Headers.{header-length, letters-read, version-read, header-read, body-read}
+use Rattle.txp.proofs.Files.{cut-file, cut-bits, all-bits, no-surplus, padding-zero}
+use Rattle.txp.proofs.CallLaws.{Encodes, encodes, in-range}
+
+-- what is left of a list after two cuts begins it
+prefix : (m n : ℕ) (s : List Bool) → take (length (take m (take n s))) s ≡ take m (take n s)
+prefix zero n s = refl
+prefix (suc m) zero s = refl
+prefix (suc m) (suc n) [] = refl
+prefix (suc m) (suc n) (x ∷ s) = ap {B = List Bool} (λ r. x ∷ r) (prefix m n s)
+
+-- ---- THE FILE of an array that encoding takes: N and L in range, 4^N coefficients, all within the limit; and any 32-bit budget
+module _ (N L : ℕ) (side : sideFits N ≡ true) (levels : levelsFit N L ≡ true) (A : List ℤ) (size : length A ≡ allOf N)
+    (within : firstOver A ≡ length A) (budget : ℕ) (narrow : budget < 2 ^ 32) where
+  planes : IsPlanes A (planesOf A)
+  planes = planes-of A
+
+  few : planesOf A ≤ mostPlanes
+  few = planes-most planes (first-all A within)
+
+  z : Sized N L
+  z = sized N L levels
+
+  fits : headers.Fits (headerFor N L A budget)
+  fits =
+      record {
+        n = omega (arith, side-most N side);
+        l = omega (arith, side-most N side, z .most);
+        p = omega (arith, few);
+        declared = omega (arith, narrow, length-take budget (stream N L (planesOf A) A));
+      }
+
+  -- the bytes are 12 and those of the bits
+  pub file-length : length (fileOf N L A budget) ≡ headerSize + bytesFor (length (sentBits N L A budget))
+  file-length =
+      omega (arith, length-append (headerBytes (headerFor N L A budget)) (packed (sentBits N L A budget)), header-length (headerFor N L A budget) [], packed-length (sentBits N L A budget))
+
+  -- and check 6's room is always enough for them: demand 3's bound makes it so
+  pub room-enough : headerSize + bytesFor (length (sentBits N L A budget)) ≤ headerSize + bytesFor (min budget (worstBody N L (planesOf A)))
+  room-enough = omega (arith, length-take budget (stream N L (planesOf A) A), scan.bound N L (planesOf A) z A planes)
+
+  -- its usable bits are the bits that were written
+  pub written-bits : usableBits (fileOf N L A budget) ≡ sentBits N L A budget
+  written-bits = all-bits (headerFor N L A budget) fits (sentBits N L A budget) refl
+
+  -- with no budget cut they give the array back
+  pub whole-file : length (stream N L (planesOf A) A) ≤ budget → valuesBy N L (planesOf A) (usableBits (fileOf N L A budget)) midpoint ≡ A
+  whole-file h =
+      ap (λ (v : List Bool). valuesBy N L (planesOf A) v midpoint) (written-bits ∙ take-all budget (stream N L (planesOf A) A) h)
+      ∙ scan.whole N L (planesOf A) z A size planes
+
+  -- A file cut after any byte of its body, or after none: no check of decoding but that of room refuses it
+  module _ (k : ℕ) where
+    pub cut-passes : (values precisions marks : ℕ) → roomIn (allOf N) values precisions marks ≡ true
+        → firstOf (decodeChecks (take (headerSize + k) (fileOf N L A budget)) values precisions marks) ≡ Done
+    unfolding firstOf
+    cut-passes values precisions marks room =
+        rw (
+          cut-file (headerFor N L A budget) fits (sentBits N L A budget) refl k,
+          letters-read (headerFor N L A budget) (take k (packed (sentBits N L A budget))),
+          version-read (headerFor N L A budget) (take k (packed (sentBits N L A budget))),
+          header-read (headerFor N L A budget) (take k (packed (sentBits N L A budget))) fits,
+          body-read (headerFor N L A budget) (take k (packed (sentBits N L A budget))),
+          side,
+          levels,
+          le-leb (planesOf A) mostPlanes few,
+          no-surplus (headerFor N L A budget) fits (sentBits N L A budget) refl k,
+          padding-zero (headerFor N L A budget) fits (sentBits N L A budget) refl k,
+          room,
+        )
+
+    -- the header is there
+    pub cut-header : headerOf (take (headerSize + k) (fileOf N L A budget)) ≡ headerFor N L A budget
+    cut-header =
+        ap headerOf (cut-file (headerFor N L A budget) fits (sentBits N L A budget) refl k)
+        ∙ header-read (headerFor N L A budget) (take k (packed (sentBits N L A budget))) fits
+
+    -- its usable bits begin A's stream, so values are by the rule, and near
+    pub cut-begins : Begins N L (planesOf A) A (usableBits (take (headerSize + k) (fileOf N L A budget)))
+    cut-begins =
+        let e : usableBits (take (headerSize + k) (fileOf N L A budget)) ≡ take (8 * k) (sentBits N L A budget) =
+        ap usableBits (cut-file (headerFor N L A budget) fits (sentBits N L A budget) refl k) ∙ cut-bits (headerFor N L A budget) fits (sentBits N L A budget) refl k in
+        subst (λ (v : List Bool). Begins N L (planesOf A) A v) (sym e)
+        (record { size = size; planes = planes; same = prefix (8 * k) budget (stream N L (planesOf A) A) })
+
+    pub cut-values : valuesBy N L (planesOf A) (usableBits (take (headerSize + k) (fileOf N L A budget))) midpoint
+        ≡ table (allOf N) (λ i. valueBy midpoint (precisionAt N L (planesOf A) (usableBits (take (headerSize + k) (fileOf N L A budget))) i)
+        (highBits (precisionAt N L (planesOf A) (usableBits (take (headerSize + k) (fileOf N L A budget))) i) (at A i)))
+    cut-values = scan.cut N L (planesOf A) z A (usableBits (take (headerSize + k) (fileOf N L A budget))) cut-begins
+
+    pub cut-near : (i : ℕ) → i < allOf N
+        → natAbs (at (valuesBy N L (planesOf A) (usableBits (take (headerSize + k) (fileOf N L A budget))) midpoint) i -ℤ at A i)
+        ≤ worstError N L (planesOf A) (usableBits (take (headerSize + k) (fileOf N L A budget)))
+    cut-near i h = scan.near N L (planesOf A) z A (usableBits (take (headerSize + k) (fileOf N L A budget))) cut-begins i h
+
+    -- so whatever decoding may answer and leave, it took the bits
+    pub cut-taken : (held left : Tables) (answer : DecodeAnswer) → roomIn (allOf N) (length (held .values)) (length (held .precisions)) (length (held .marks)) ≡ true
+        → Decodes (take (headerSize + k) (fileOf N L A budget)) held answer left
+        → (answer ≡ decodeAnswer (headerFor N L A budget) (usableBits (take (headerSize + k) (fileOf N L A budget))) taken)
+        × (left ≡ over (allOf N) (ownTables N L (planesOf A) (usableBits (take (headerSize + k) (fileOf N L A budget))) taken) held)
+    cut-taken held left answer room d =
+        let got : DecodedFile (headerFor N L A budget) (usableBits (take (headerSize + k) (fileOf N L A budget))) held answer left =
+        subst (λ (h : Header). DecodedFile h (usableBits (take (headerSize + k) (fileOf N L A budget))) held answer left) cut-header
+        (subst (λ (o : Outcome). DecodesTo o (headerOf (take (headerSize + k) (fileOf N L A budget))) (usableBits (take (headerSize + k) (fileOf N L A budget))) held answer left)
+        (cut-passes (length (held .values)) (length (held .precisions)) (length (held .marks)) room) d) in
+        let v : got .verdict ≡ taken =
+        scan.refused-exactly N L (planesOf A) z (usableBits (take (headerSize + k) (fileOf N L A budget))) (got .verdict) (got .judged) .1 (A, cut-begins) in
+        (got .answered ∙ rw v, got .filled ∙ rw v)
+
+  -- a cut before the body leaves no header
+  pub cut-early : (k values precisions marks : ℕ) → k < headerSize → firstOf (decodeChecks (take k (fileOf N L A budget)) values precisions marks) ≡ Refused Letters
+  unfolding firstOf lettersFit
+  cut-early k values precisions marks h =
+      rw (lt-leb headerSize (length (take k (fileOf N L A budget))) (omega (arith, h, length-take k (fileOf N L A budget))))
+
+-- ---- THE CALLS. Encoding, for which its contract allows the answer `r` and leaves the output `left`, answered that it is done:
+-- the first bytes of the output, as many as it says, are a file.
+module _ (N L : ℕ) (A : List ℤ) (budget : ℕ) (narrow : budget < 2 ^ 32) (descs grands marks : ℕ) (out left : List ℕ) (r : EncodeAnswer) (e : Encoded)
+    (answers : r ≡ encodeAnswer N L A budget (firstOf (encodeChecks N L A descs grands marks (length out) budget)))
+    (leaves : left ≡ lentAfter (encodeEnd r) (fileOf N L A budget) out) (done : r ≡ encode.Done e) where
+  told : (o : Outcome) → encode.Done e ≡ encodeAnswer N L A budget o → (o ≡ Done)
+      × (e ≡ record { planes = planesOf A; bits = length (sentBits N L A budget); bytes = headerSize + bytesFor (length (sentBits N L A budget)) })
+  told Done q = (refl, cc)
+  told (Refused why) q =
+      let bad : _≡_ {A = ℕ} 0 1 = cc in
+      absurd (omega arith)
+
+  so : Encodes N L A (length out) budget
+  so = encodes N L A descs grands marks (length out) budget (told (firstOf (encodeChecks N L A descs grands marks (length out) budget)) (sym done ∙ answers) .0)
+
+  says : e ≡ record { planes = planesOf A; bits = length (sentBits N L A budget); bytes = headerSize + bytesFor (length (sentBits N L A budget)) }
+  says = told (firstOf (encodeChecks N L A descs grands marks (length out) budget)) (sym done ∙ answers) .1
+
+  pub file-stands : take (e .bytes) left ≡ fileOf N L A budget
+  file-stands =
+      let n : e .bytes ≡ length (fileOf N L A budget) =
+      ap {B = ℕ} (λ (x : Encoded). x .bytes) says ∙ sym (file-length N L (so .side) (so .levels) A (so .size) (so .limited) budget narrow) in
+      let begins : left ≡ fileOf N L A budget ++ drop (length (fileOf N L A budget)) out = leaves ∙ rw done in
+      rw (begins, n) (take-at (fileOf N L A budget) (drop (length (fileOf N L A budget)) out) (length (fileOf N L A budget)) refl)
+
+  -- That file is decoded, for which decode's contract allows the answer `answer` and leaves the tables `after`.
+  module _ (held after : Tables) (answer : DecodeAnswer)
+      (room : roomIn (allOf N) (length (held .values)) (length (held .precisions)) (length (held .marks)) ≡ true) where
+    -- CUT after any byte of its body, or after none: its bits are taken, and they begin the stream of A
+    pub cut-given : (k : ℕ) → Decodes (take (headerSize + k) (take (e .bytes) left)) held answer after
+        → (answer ≡ decodeAnswer (headerFor N L A budget) (usableBits (take (headerSize + k) (take (e .bytes) left))) taken)
+        × (after ≡ over (allOf N) (ownTables N L (planesOf A) (usableBits (take (headerSize + k) (take (e .bytes) left))) taken) held)
+        × Begins N L (planesOf A) A (usableBits (take (headerSize + k) (take (e .bytes) left)))
+    cut-given k d =
+        let cut : take (headerSize + k) (take (e .bytes) left) ≡ take (headerSize + k) (fileOf N L A budget) = ap (λ (s : List ℕ). take (headerSize + k) s) file-stands in
+        let t =
+        cut-taken N L (so .side) (so .levels) A (so .size) (so .limited) budget narrow k held after answer room (subst (λ (f : List ℕ). Decodes f held answer after) cut d) in
+        rw cut (t .0, t .1, cut-begins N L (so .side) (so .levels) A (so .size) (so .limited) budget narrow k)
+
+    -- WHOLE, where the budget cut nothing: the array, precisions 0, the encoder's marks; all planes finished, worst error 0
+    pub given-back : length (stream N L (planesOf A) A) ≤ budget → Decodes (take (e .bytes) left) held answer after
+        → (answer ≡ decode.Done (record { n = N; l = L; p = e .planes; declared = e .bits; used = e .bits; finished = e .planes; error = 0 }))
+        × (after ≡ over (allOf N) (tables A (replicate (allOf N) 0) (sentMarks N L A budget)) held)
+    given-back h d =
+        let P : ℕ = planesOf A in
+        let u : List Bool = sentBits N L A budget in
+        let file : List ℕ = fileOf N L A budget in
+        let k : ℕ = bytesFor (length u) in
+        let z : Sized N L = sized N L (so .levels) in
+        let uncut : take (headerSize + k) file ≡ file =
+        take-all (headerSize + k) file (omega (arith, file-length N L (so .side) (so .levels) A (so .size) (so .limited) budget narrow)) in
+        let t =
+        cut-taken N L (so .side) (so .levels) A (so .size) (so .limited) budget narrow k held after answer room
+        (subst (λ (f : List ℕ). Decodes f held answer after) (file-stands ∙ sym uncut) d) in
+        let bits : usableBits (take (headerSize + k) file) ≡ u = ap usableBits uncut ∙ written-bits N L (so .side) (so .levels) A (so .size) (so .limited) budget narrow in
+        let whole : u ≡ stream N L P A = take-all budget (stream N L P A) h in
+        let finished : planesFinished N L P u ≡ P = ap (λ (v : List Bool). planesFinished N L P v) whole ∙ scan.whole-finished N L P z A (so .size) (planes-of A) in
+        let error : worstError N L P u ≡ 0 = ap (λ (v : List Bool). worstError N L P v) whole ∙ scan.whole-error N L P z A (so .size) (planes-of A) in
+        let values : valuesBy N L P u midpoint ≡ A = ap (λ (v : List Bool). valuesBy N L P v midpoint) whole ∙ scan.whole N L P z A (so .size) (planes-of A) in
+        let exact : precisions N L P u ≡ replicate (allOf N) 0 = ap (λ (v : List Bool). precisions N L P v) whole ∙ scan.whole-precisions N L P z A (so .size) (planes-of A) in
+        let answered : decodeAnswer (headerFor N L A budget) u taken ≡ decode.Done (record { n = N; l = L; p = e .planes; declared = e .bits; used = e .bits; finished = e .planes; error = 0 }) =
+        rw says cc in
+        let filled : ownTables N L P u taken ≡ tables A (replicate (allOf N) 0) (sentMarks N L A budget) = cc in (
+          t .0 ∙ ap (λ (v : List Bool). decodeAnswer (headerFor N L A budget) v taken) bits ∙ answered,
+          t .1 ∙ ap (λ (v : List Bool). over (allOf N) (ownTables N L P v taken) held) bits ∙ ap (λ (x : Tables). over (allOf N) x held) filled,
+        )
+
+-- Any file whose checks hold, and what decode's contract allows: it is refused by 12 or 13 exactly if no array fits its usable bits.
+abbrev pub Refuses : DecodeAnswer → Type 0
+Refuses answer = (why : Refusal) × (answer ≡ decode.Refused why) × ((numberOf why ≡ 12) ⊎ (numberOf why ≡ 13))
+
+module _ (file : List ℕ) (held left : Tables) (answer : DecodeAnswer)
+    (passes : firstOf (decodeChecks file (length (held .values)) (length (held .precisions)) (length (held .marks))) ≡ Done) (decoded : Decodes file held answer left) where
+  pub refused-exactly : (Refuses answer → Fits (headerOf file .n) (headerOf file .l) (headerOf file .p) (usableBits file) → ⊥)
+      × ((Fits (headerOf file .n) (headerOf file .l) (headerOf file .p) (usableBits file) → ⊥) → Refuses answer)
+  refused-exactly = (some, none)
+    where
+      got : DecodedFile (headerOf file) (usableBits file) held answer left
+      got = subst (λ (o : Outcome). DecodesTo o (headerOf file) (usableBits file) held answer left) passes decoded
+
+      exact : (got .verdict ≡ taken → Fits (headerOf file .n) (headerOf file .l) (headerOf file .p) (usableBits file))
+          × (Fits (headerOf file .n) (headerOf file .l) (headerOf file .p) (usableBits file) → got .verdict ≡ taken)
+      exact =
+          scan.refused-exactly (headerOf file .n) (headerOf file .l) (headerOf file .p)
+          (in-range file (length (held .values)) (length (held .precisions)) (length (held .marks)) passes) (usableBits file) (got .verdict) (got .judged)
+
+      some : Refuses answer → Fits (headerOf file .n) (headerOf file .l) (headerOf file .p) (usableBits file) → ⊥
+      some refuses w =
+          let v : got .verdict ≡ taken = exact .1 w in
+          let bad : decode.Refused (refuses .0) ≡ decodeAnswer (headerOf file) (usableBits file) taken = sym (refuses .1) ∙ got .answered ∙ rw v in
+          let z : _≡_ {A = ℕ} 0 1 = cc in
+          omega arith
+
+      tell : (v : Verdict) → got .verdict ≡ v → (Fits (headerOf file .n) (headerOf file .l) (headerOf file .p) (usableBits file) → ⊥) → Refuses answer
+      tell taken e unfit = absurd (unfit (exact .0 e))
+      tell (contradiction bit) e unfit = (Contradiction bit, got .answered ∙ rw e, inl refl)
+      tell (beyond bit) e unfit = (Beyond bit, got .answered ∙ rw e, inr refl)
+
+      none : (Fits (headerOf file .n) (headerOf file .l) (headerOf file .p) (usableBits file) → ⊥) → Refuses answer
+      none unfit = tell (got .verdict) refl unfit

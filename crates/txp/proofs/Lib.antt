@@ -1,0 +1,6 @@
+pub mod Headers
+pub mod Files
+pub mod CallLaws
+pub mod Decided
+pub mod Demands
+pub mod Samples

@@ -1,0 +1,108 @@
+-- The calls on a file: what they check, what they answer, and what is lent to them holds afterwards (document 01, "Numbers for no").
+use Prim.Native.Nat.{ℕ, _+_, _-_, _/_, _%_, _^_}
+use mathlib.Core.Path.{_≡_}
+use mathlib.Core.Bool.{Bool, true, _&&_, cond}
+use mathlib.Core.List.{List, [], _∷_}
+use lib.Dec.{leb, eqb}
+use lib.IntN.{ℤ}
+use lib.ListN.{length, getD}
+use Rattle.refusals.specs.declared.Refusal.the-variants.{Side, Levels, Lent, Letters, Version, Planes, Surplus, Padding, Contradiction, Beyond}
+use Rattle.refusals.specs.declared.Outcome.{Outcome}
+use Rattle.refusals.specs.declared.Outcome.the-variants as outcome
+use Rattle.refusals.specs.Checks.{Check, need, firstOf}
+use Rattle.sizes.specs.Sizes.{allOf, sideFits, levelsFit, mostPlanes}
+use Rattle.bits.specs.Bits.{bytesFor}
+use Rattle.coef.specs.Coef.{planesOf}
+use Rattle.nls.specs.Reading.{planesFinished, worstError}
+use Rattle.nls.specs.Judging.{Verdict, taken, contradiction, beyond, Judged}
+use Rattle.coder.specs.Body as body
+use Rattle.coder.specs.Body.{sentBits, Tables, ownTables, over}
+use Rattle.coder.specs.declared.body.DecodeAnswer as answer
+use Rattle.coder.specs.declared.body.DecodeAnswer.the-variants as read
+use Rattle.txp.specs.declared.Header.{Header}
+use Rattle.txp.specs.declared.EncodeAnswer.{EncodeAnswer}
+use Rattle.txp.specs.declared.EncodeAnswer.the-variants as encode
+use Rattle.txp.specs.declared.DecodeAnswer.{DecodeAnswer}
+use Rattle.txp.specs.declared.DecodeAnswer.the-variants as decode
+use Rattle.txp.specs.Header.{headerSize, lettersFit, versionFits, headerOf, bodyOf}
+use Rattle.txp.specs.File.{usableBits}
+
+-- ---- encoding
+
+-- "Encoding checks 1 to 6 in that order": those of its body, which begins behind the header
+abbrev pub encodeChecks : ℕ → ℕ → List ℤ → ℕ → ℕ → ℕ → ℕ → ℕ → List Check
+encodeChecks N L A descs grands marks out budget = body.encodeChecks N L A descs grands marks out headerSize budget
+
+abbrev pub encodeAnswer : ℕ → ℕ → List ℤ → ℕ → Outcome → EncodeAnswer
+encodeAnswer N L A budget outcome.Done =
+    encode.Done (record { planes = planesOf A; bits = length (sentBits N L A budget); bytes = headerSize + bytesFor (length (sentBits N L A budget)) })
+encodeAnswer N L A budget (outcome.Refused why) = encode.Refused why
+
+abbrev pub encodeEnd : EncodeAnswer → Outcome
+encodeEnd (encode.Done written) = outcome.Done
+encodeEnd (encode.Refused why) = outcome.Refused why
+
+-- ---- decoding: "7, 8, 1, 2, 9, 10, 11, 5, then 12 or 13, whichever bit comes first"
+
+-- "11: all body bytes present, padding not 0": the bits of the last byte below the last declared one
+unfoldable pub paddingFits : ℕ → List ℕ → Bool
+paddingFits declared body =
+    cond (eqb (length body) (bytesFor declared)) (eqb (getD body (declared / 8) 0 % 2 ^ (8 - declared % 8)) 0) true
+
+-- the three lent tables have room for `all` entries
+unfoldable pub roomIn : ℕ → ℕ → ℕ → ℕ → Bool
+roomIn all values precisions marks = leb all values && (leb all precisions && leb all marks)
+
+-- by the header, the body, and the lengths of the lent values, precisions and marks: 1, 2, 9, 10, 11, 5
+abbrev pub restChecks : Header → List ℕ → ℕ → ℕ → ℕ → List Check
+restChecks h body values precisions marks =
+    need (sideFits (h .n)) Side
+    ∷ need (levelsFit (h .n) (h .l)) Levels
+    ∷ need (leb (h .p) mostPlanes) Planes
+    ∷ need (leb (length body) (bytesFor (h .declared))) Surplus
+    ∷ need (paddingFits (h .declared) body) Padding
+    ∷ need (roomIn (allOf (h .n)) values precisions marks) Lent
+    ∷ []
+
+abbrev pub decodeChecks : List ℕ → ℕ → ℕ → ℕ → List Check
+decodeChecks file values precisions marks =
+    need (lettersFit file) Letters ∷ need (versionFits file) Version
+    ∷ restChecks (headerOf file) (bodyOf file) values precisions marks
+
+-- by the header, the usable bits and the verdict on them
+abbrev pub decodeAnswer : Header → List Bool → Verdict → DecodeAnswer
+decodeAnswer h u taken =
+    decode.Done
+    (record {
+      n = h .n;
+      l = h .l;
+      p = h .p;
+      declared = h .declared;
+      used = length u;
+      finished = planesFinished (h .n) (h .l) (h .p) u;
+      error = worstError (h .n) (h .l) (h .p) u;
+    })
+decodeAnswer h u (contradiction bit) = decode.Refused (Contradiction bit)
+decodeAnswer h u (beyond bit) = decode.Refused (Beyond bit)
+
+-- what a body's answer becomes under its header
+abbrev pub withHeader : Header → answer.DecodeAnswer → DecodeAnswer
+withHeader h (read.Done r) =
+    decode.Done (record { n = h .n; l = h .l; p = h .p; declared = h .declared; used = r .used; finished = r .finished; error = r .error })
+withHeader h (read.Refused why) = decode.Refused why
+
+-- a call whose checks all hold: the verdict on the usable bits decides the answer and the tables
+pub record DecodedFile (h : Header) (u : List Bool) (held : Tables) (answer : DecodeAnswer) (left : Tables) : Type 0 where
+  pub verdict : Verdict
+  pub judged : Judged (h .n) (h .l) (h .p) u verdict
+  pub answered : answer ≡ decodeAnswer h u verdict
+  pub filled : left ≡ over (allOf (h .n)) (ownTables (h .n) (h .l) (h .p) u verdict) held
+
+-- any call, by the outcome of the checks; "Numbers 1 to 11 touch no lent byte"
+abbrev pub DecodesTo : Outcome → Header → List Bool → Tables → DecodeAnswer → Tables → Type 0
+DecodesTo outcome.Done h u held answer left = DecodedFile h u held answer left
+DecodesTo (outcome.Refused why) h u held answer left = (answer ≡ decode.Refused why) × (left ≡ held)
+
+abbrev pub Decodes : List ℕ → Tables → DecodeAnswer → Tables → Type 0
+Decodes file held answer left =
+    DecodesTo (firstOf (decodeChecks file (length (held .values)) (length (held .precisions)) (length (held .marks)))) (headerOf file) (usableBits file) held answer left

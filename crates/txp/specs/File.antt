@@ -1,0 +1,24 @@
+-- What encoding writes, and the bits that decoding reads (document 01, "File TXP, version 1").
+use Prim.Native.Nat.{ℕ}
+use mathlib.Core.Bool.{Bool}
+use mathlib.Core.List.{List, _++_}
+use lib.IntN.{ℤ}
+use lib.ListN.{length}
+use Rattle.bits.specs.Bits.{packed}
+use Rattle.coef.specs.Coef.{planesOf}
+use Rattle.coder.specs.Body as body
+use Rattle.coder.specs.Body.{sentBits}
+use Rattle.txp.specs.declared.Header.{Header}
+use Rattle.txp.specs.Header.{headerBytes, headerOf, bodyOf}
+
+-- the header of an array's file
+abbrev pub headerFor : ℕ → ℕ → List ℤ → ℕ → Header
+headerFor N L A budget = record { n = N; l = L; p = planesOf A; declared = length (sentBits N L A budget) }
+
+-- the file: the header, then the bits that are written, packed
+abbrev pub fileOf : ℕ → ℕ → List ℤ → ℕ → List ℕ
+fileOf N L A budget = headerBytes (headerFor N L A budget) ++ packed (sentBits N L A budget)
+
+-- the usable bits of a file: of its declared bits those that are present
+abbrev pub usableBits : List ℕ → List Bool
+usableBits file = body.usableBits (headerOf file .declared) (bodyOf file)

@@ -1,0 +1,4 @@
+pub mod Header
+pub mod File
+pub mod Calls
+pub mod Samples

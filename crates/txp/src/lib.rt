@@ -1,0 +1,306 @@
+// The TXP file: its header, and the public calls.
+use refusals::Outcome;
+use refusals::Refusal;
+ghost use mathlib.Core.Path.{_≡_};
+ghost use mathlib.Core.List.{_++_};
+ghost use Prim.Native.Nat.{_<_, _≤_};
+ghost use lib.ListN.{length, getD, set, drop};
+ghost use lib.Seq.{sets};
+ghost use Rattle.refusals.specs.Checks.{firstOf, lentAfter};
+ghost use Rattle.bits.specs.Bits.{bytesFor};
+ghost use Rattle.tree.specs.Summaries.{descTable, grandTable};
+ghost use Rattle.coder.specs.Body.{sentMarks, tables};
+ghost use Rattle.txp.specs.File.{fileOf};
+ghost use Rattle.txp.specs.Calls.{encodeChecks, encodeAnswer, encodeEnd, paddingFits, roomIn, restChecks, decodeChecks, withHeader, Decodes};
+ghost use Rattle.txp.specs.Header.{bodyOf, headerSize, headerBytes, twoAt, twoBytes, lettersFit, versionFits, headerOf};
+
+// What a header says, but for letters and version.
+pub struct Header {
+    pub n: u32,
+    pub l: u32,
+    pub p: u32,
+    pub declared: u32,
+}
+
+// The planes of the array, the bits written, and the bytes of the file.
+pub struct Encoded {
+    pub planes: u32,
+    pub bits: u32,
+    pub bytes: usize,
+}
+
+// What `encode` answers.
+pub enum EncodeAnswer {
+    Done(Encoded),
+    Refused(Refusal),
+}
+
+// What the header says, the bits used, the planes finished and the worst error.
+pub struct Decoded {
+    pub n: u32,
+    pub l: u32,
+    pub p: u32,
+    pub declared: u32,
+    pub used: u32,
+    pub finished: u32,
+    pub error: u32,
+}
+
+// What `decode` answers.
+pub enum DecodeAnswer {
+    Done(Decoded),
+    Refused(Refusal),
+}
+
+// The byte at a place, 0 past the end.
+fn byte_at(file: &[u8], i: usize) -> u32
+    ensures { λ r. ⌜ (r ≡ getD (now (file .entry)) i 0) × (r < 256) ⌝ }
+{
+    if i < file.len() {
+        return file[i] as u32;
+    }
+    0
+}
+
+// The 16 bits at a place, the high byte first.
+fn two_at(file: &[u8], i: usize) -> u32
+    requires { ⌜ i < 4096 ⌝ }
+    ensures { λ r. ⌜ (r ≡ twoAt (now (file .entry)) i) × (r < 65536) ⌝ }
+{
+    let high = byte_at(file, i);
+    let low = byte_at(file, i + 1);
+    high * 256 + low
+}
+
+// The condition of refusal 7.
+fn letters_fit(file: &[u8]) -> bool
+    ensures { λ r. ⌜ r ≡ lettersFit (now (file .entry)) ⌝ }
+{
+    if file.len() < 12 {
+        return false;
+    }
+    if byte_at(file, 0) != 0x54 {
+        return false;
+    }
+    if byte_at(file, 1) != 0x58 {
+        return false;
+    }
+    byte_at(file, 2) == 0x50
+}
+
+// The condition of refusal 8.
+fn version_fits(file: &[u8]) -> bool
+    ensures { λ r. ⌜ r ≡ versionFits (now (file .entry)) ⌝ }
+{
+    two_at(file, 3) == 1
+}
+
+// What the header says.
+fn header_of(file: &[u8]) -> Header
+    ensures { λ r. ⌜ r ≡ headerOf (now (file .entry)) ⌝ }
+{
+    let n = byte_at(file, 5);
+    let l = byte_at(file, 6);
+    let p = byte_at(file, 7);
+    let high = two_at(file, 8);
+    let low = two_at(file, 10);
+    Header {
+        n,
+        l,
+        p,
+        declared: high * 65536 + low,
+    }
+}
+
+// Puts a byte at a place; past the end it does nothing.
+fn put_byte(out: &mut [u8], i: usize, x: u32)
+    requires { ⌜ x < 256 ⌝ }
+    ensures { λ _. ⌜ now (out .exit) ≡ set (now (out .entry)) i x ⌝ }
+{
+    if i < out.len() {
+        out[i] = x as u8;
+    }
+}
+
+// Puts 16 bits at a place, the high byte first.
+fn put_two(out: &mut [u8], i: usize, x: u32)
+    requires { ⌜ i < 4096 ⌝ }
+    ensures { λ _. ⌜ now (out .exit) ≡ sets (now (out .entry)) i (twoBytes x) ⌝ }
+{
+    put_byte(out, i, x / 256 % 256);
+    put_byte(out, i + 1, x % 256);
+}
+
+// Writes the header into the first 12 bytes.
+fn put_header(out: &mut [u8], h: Header)
+    requires { ⌜ (headerSize ≤ length (now out)) × (h .n < 256) × (h .l < 256) × (h .p < 256) ⌝ }
+    ensures { λ _. ⌜ now (out .exit) ≡ headerBytes h ++ drop headerSize (now (out .entry)) ⌝ }
+{
+    put_byte(out, 0, 0x54);
+    put_byte(out, 1, 0x58);
+    put_byte(out, 2, 0x50);
+    put_two(out, 3, 1);
+    put_byte(out, 5, h.n);
+    put_byte(out, 6, h.l);
+    put_byte(out, 7, h.p);
+    let declared = h.declared;
+    put_two(out, 8, declared / 65536);
+    put_two(out, 10, declared % 65536);
+}
+
+// The bytes that some bits fill, in 64 bits: the sum with 7 does not wrap.
+fn bytes_for(bits: u32) -> usize
+    ensures { λ r. ⌜ r ≡ bytesFor bits ⌝ }
+{
+    (bits as usize + 7) / 8
+}
+
+// The condition of refusal 11.
+fn padding_fits(file: &[u8], declared: u32) -> bool
+    requires { ⌜ headerSize ≤ length (now file) ⌝ }
+    ensures { λ r. ⌜ r ≡ paddingFits declared (bodyOf (now (file .entry))) ⌝ }
+{
+    if file.len() - 12 == bytes_for(declared) {
+        let last = byte_at(file, 12 + declared as usize / 8);
+        return last % (1u32 << (8 - declared % 8)) == 0;
+    }
+    true
+}
+
+// Whether three lent tables have room for this many entries.
+fn room_in(all: usize, values: usize, precisions: usize, marks: usize) -> bool
+    ensures { λ r. ⌜ r ≡ roomIn all values precisions marks ⌝ }
+{
+    if values < all {
+        return false;
+    }
+    if precisions < all {
+        return false;
+    }
+    all <= marks
+}
+
+// The checks behind letters and version, in their order: 1, 2, 9, 10, 11, 5.
+fn check_rest(h: Header, file: &[u8], values: usize, precisions: usize, marks: usize) -> Outcome
+    requires { ⌜ headerSize ≤ length (now file) ⌝ }
+    ensures { λ r. ⌜ r ≡ firstOf (restChecks h (bodyOf (now (file .entry))) values precisions marks) ⌝ }
+{
+    if !sizes::side_fits(h.n) {
+        return Outcome::Refused(Refusal::Side);
+    }
+    if !sizes::levels_fit(h.n, h.l) {
+        return Outcome::Refused(Refusal::Levels);
+    }
+    if sizes::MOST_PLANES < h.p {
+        return Outcome::Refused(Refusal::Planes);
+    }
+    if bytes_for(h.declared) < file.len() - 12 {
+        return Outcome::Refused(Refusal::Surplus);
+    }
+    if !padding_fits(file, h.declared) {
+        return Outcome::Refused(Refusal::Padding);
+    }
+    if !room_in(sizes::all_of(h.n), values, precisions, marks) {
+        return Outcome::Refused(Refusal::Lent);
+    }
+    Outcome::Done
+}
+
+// The checks of decoding but for 12 and 13, in their order.
+fn check_decode(file: &[u8], values: usize, precisions: usize, marks: usize) -> Outcome
+    ensures { λ r. ⌜ r ≡ firstOf (decodeChecks (now (file .entry)) values precisions marks) ⌝ }
+{
+    if !letters_fit(file) {
+        return Outcome::Refused(Refusal::Letters);
+    }
+    if !version_fits(file) {
+        return Outcome::Refused(Refusal::Version);
+    }
+    let h = header_of(file);
+    check_rest(h, file, values, precisions, marks)
+}
+
+// Writes the file of a linear array of coefficients, with at most `budget` bits in its body.
+// The tables are filled from whatever they held: I/4, I/16 and I entries.
+pub fn encode(
+    n: u32,
+    l: u32,
+    coefs: &[i32],
+    desc: &mut [u32],
+    grand: &mut [u32],
+    marks: &mut [u8],
+    out: &mut [u8],
+    budget: u32,
+) -> EncodeAnswer
+    ensures answer { λ r. ⌜ r ≡ encodeAnswer n l (now (coefs .entry)) budget (firstOf (encodeChecks n l (now (coefs .entry)) (length (now (desc .entry))) (length (now (grand .entry))) (length (now (marks .entry))) (length (now (out .entry))) budget)) ⌝ }
+    ensures descs { λ r. ⌜ now (desc .exit) ≡ lentAfter (encodeEnd r) (descTable n l (now (coefs .entry))) (now (desc .entry)) ⌝ }
+    ensures grands { λ r. ⌜ now (grand .exit) ≡ lentAfter (encodeEnd r) (grandTable n l (now (coefs .entry))) (now (grand .entry)) ⌝ }
+    ensures marked { λ r. ⌜ now (marks .exit) ≡ lentAfter (encodeEnd r) (sentMarks n l (now (coefs .entry)) budget) (now (marks .entry)) ⌝ }
+    ensures written { λ r. ⌜ now (out .exit) ≡ lentAfter (encodeEnd r) (fileOf n l (now (coefs .entry)) budget) (now (out .entry)) ⌝ }
+{
+    let body = coder::encode(n, l, coefs, desc, grand, marks, out, 12, budget);
+    match body {
+        coder::EncodeAnswer::Done(written) => {
+            let h = Header {
+                n,
+                l,
+                p: written.planes,
+                declared: written.bits,
+            };
+            put_header(out, h);
+            EncodeAnswer::Done(Encoded {
+                planes: written.planes,
+                bits: written.bits,
+                bytes: 12 + bytes_for(written.bits),
+            })
+        }
+        coder::EncodeAnswer::Refused(why) => EncodeAnswer::Refused(why),
+    }
+}
+
+// The answer on a body under its header.
+fn with_header(h: Header, body: coder::DecodeAnswer) -> DecodeAnswer
+    ensures { λ r. ⌜ r ≡ withHeader h body ⌝ }
+{
+    match body {
+        coder::DecodeAnswer::Done(read) => DecodeAnswer::Done(Decoded {
+            n: h.n,
+            l: h.l,
+            p: h.p,
+            declared: h.declared,
+            used: read.used,
+            finished: read.finished,
+            error: read.error,
+        }),
+        coder::DecodeAnswer::Refused(why) => DecodeAnswer::Refused(why),
+    }
+}
+
+// Reads a file, whole or cut, into the three tables: I entries each.
+pub fn decode(
+    file: &[u8],
+    values: &mut [i32],
+    precisions: &mut [u8],
+    marks: &mut [u8],
+) -> DecodeAnswer
+    ensures { λ r. ⌜ Decodes (now (file .entry)) (tables (now (values .entry)) (now (precisions .entry)) (now (marks .entry))) r (tables (now (values .exit)) (now (precisions .exit)) (now (marks .exit))) ⌝ }
+{
+    let checked = check_decode(file, values.len(), precisions.len(), marks.len());
+    match checked {
+        Outcome::Done => {
+            let h = header_of(file);
+            let body = coder::decode(
+                h.n,
+                h.l,
+                h.p,
+                &file[12..],
+                h.declared,
+                values,
+                precisions,
+                marks,
+            );
+            with_header(h, body)
+        }
+        Outcome::Refused(why) => DecodeAnswer::Refused(why),
+    }
+}
