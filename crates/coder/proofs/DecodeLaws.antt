@@ -47,7 +47,7 @@ module _ (N L P values precisions marks : ℕ) (ready : ReadReady N L P values p
       pub used : n ≡ usable
       pub marked : m ≡ after N L P (bitsOf usable body) .marks
       pub valued : v ≡ known N L P (bitsOf usable body) .bits
-      pub known : p ≡ Rattle.nls.specs.Reading.known N L P (bitsOf usable body) .planes
+      pub planed : p ≡ known N L P (bitsOf usable body) .planes
       pub lefts : left ≡ lastPlane N L P (bitsOf usable body)
 
     abbrev pub Ends : Verdict → Type 0
@@ -91,7 +91,7 @@ module _ (N L P values precisions marks : ℕ) (ready : ReadReady N L P values p
             used = count ∙ c;
             marked = h .marked ∙ ap (λ (x : Ran (Sv Read)). last x .marks) same ∙ d;
             valued = h .valued ∙ ap (λ (x : Ran (Sv Read)). last x .rest .known .bits) same ∙ ap (λ (k : Known). k .bits) e;
-            known = h .known ∙ ap (λ (x : Ran (Sv Read)). last x .rest .known .planes) same ∙ ap (λ (k : Known). k .planes) e;
+            planed = h .known ∙ ap (λ (x : Ran (Sv Read)). last x .rest .known .planes) same ∙ ap (λ (k : Known). k .planes) e;
             lefts = lefts ∙ f;
           },
         )
@@ -152,7 +152,7 @@ module _ (N L P values precisions marks : ℕ) (ready : ReadReady N L P values p
 
       -- what the final pass asks
       pub in-range : (i : ℕ) → i < allOf N → magnitude (valueBy midpoint (min (getD p i 0) left) (at v i)) ≤ limit
-      in-range i h = rw (t .valued, t .known, t .lefts) (omega (arith, value-range N L P (bitsOf usable body) midpoint midpoint-between i h, pow-mono {i = P} {j = mostPlanes} (ready .planes)))
+      in-range i h = rw (t .valued, t .planed, t .lefts) (omega (arith, value-range N L P (bitsOf usable body) midpoint midpoint-between i h, pow-mono {i = P} {j = mostPlanes} (ready .planes)))
 
       -- 2^left as the machine shifts it
       pub power : (1 * 2 ^ left) % 4294967296 ≡ 2 ^ left
@@ -172,8 +172,8 @@ module _ (N L P values precisions marks : ℕ) (ready : ReadReady N L P values p
             answered = λ i. Done (record { used = used i; finished = P - t .lefts i; error = error i });
             filled =
                 same-tables w _ q _ m _
-                (ew ∙ rw (es, t .valued, t .known, t .lefts) (sym (whole (allOf N) _ (held .values) hv)))
-                (eq ∙ rw (eps, t .known, t .lefts) (sym (whole (allOf N) _ (held .precisions) hp)))
+                (ew ∙ rw (es, t .valued, t .planed, t .lefts) (sym (whole (allOf N) _ (held .values) hv)))
+                (eq ∙ rw (eps, t .planed, t .lefts) (sym (whole (allOf N) _ (held .precisions) hp)))
                 (t .marked ∙ sym (whole (allOf N) _ (held .marks) hm));
           }
         where
