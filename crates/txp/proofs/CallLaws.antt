@@ -1,10 +1,9 @@
 -- What the checks of a call say where they are passed, and what the call then leaves.
 use mathlib.Core.Path.{_≡_, refl, sym, ap, subst, _∙_}
-use mathlib.Core.Bool.{Bool, true}
+use mathlib.Core.Bool.{Bool}
 use mathlib.Core.List.{List, [], _++_, append-assoc}
-use Prim.Native.Nat.{ℕ, _+_, min, _≤_, _<_}
+use Prim.Native.Nat.{ℕ, _+_, _-_, _≤_, _<_}
 use native.Mathlib.Omega.{arith}
-use borrow.Author.Tests.{eqb-true, leb-true}
 use lib.IntN.{ℤ}
 use lib.ListN.{length, take, drop, length-append}
 use lib.Seq.{drop-at, length-take-le}
@@ -13,19 +12,20 @@ use Rattle.refusals.specs.declared.Refusal.{Refusal}
 use Rattle.refusals.specs.declared.Outcome.{Outcome}
 use Rattle.refusals.specs.declared.Outcome.the-variants.{Done, Refused}
 use Rattle.refusals.proofs.Laws.{AllHold, passed, all-pass}
-use Rattle.sizes.specs.Sizes.{allOf, sideFits, levelsFit, mostPlanes, Sized}
+use Rattle.sizes.specs.Sizes.{allOf, mostPlanes, Sized}
 use Rattle.sizes.proofs.Laws.{side-most, sized}
 use Rattle.bits.specs.Bits.{bytesFor, packed}
-use Rattle.coef.specs.Coef.{planesOf, firstOver}
+use Rattle.coef.specs.Coef.{planesOf}
 use Rattle.coef.proofs.Laws.{planes-of, planes-most, first-all}
-use Rattle.nls.specs.Stream.{worstBody}
 use Rattle.nls.specs.Judging.{Verdict, taken, contradiction, beyond}
 use Rattle.coder.specs.Body as body
 use Rattle.coder.specs.Body.{sentBits, outputAfter, Tables}
+use Rattle.coder.specs.Calls.{EncodeReady}
 use Rattle.coder.specs.declared.body.Written.{Written}
 use Rattle.coder.specs.declared.body.EncodeAnswer as written
 use Rattle.coder.specs.declared.body.EncodeAnswer.the-variants as wrote
 use Rattle.coder.specs.declared.body.DecodeAnswer as answer
+use Rattle.coder.proofs.CheckLaws.{encode-ready}
 use Rattle.txp.specs.declared.Header.{Header}
 use Rattle.txp.specs.declared.EncodeAnswer.the-variants as encode
 use Rattle.txp.specs.declared.DecodeAnswer.the-variants as decode
@@ -35,27 +35,6 @@ use Rattle.txp.specs.Calls.{encodeChecks, encodeAnswer, roomIn, decodeCh
 use Rattle.txp.proofs.Headers.{header-length, letters-room}
 
 -- ---- encoding
-
--- what the checks of encoding say
-pub record Encodes (N L : ℕ) (A : List ℤ) (out budget : ℕ) : Type 0 where
-  pub side : sideFits N ≡ true
-  pub levels : levelsFit N L ≡ true
-  pub size : length A ≡ allOf N
-  pub limited : firstOver A ≡ length A
-  pub room : headerSize + bytesFor (min budget (worstBody N L (planesOf A))) ≤ out
-
-pub encodes : (N L : ℕ) (A : List ℤ) (descs grands marks out budget : ℕ)
-    → firstOf (encodeChecks N L A descs grands marks out budget) ≡ Done → Encodes N L A out budget
-unfolding AllHold
-encodes N L A descs grands marks out budget done =
-    let all = passed (encodeChecks N L A descs grands marks out budget) done in
-    record {
-      side = all .0;
-      levels = all .1 .0;
-      size = eqb-true (length A) (allOf N) (all .1 .1 .0);
-      limited = eqb-true (firstOver A) (length A) (all .1 .1 .1 .0);
-      room = leb-true (headerSize + bytesFor (min budget (worstBody N L (planesOf A)))) out (all .1 .1 .1 .1 .1 .0);
-    }
 
 -- the answer on the body tells the outcome of the checks
 end-of : (N L : ℕ) (A : List ℤ) (budget : ℕ) (o : Outcome) → body.encodeEnd (body.encodeAnswer N L A budget o) ≡ o
@@ -87,8 +66,8 @@ module _ (N L : ℕ) (A : List ℤ) (descs grands marks budget : ℕ) (held : Li
     all-hold : firstOf (encodeChecks N L A descs grands marks (length held) budget) ≡ Done
     all-hold = outcome ∙ ap body.encodeEnd done
 
-    so : Encodes N L A (length held) budget
-    so = encodes N L A descs grands marks (length held) budget all-hold
+    so : EncodeReady N L A descs grands (length held - headerSize) budget × (allOf N ≤ marks) × (headerSize ≤ length held)
+    so = encode-ready N L A descs grands marks (length held) headerSize budget (sym all-hold)
 
     -- the planes and the bits are the array's
     says : w ≡ record { planes = planesOf A; bits = length (sentBits N L A budget) }
@@ -106,16 +85,16 @@ module _ (N L : ℕ) (A : List ℤ) (descs grands marks budget : ℕ) (held : Li
       behind = wrote ∙ rw done
 
       first : length (take headerSize held) ≡ headerSize
-      first = length-take-le headerSize held (omega (arith, so .room))
+      first = length-take-le headerSize held (so .2)
 
       -- what putting the header asks
       pub header-fits : (headerSize ≤ length left) × (N < 256) × (L < 256) × (w .planes < 256)
       header-fits =
-          let few : planesOf A ≤ mostPlanes = planes-most (planes-of A) (first-all A (so .limited)) in
-          let z = sized N L (so .levels) in (
+          let few : planesOf A ≤ mostPlanes = planes-most (planes-of A) (first-all A (so .0 .limited)) in
+          let z = sized N L (so .0 .levels) in (
             omega (arith, ap {B = ℕ} length behind, length-append (take headerSize held) (packed (sentBits N L A budget) ++ drop (headerSize + length (packed (sentBits N L A budget))) held), first),
-            omega (arith, side-most N (so .side)),
-            omega (arith, side-most N (so .side), z .most),
+            omega (arith, side-most N (so .0 .side)),
+            omega (arith, side-most N (so .0 .side), z .most),
             omega (arith, few, ap {B = ℕ} (λ (x : Written). x .planes) says),
           )
 

@@ -3,7 +3,7 @@ use mathlib.Core.Path.{_≡_, refl, sym, ap, subst, _∙_}
 use mathlib.Core.Bool.{Bool, true}
 use mathlib.Core.Logic.{_⊎_, inl, inr}
 use mathlib.Core.List.{List, [], _∷_, _++_}
-use Prim.Native.Nat.{ℕ, zero, suc, _+_, _*_, _^_, min, _≤_, _<_}
+use Prim.Native.Nat.{ℕ, zero, suc, _+_, _-_, _*_, _^_, min, _≤_, _<_}
 use native.Mathlib.Omega.{arith}
 use borrow.Author.Tests.{le-leb, lt-leb}
 use lib.IntN.{ℤ, natAbs, _-ℤ_}
@@ -27,6 +27,8 @@ use Rattle.nls.specs.Reading.{midpoint, valueBy, highBits, precisionAt, valuesB
 use Rattle.nls.specs.Judging.{Begins, Fits, Verdict, taken, contradiction, beyond}
 use Rattle.nls.proofs.Demands as scan
 use Rattle.coder.specs.Body.{sentBits, sentMarks, Tables, tables, ownTables, over}
+use Rattle.coder.specs.Calls.{EncodeReady}
+use Rattle.coder.proofs.CheckLaws.{encode-ready}
 use Rattle.txp.specs.declared.Header.{Header}
 use Rattle.txp.specs.declared.Encoded.{Encoded}
 use Rattle.txp.specs.declared.EncodeAnswer.{EncodeAnswer}
@@ -39,7 +41,7 @@ use Rattle.txp.specs.Calls.{encodeChecks, encodeAnswer, encodeEnd, roomI
 use Rattle.txp.proofs.Headers as headers
 use Rattle.txp.proofs.Headers.{header-length, letters-read, version-read, header-read, body-read}
 use Rattle.txp.proofs.Files.{cut-file, cut-bits, all-bits, no-surplus, padding-zero}
-use Rattle.txp.proofs.CallLaws.{Encodes, encodes, in-range}
+use Rattle.txp.proofs.CallLaws.{in-range}
 
 -- what is left of a list after two cuts begins it
 prefix : (m n : ℕ) (s : List Bool) → take (length (take m (take n s))) s ≡ take m (take n s)
@@ -164,8 +166,8 @@ module _ (N L : ℕ) (A : List ℤ) (budget : ℕ) (narrow : budget < 2 ^ 32) (d
       let bad : _≡_ {A = ℕ} 0 1 = cc in
       absurd (omega arith)
 
-  so : Encodes N L A (length out) budget
-  so = encodes N L A descs grands marks (length out) budget (told (firstOf (encodeChecks N L A descs grands marks (length out) budget)) (sym done ∙ answers) .0)
+  so : EncodeReady N L A descs grands (length out - headerSize) budget
+  so = encode-ready N L A descs grands marks (length out) headerSize budget (sym (told (firstOf (encodeChecks N L A descs grands marks (length out) budget)) (sym done ∙ answers) .0)) .0
 
   says : e ≡ record { planes = planesOf A; bits = length (sentBits N L A budget); bytes = headerSize + bytesFor (length (sentBits N L A budget)) }
   says = told (firstOf (encodeChecks N L A descs grands marks (length out) budget)) (sym done ∙ answers) .1
@@ -173,7 +175,7 @@ module _ (N L : ℕ) (A : List ℤ) (budget : ℕ) (narrow : budget < 2 ^ 32) (d
   pub file-stands : take (e .bytes) left ≡ fileOf N L A budget
   file-stands =
       let n : e .bytes ≡ length (fileOf N L A budget) =
-      ap {B = ℕ} (λ (x : Encoded). x .bytes) says ∙ sym (file-length N L (so .side) (so .levels) A (so .size) (so .limited) budget narrow) in
+      ap {B = ℕ} (λ (x : Encoded). x .bytes) says ∙ sym (file-length N L (so .side) (so .levels) A (so .whole) (so .limited) budget narrow) in
       let begins : left ≡ fileOf N L A budget ++ drop (length (fileOf N L A budget)) out = leaves ∙ rw done in
       rw (begins, n) (take-at (fileOf N L A budget) (drop (length (fileOf N L A budget)) out) (length (fileOf N L A budget)) refl)
 
@@ -188,8 +190,8 @@ module _ (N L : ℕ) (A : List ℤ) (budget : ℕ) (narrow : budget < 2 ^ 32) (d
     cut-given k d =
         let cut : take (headerSize + k) (take (e .bytes) left) ≡ take (headerSize + k) (fileOf N L A budget) = ap (λ (s : List ℕ). take (headerSize + k) s) file-stands in
         let t =
-        cut-taken N L (so .side) (so .levels) A (so .size) (so .limited) budget narrow k held after answer room (subst (λ (f : List ℕ). Decodes f held answer after) cut d) in
-        rw cut (t .0, t .1, cut-begins N L (so .side) (so .levels) A (so .size) (so .limited) budget narrow k)
+        cut-taken N L (so .side) (so .levels) A (so .whole) (so .limited) budget narrow k held after answer room (subst (λ (f : List ℕ). Decodes f held answer after) cut d) in
+        rw cut (t .0, t .1, cut-begins N L (so .side) (so .levels) A (so .whole) (so .limited) budget narrow k)
 
     -- WHOLE, where the budget cut nothing: the array, precisions 0, the encoder's marks; all planes finished, worst error 0
     pub given-back : length (stream N L (planesOf A) A) ≤ budget → Decodes (take (e .bytes) left) held answer after
@@ -202,16 +204,16 @@ module _ (N L : ℕ) (A : List ℤ) (budget : ℕ) (narrow : budget < 2 ^ 32) (d
         let k : ℕ = bytesFor (length u) in
         let z : Sized N L = sized N L (so .levels) in
         let uncut : take (headerSize + k) file ≡ file =
-        take-all (headerSize + k) file (omega (arith, file-length N L (so .side) (so .levels) A (so .size) (so .limited) budget narrow)) in
+        take-all (headerSize + k) file (omega (arith, file-length N L (so .side) (so .levels) A (so .whole) (so .limited) budget narrow)) in
         let t =
-        cut-taken N L (so .side) (so .levels) A (so .size) (so .limited) budget narrow k held after answer room
+        cut-taken N L (so .side) (so .levels) A (so .whole) (so .limited) budget narrow k held after answer room
         (subst (λ (f : List ℕ). Decodes f held answer after) (file-stands ∙ sym uncut) d) in
-        let bits : usableBits (take (headerSize + k) file) ≡ u = ap usableBits uncut ∙ written-bits N L (so .side) (so .levels) A (so .size) (so .limited) budget narrow in
+        let bits : usableBits (take (headerSize + k) file) ≡ u = ap usableBits uncut ∙ written-bits N L (so .side) (so .levels) A (so .whole) (so .limited) budget narrow in
         let whole : u ≡ stream N L P A = take-all budget (stream N L P A) h in
-        let finished : planesFinished N L P u ≡ P = ap (λ (v : List Bool). planesFinished N L P v) whole ∙ scan.whole-finished N L P z A (so .size) (planes-of A) in
-        let error : worstError N L P u ≡ 0 = ap (λ (v : List Bool). worstError N L P v) whole ∙ scan.whole-error N L P z A (so .size) (planes-of A) in
-        let values : valuesBy N L P u midpoint ≡ A = ap (λ (v : List Bool). valuesBy N L P v midpoint) whole ∙ scan.whole N L P z A (so .size) (planes-of A) in
-        let exact : precisions N L P u ≡ replicate (allOf N) 0 = ap (λ (v : List Bool). precisions N L P v) whole ∙ scan.whole-precisions N L P z A (so .size) (planes-of A) in
+        let finished : planesFinished N L P u ≡ P = ap (λ (v : List Bool). planesFinished N L P v) whole ∙ scan.whole-finished N L P z A (so .whole) (planes-of A) in
+        let error : worstError N L P u ≡ 0 = ap (λ (v : List Bool). worstError N L P v) whole ∙ scan.whole-error N L P z A (so .whole) (planes-of A) in
+        let values : valuesBy N L P u midpoint ≡ A = ap (λ (v : List Bool). valuesBy N L P v midpoint) whole ∙ scan.whole N L P z A (so .whole) (planes-of A) in
+        let exact : precisions N L P u ≡ replicate (allOf N) 0 = ap (λ (v : List Bool). precisions N L P v) whole ∙ scan.whole-precisions N L P z A (so .whole) (planes-of A) in
         let answered : decodeAnswer (headerFor N L A budget) u taken ≡ decode.Done (record { n = N; l = L; p = e .planes; declared = e .bits; used = e .bits; finished = e .planes; error = 0 }) =
         rw says cc in
         let filled : ownTables N L P u taken ≡ tables A (replicate (allOf N) 0) (sentMarks N L A budget) = cc in (

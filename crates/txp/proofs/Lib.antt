@@ -1,5 +1,6 @@
 pub mod Headers
 pub mod Files
+pub mod CheckLaws
 pub mod CallLaws
 pub mod Decided
 pub mod Demands
