@@ -14,6 +14,9 @@ ghost use Rattle.txp.specs.File.{fileOf};
 ghost use Rattle.txp.specs.Calls.{encodeChecks, encodeAnswer, encodeEnd, paddingFits, roomIn, restChecks, decodeChecks, withHeader, Decodes};
 ghost use Rattle.txp.specs.Header.{bodyOf, headerSize, headerBytes, twoAt, twoBytes, lettersFit, versionFits, headerOf};
 
+// The bytes before the body.
+pub const HEADER_SIZE: usize = 12;
+
 // What a header says, but for letters and version.
 pub struct Header {
     pub n: u32,
@@ -76,7 +79,7 @@ fn two_at(file: &[u8], i: usize) -> u32
 fn letters_fit(file: &[u8]) -> bool
     ensures { λ r. ⌜ r ≡ lettersFit (now (file .entry)) ⌝ }
 {
-    if file.len() < 12 {
+    if file.len() < HEADER_SIZE {
         return false;
     }
     if byte_at(file, 0) != 0x54 {
@@ -160,8 +163,8 @@ fn padding_fits(file: &[u8], declared: u32) -> bool
     requires { ⌜ headerSize ≤ length (now file) ⌝ }
     ensures { λ r. ⌜ r ≡ paddingFits declared (bodyOf (now (file .entry))) ⌝ }
 {
-    if file.len() - 12 == bytes_for(declared) {
-        let last = byte_at(file, 12 + declared as usize / 8);
+    if file.len() - HEADER_SIZE == bytes_for(declared) {
+        let last = byte_at(file, HEADER_SIZE + declared as usize / 8);
         return last % (1u32 << (8 - declared % 8)) == 0;
     }
     true
@@ -194,7 +197,7 @@ fn check_rest(h: Header, file: &[u8], values: usize, precisions: usize, marks: u
     if sizes::MOST_PLANES < h.p {
         return Outcome::Refused(Refusal::Planes);
     }
-    if bytes_for(h.declared) < file.len() - 12 {
+    if bytes_for(h.declared) < file.len() - HEADER_SIZE {
         return Outcome::Refused(Refusal::Surplus);
     }
     if !padding_fits(file, h.declared) {
@@ -238,7 +241,7 @@ pub fn encode(
     ensures marked { λ r. ⌜ now (marks .exit) ≡ lentAfter (encodeEnd r) (sentMarks n l (now (coefs .entry)) budget) (now (marks .entry)) ⌝ }
     ensures written { λ r. ⌜ now (out .exit) ≡ lentAfter (encodeEnd r) (fileOf n l (now (coefs .entry)) budget) (now (out .entry)) ⌝ }
 {
-    let body = coder::encode(n, l, coefs, desc, grand, marks, out, 12, budget);
+    let body = coder::encode(n, l, coefs, desc, grand, marks, out, HEADER_SIZE, budget);
     match body {
         coder::EncodeAnswer::Done(written) => {
             let h = Header {
@@ -251,7 +254,7 @@ pub fn encode(
             EncodeAnswer::Done(Encoded {
                 planes: written.planes,
                 bits: written.bits,
-                bytes: 12 + bytes_for(written.bits),
+                bytes: HEADER_SIZE + bytes_for(written.bits),
             })
         }
         coder::EncodeAnswer::Refused(why) => EncodeAnswer::Refused(why),
@@ -293,7 +296,7 @@ pub fn decode(
                 h.n,
                 h.l,
                 h.p,
-                &file[12..],
+                &file[HEADER_SIZE..],
                 h.declared,
                 values,
                 precisions,

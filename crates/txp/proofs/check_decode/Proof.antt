@@ -27,11 +27,15 @@ header-of-requires : tie.Need-header-of-requires
 header-of-requires c κs = search needs
 
 check-rest-requires : tie.Need-check-rest-requires
-check-rest-requires c κs = letters-room (c .before .before .before .before .before .before .args .file .now) (sym (c .before .before .before .before .letters-fit .ensures) ∙ not-false (c .before .before .before .before .letters-fit .result) (c .before .before .before .if1 .left))
+check-rest-requires c κs =
+    let a = c .before .before .before .before .before .before .args in
+    letters-room (a .file .now) (sym (c .before .before .before .before .letters-fit .ensures) ∙ not-false (c .before .before .before .before .letters-fit .result) (c .before .before .before .if1 .left))
 
 returns-3 : tie.Need-returns-3
 unfolding firstOf
-returns-3 c = rw (sym (c .before .before .before .before .before .letters-fit .ensures) ∙ not-false (c .before .before .before .before .before .letters-fit .result) (c .before .before .before .before .if1 .left), sym (c .before .before .before .version-fits .ensures) ∙ not-false (c .before .before .before .version-fits .result) (c .before .before .if2 .left)) (c .check-rest .ensures ∙ ap (λ (h : Header). firstOf (restChecks h (bodyOf (c .before .before .before .before .before .before .before .args .file .now)) (c .before .before .before .before .before .before .before .args .values) (c .before .before .before .before .before .before .before .args .precisions) (c .before .before .before .before .before .before .before .args .marks))) (c .before .header-of .ensures))
+returns-3 c =
+    let a = c .before .before .before .before .before .before .before .args in
+    rw (sym (c .before .before .before .before .before .letters-fit .ensures) ∙ not-false (c .before .before .before .before .before .letters-fit .result) (c .before .before .before .before .if1 .left), sym (c .before .before .before .version-fits .ensures) ∙ not-false (c .before .before .before .version-fits .result) (c .before .before .if2 .left)) (c .check-rest .ensures ∙ ap (λ (h : Header). firstOf (restChecks h (bodyOf (a .file .now)) (a .values) (a .precisions) (a .marks))) (c .before .header-of .ensures))
 
 pub check-decode-spec : {M : Type 1} → statement M
 check-decode-spec =

@@ -30,22 +30,26 @@ shl-result : tie.Need-shl-result
 shl-result c = search needs
 
 rem-result : tie.Need-rem-result
-rem-result c = rw (low-power (c .before .before .before .before .args .declared % 8)) (pow-pos (8 - c .before .before .before .before .args .declared % 8))
+rem-result c =
+    let a = c .before .before .before .before .args in
+    rw (low-power (a .declared % 8)) (pow-pos (8 - a .declared % 8))
 
 returns : tie.Need-returns
 unfolding paddingFits
 returns c =
-    let same : c .byte-at .result ≡ getD (bodyOf (c .before .before .before .before .args .file .now)) (c .before .before .before .before .args .declared / 8) 0 =
-    c .byte-at .ensures .0 ∙ sym (getD-drop headerSize (c .before .before .before .before .args .file .now) (c .before .before .before .before .args .declared / 8) 0) in
-    let all : length (bodyOf (c .before .before .before .before .args .file .now)) ≡ (c .before .before .before .before .args .declared + 7) / 8 =
-    length-drop headerSize (c .before .before .before .before .args .file .now) ∙ c .before .if1 .taken ∙ c .before .before .bytes-for .ensures in
-    rw (low-power (c .before .before .before .before .args .declared % 8), eq-eqb (length (bodyOf (c .before .before .before .before .args .file .now))) ((c .before .before .before .before .args .declared + 7) / 8) all, same)
+    let a = c .before .before .before .before .args in
+    let same : c .byte-at .result ≡ getD (bodyOf (a .file .now)) (a .declared / 8) 0 =
+    c .byte-at .ensures .0 ∙ sym (getD-drop headerSize (a .file .now) (a .declared / 8) 0) in
+    let all : length (bodyOf (a .file .now)) ≡ (a .declared + 7) / 8 =
+    length-drop headerSize (a .file .now) ∙ c .before .if1 .taken ∙ c .before .before .bytes-for .ensures in
+    rw (low-power (a .declared % 8), eq-eqb (length (bodyOf (a .file .now))) ((a .declared + 7) / 8) all, same)
 
 returns-2 : tie.Need-returns-2
 unfolding paddingFits
 returns-2 c =
-    rw (ne-eqb (length (bodyOf (c .before .before .before .args .file .now))) ((c .before .before .before .args .declared + 7) / 8)
-    (λ e. c .if1 .left (sym (length-drop headerSize (c .before .before .before .args .file .now)) ∙ e ∙ sym (c .before .bytes-for .ensures))))
+    let a = c .before .before .before .args in
+    rw (ne-eqb (length (bodyOf (a .file .now))) ((a .declared + 7) / 8)
+    (λ e. c .if1 .left (sym (length-drop headerSize (a .file .now)) ∙ e ∙ sym (c .before .bytes-for .ensures))))
 
 pub padding-fits-spec : {M : Type 1} → statement M
 padding-fits-spec =
