@@ -1,6 +1,6 @@
 // Bits of a number, and of a byte slice: there the highest bit of each byte comes first.
 ghost use mathlib.Core.Path.{_≡_};
-ghost use Prim.Native.Nat.{_<_};
+ghost use Prim.Native.Nat.{_-_, _%_};
 ghost use Rattle.bits.specs.Bits.{bit, fetched, byteWith, withBit};
 
 // What a fetch answers: a bit, or that there are no more.
@@ -19,24 +19,30 @@ pub fn bit_of(x: u32, b: u32) -> bool
     false
 }
 
+// The bit with number `at`, from the byte that holds it.
+pub fn bit_in(byte: u8, at: usize) -> bool
+    ensures { λ r. ⌜ r ≡ bit byte (7 - at % 8) ⌝ }
+{
+    ((byte as u32) >> (7 - at % 8)) % 2 == 1
+}
+
 // The bit with number `at`.
 pub fn fetch(body: &[u8], at: usize) -> Next
     ensures { λ r. ⌜ r ≡ fetched (now (body .entry)) at ⌝ }
 {
     let byte = at / 8;
     if byte < body.len() {
-        return Next::Bit((body[byte] >> (7 - at % 8)) % 2 == 1);
+        return Next::Bit(bit_in(body[byte], at));
     }
     Next::NoMore
 }
 
-// A byte with x put at its bit `down`, counted from the highest: what lies above stays, what lies below is 0.
-fn byte_with(held: u8, down: usize, x: bool) -> u8
-    requires { ⌜ down < 8 ⌝ }
-    ensures { λ r. ⌜ r ≡ byteWith held down x ⌝ }
+// The byte that holds the bit with number `at`, with x put there: what lies above stays, what lies below is 0.
+pub fn with_bit(held: u8, at: usize, x: bool) -> u8
+    ensures { λ r. ⌜ r ≡ byteWith held (at % 8) x ⌝ }
 {
-    let above = ((held as u32) >> (8 - down)) << (8 - down);
-    (above + ((x as u32) << (7 - down))) as u8
+    let down = 7 - at % 8;
+    ((((held as u32) >> down) / 2 * 2 + (x as u32)) << down) as u8
 }
 
 // Puts a bit at number `at` and clears what lies below it in its byte. Past the end it does nothing.
@@ -46,6 +52,6 @@ pub fn put(body: &mut [u8], at: usize, x: bool)
     let byte = at / 8;
     if byte < body.len() {
         let held = body[byte];
-        body[byte] = byte_with(held, at % 8, x);
+        body[byte] = with_bit(held, at, x);
     }
 }

@@ -108,6 +108,9 @@ fn is_within(x: i32) -> bool
 pub fn first_over(a: &[i32]) -> usize
     ensures { λ r. ⌜ r ≡ firstOver (now (a .entry)) ⌝ }
 {
+    if largest(a) <= LIMIT {
+        return a.len();
+    }
     let mut i = 0;
     while i < a.len() {
         let x = a[i];

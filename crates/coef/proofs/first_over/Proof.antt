@@ -5,12 +5,14 @@ use Prim.Native.Nat.{ℕ, suc, _+_, _-_, _≤_, _<_}
 use native.Mathlib.Numerals.{add-one}
 use native.Mathlib.Omega.{arith}
 use borrow.Author.Needs.{needs}
-use borrow.Author.Tests.{not-true, not-false}
+use borrow.Author.Tests.{not-true, not-false, le-leb}
 use lib.IntN.{ℤ, pos}
 use lib.ListN.{length, drop, drop-of-length-le}
 use lib.Seq.{drop-cons}
-use Rattle.coef.specs.Coef.{within, at, firstOver}
+use Rattle.sizes.specs.Sizes.{limit}
+use Rattle.coef.specs.Coef.{within, at, magAt, firstOver}
 use Rattle.coef.proofs.Held.{read-back}
+use Rattle.coef.proofs.Laws.{first-none}
 use Rattle.coef.proofs.first_over.Statement.{statement}
 use Rattle.coef.proofs.first_over.Tie as tie
 
@@ -32,6 +34,14 @@ Inv-loop a i₀ i = (i ≤ length a) × (firstOver a ≡ i + firstOver (drop i a
 abbrev μ-loop : tie.MeasureT-loop
 μ-loop a i₀ i = length a - i
 
+largest-requires : tie.Need-largest-requires Inv-loop μ-loop
+largest-requires c κs = search needs
+
+returns : tie.Need-returns Inv-loop μ-loop
+returns c =
+    let a = c .before .before .args .a .now in
+    sym (first-none a (λ i. le-leb (magAt a i) limit (omega (arith, c .before .largest .ensures .0 i, c .if1 .taken))))
+
 loop-holds : tie.Need-loop-holds Inv-loop μ-loop
 loop-holds c = search needs
 
@@ -44,11 +54,11 @@ shared-slice-copy-out-x c = search needs
 is-within-requires : tie.Need-is-within-requires Inv-loop μ-loop
 is-within-requires c κs = search needs
 
-returns : tie.Need-returns Inv-loop μ-loop
-returns c =
-    let a = c .before .before .before .before .before .args .a .now in
+returns-2 : tie.Need-returns-2 Inv-loop μ-loop
+returns-2 c =
+    let a = c .before .before .before .before .before .before .before .args .a .now in
     let i = c .before .before .before .before .loop .i in
-    let w : within (at a i) ≡ false = rw (read-back (at a i) (c .before .before .x .given)) at (sym (c .before .is-within .ensures) ∙ not-true (c .before .is-within .result) (c .if1 .taken)) in
+    let w : within (at a i) ≡ false = rw (read-back (at a i) (c .before .before .x .given)) at (sym (c .before .is-within .ensures) ∙ not-true (c .before .is-within .result) (c .if2 .taken)) in
     omega (arith, stop a i (c .before .before .before .loop-test .taken) w)
 
 add-i : tie.Need-add-i Inv-loop μ-loop
@@ -59,13 +69,13 @@ loop-less c = search needs
 
 loop-again : tie.Need-loop-again Inv-loop μ-loop
 loop-again c =
-    let a = c .before .before .before .before .before .args .a .now in
+    let a = c .before .before .before .before .before .before .before .args .a .now in
     let i = c .before .before .before .before .loop .i in
-    let w : within (at a i) ≡ true = rw (read-back (at a i) (c .before .before .x .given)) at (sym (c .before .is-within .ensures) ∙ not-false (c .before .is-within .result) (c .if1 .left)) in
+    let w : within (at a i) ≡ true = rw (read-back (at a i) (c .before .before .x .given)) at (sym (c .before .is-within .ensures) ∙ not-false (c .before .is-within .result) (c .if2 .left)) in
     rw add-one (omega (arith, step a i (c .before .before .before .loop-test .taken) w))
 
-returns-2 : tie.Need-returns-2 Inv-loop μ-loop
-returns-2 c = omega (arith, end (c .before .before .args .a .now) (c .before .loop .i) (c .loop-test .left))
+returns-3 : tie.Need-returns-3 Inv-loop μ-loop
+returns-3 c = omega (arith, end (c .before .before .before .before .args .a .now) (c .before .loop .i) (c .loop-test .left))
 
 pub first-over-spec : {M : Type 1} → statement M
 first-over-spec =
@@ -73,12 +83,14 @@ first-over-spec =
     (tie.spec
     Inv-loop
     μ-loop
+    largest-requires
+    returns
     loop-holds
     mul-x
     shared-slice-copy-out-x
     is-within-requires
-    returns
+    returns-2
     add-i
     loop-less
     loop-again
-    returns-2)
+    returns-3)
