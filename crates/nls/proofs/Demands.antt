@@ -13,12 +13,13 @@ use Rattle.coef.specs.Coef.{at, IsPlanes}
 use Rattle.nls.specs.Scan.{State, ask}
 use Rattle.nls.specs.Stream.{answers, sent, begin, after, stream, during, worstBody}
 use Rattle.nls.specs.Parts.{sumTo, parts, partSizes, splits, splitsIn, foundIn, nonzeros}
-use Rattle.nls.specs.Reading.{midpoint, valueBy, highBits, precisionAt, valuesBy, precisions, planesFinished, worstError}
+use Rattle.nls.specs.Reading.{midpoint, valueBy, highBits, lastPlane, precisionAt, valuesBy, precisions, planesFinished, worstError}
 use Rattle.nls.specs.Judging.{Begins, Fits, Verdict, taken, Judged}
 use Rattle.nls.proofs.Streams as streams
 use Rattle.nls.proofs.Verdicts as verdicts
 use Rattle.nls.proofs.Values as values
 use Rattle.nls.proofs.Counts as counts
+use Rattle.nls.proofs.Finished as finished
 
 module _ (N L P : ℕ) (sized : Sized N L) where
   -- ---- demand 2
@@ -86,6 +87,20 @@ module _ (N L P : ℕ) (sized : Sized N L) where
     -- "it has the stated bound"
     pub bound : length (stream N L P A) ≤ worstBody N L P
     bound = counts.bound N L P sized A planes
+
+  -- "A line for each finished plane: plane, bits read in it, parts standing, sets split in it", of a whole stream or a cut one: the figures
+  -- that the values give are those of every array whose stream begins with the bits u, and number the bits of u that plane b took
+  module _ (A : List ℤ) (u : List Bool) (begins : Begins N L P A u) (b : ℕ) (ended : lastPlane N L P u ≤ b) where
+    pub plane-parts : parts N L (valuesBy N L P u midpoint) b ≡ parts N L A b
+    plane-parts = finished.parts-shown N L sized P A u begins b ended midpoint values.midpoint-between
+
+    pub plane-splits : splitsIn N L (valuesBy N L P u midpoint) b ≡ splitsIn N L A b
+    plane-splits = finished.splits-shown N L sized P A u begins b ended midpoint values.midpoint-between
+
+    pub plane-bits : b < P
+        → length (during N b (begin N L P) u)
+        ≡ parts N L (valuesBy N L P u midpoint) b + splitsIn N L (valuesBy N L P u midpoint) b + foundIn N L (valuesBy N L P u midpoint) b
+    plane-bits h = finished.bits-shown N L sized P A u begins b ended midpoint values.midpoint-between h
 
   -- "and the bound is reached for each N, L, P": by 2^(P-1) everywhere
   pub reached : 1 ≤ P

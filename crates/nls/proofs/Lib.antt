@@ -18,5 +18,6 @@ pub mod HighBits
 pub mod Known
 pub mod KnownBits
 pub mod Values
+pub mod Finished
 pub mod Samples
 pub mod Demands

@@ -15,7 +15,7 @@ use Rattle.nls.proofs.Joined.Leads.{In, Leads}
 use Rattle.nls.proofs.Joined.Machine.{Held, machine-plane}
 
 module _ (N b : ℕ) where
-  during-append : (s : State) (u v : List Bool) → during N b s (u ++ v) ≡ during N b s u ++ during N b (reach (4 ^ N) s u) v
+  pub during-append : (s : State) (u v : List Bool) → during N b s (u ++ v) ≡ during N b s u ++ during N b (reach (4 ^ N) s u) v
   unfolding during reach
   during-append s [] v = refl
   during-append s (a ∷ u) v = go (eqb (s .left) (suc b)) (during-append (next (4 ^ N) s a) u v)
