@@ -1,27 +1,29 @@
 -- The checks of the calls, one way at a time; what they say where all hold; and the numbers that they compare.
 use mathlib.Core.Path.{_≡_, sym, ap, _∙_}
 use mathlib.Core.Bool.{true, false, _&&_}
-use mathlib.Core.List.{List}
+use mathlib.Core.List.{List, _++_}
 use Prim.Native.Nat.{ℕ, _+_, _*_, _/_, _%_, _-_, _≤_, _<_, min}
 use native.Mathlib.Nat.{mul-le-mul}
 use native.Mathlib.Decide.{decLt}
 use native.Mathlib.Omega.{arith}
 use borrow.Author.Tests.{eqb-true, eq-eqb, ne-eqb, leb-true, le-leb, lt-leb}
-use lib.Dec.{leb, eqb}
+use lib.Dec.{leb}
 use lib.IntN.{ℤ}
 use lib.ListN.{length}
-use Rattle.refusals.specs.Checks.{firstOf}
-use Rattle.refusals.specs.declared.Refusal.the-variants.{Side, Levels, Length, Coefficient, Lent, Output, Planes}
+use Rattle.refusals.specs.Checks.{Check, firstOf}
+use Rattle.refusals.specs.declared.Refusal.{Refusal}
+use Rattle.refusals.specs.declared.Refusal.the-variants.{Side, Levels, Lent, Output, Planes}
+use Rattle.refusals.specs.declared.Outcome.{Outcome}
 use Rattle.refusals.specs.declared.Outcome.the-variants.{Done, Refused}
-use Rattle.refusals.proofs.Laws.{AllHold, passed}
+use Rattle.refusals.proofs.Laws.{first-then-done, first-then-refused, AllHold, passed}
 use Rattle.sizes.specs.Sizes.{mostN, allOf, coarsestOf, sideFits, levelsFit, mostPlanes}
 use Rattle.sizes.proofs.Laws.{both-left, both-right, sized, side-most, all-most, coarsest-least, coarsest-all, coarsest-four}
 use Rattle.bits.specs.Bits.{bytesFor}
 use Rattle.coef.specs.Coef.{firstOver, planesOf}
-use Rattle.coef.proofs.Laws.{first-le}
 use Rattle.nls.specs.Stream.{worstBody}
 use Rattle.coder.specs.Calls.{EncodeReady}
-use Rattle.coder.specs.Body.{worstChecks, encodeChecks, decodeChecks}
+use Rattle.tree.specs.Summaries.{summaryChecks}
+use Rattle.coder.specs.Body.{worstChecks, roomChecks, encodeChecks, decodeChecks}
 
 -- ---- the worst body
 
@@ -49,41 +51,22 @@ module _ (N L P : ℕ) where
   worst-ready is =
       let all = passed (worstChecks N L P) (sym is) in (all .0, all .1 .0, leb-true P mostPlanes (all .1 .1 .0))
 
+-- ---- one list of checks after another
+
+module _ (first more : List Check) {r : Outcome} (is : r ≡ firstOf first) where
+  pub refused-first : (why : Refusal) → r ≡ Refused why → Refused why ≡ firstOf (first ++ more)
+  refused-first why e = sym (first-then-refused first more why (sym is ∙ e))
+
+  pub then-more : r ≡ Done → {w : Outcome} → w ≡ firstOf more → w ≡ firstOf (first ++ more)
+  then-more e v = v ∙ sym (first-then-done first more (sym is ∙ e))
+
 -- ---- decoding
 
 module _ (N L P values precisions marks : ℕ) where
-  pub decode-side : sideFits N ≡ false → Refused Side ≡ firstOf (decodeChecks N L P values precisions marks)
+  pub decode-well : sideFits N ≡ true → levelsFit N L ≡ true → P ≤ mostPlanes → allOf N ≤ values → allOf N ≤ precisions → allOf N ≤ marks
+      → Done ≡ firstOf (decodeChecks N L P values precisions marks)
   unfolding firstOf
-  decode-side s = rw s
-
-  module _ (s : sideFits N ≡ true) where
-    pub decode-levels : levelsFit N L ≡ false → Refused Levels ≡ firstOf (decodeChecks N L P values precisions marks)
-    unfolding firstOf
-    decode-levels l = rw (s, l)
-
-    module _ (l : levelsFit N L ≡ true) where
-      pub decode-planes : mostPlanes < P → Refused Planes ≡ firstOf (decodeChecks N L P values precisions marks)
-      unfolding firstOf
-      decode-planes p = rw (s, l, lt-leb P mostPlanes p)
-
-      module _ (p : P ≤ mostPlanes) where
-        pub decode-values : values < allOf N → Refused Lent ≡ firstOf (decodeChecks N L P values precisions marks)
-        unfolding firstOf
-        decode-values v = rw (s, l, le-leb P mostPlanes p, lt-leb (allOf N) values v)
-
-        module _ (v : allOf N ≤ values) where
-          pub decode-precisions : precisions < allOf N → Refused Lent ≡ firstOf (decodeChecks N L P values precisions marks)
-          unfolding firstOf
-          decode-precisions k = rw (s, l, le-leb P mostPlanes p, le-leb (allOf N) values v, lt-leb (allOf N) precisions k)
-
-          module _ (k : allOf N ≤ precisions) where
-            pub decode-marks : marks < allOf N → Refused Lent ≡ firstOf (decodeChecks N L P values precisions marks)
-            unfolding firstOf
-            decode-marks m = rw (s, l, le-leb P mostPlanes p, le-leb (allOf N) values v, le-leb (allOf N) precisions k, lt-leb (allOf N) marks m)
-
-            pub decode-well : allOf N ≤ marks → Done ≡ firstOf (decodeChecks N L P values precisions marks)
-            unfolding firstOf
-            decode-well m = rw (s, l, le-leb P mostPlanes p, le-leb (allOf N) values v, le-leb (allOf N) precisions k, le-leb (allOf N) marks m)
+  decode-well s l p v k m = rw (s, l, le-leb P mostPlanes p, le-leb (allOf N) values v, le-leb (allOf N) precisions k, le-leb (allOf N) marks m)
 
   -- the sizes, and room in all three tables
   pub record DecodeReady : Type 0 where
@@ -111,70 +94,42 @@ module _ (N L P values precisions marks : ℕ) where
 
 -- ---- encoding
 
-module _ (N L : ℕ) (A : List ℤ) (descs grands marks out offset budget : ℕ) where
-  pub encode-side : sideFits N ≡ false → Refused Side ≡ firstOf (encodeChecks N L A descs grands marks out offset budget)
+module _ (N L : ℕ) (A : List ℤ) (marks out offset budget : ℕ) where
+  pub no-marks : marks < allOf N → Refused Lent ≡ firstOf (roomChecks N L A marks out offset budget)
   unfolding firstOf
-  encode-side s = rw s
+  no-marks m = rw (lt-leb (allOf N) marks m)
 
-  module _ (s : sideFits N ≡ true) where
-    pub encode-levels : levelsFit N L ≡ false → Refused Levels ≡ firstOf (encodeChecks N L A descs grands marks out offset budget)
+  module _ (m : allOf N ≤ marks) where
+    pub no-output : leb (offset + bytesFor (min budget (worstBody N L (planesOf A)))) out ≡ false → Refused Output ≡ firstOf (roomChecks N L A marks out offset budget)
     unfolding firstOf
-    encode-levels l = rw (s, l)
+    no-output r = rw (le-leb (allOf N) marks m, r)
 
-    module _ (l : levelsFit N L ≡ true) where
-      pub encode-length : (length A ≡ allOf N → ⊥) → Refused Length ≡ firstOf (encodeChecks N L A descs grands marks out offset budget)
-      unfolding firstOf
-      encode-length w = rw (s, l, ne-eqb (length A) (allOf N) w)
+    pub room-well : leb (offset + bytesFor (min budget (worstBody N L (planesOf A)))) out ≡ true → Done ≡ firstOf (roomChecks N L A marks out offset budget)
+    unfolding firstOf
+    room-well r = rw (le-leb (allOf N) marks m, r)
 
-      module _ (w : length A ≡ allOf N) where
-        pub encode-coefficient : firstOver A < length A → Refused (Coefficient (firstOver A)) ≡ firstOf (encodeChecks N L A descs grands marks out offset budget)
-        unfolding firstOf
-        encode-coefficient o = rw (s, l, eq-eqb (length A) (allOf N) w, ne-eqb (firstOver A) (length A) (λ (e : firstOver A ≡ length A). omega arith))
-
-        module _ (o : length A ≤ firstOver A) where
-          within-limit : eqb (firstOver A) (length A) ≡ true
-          within-limit = eq-eqb (firstOver A) (length A) (omega (arith, first-le A))
-
-          pub encode-desc : descs < allOf N / 4 → Refused Lent ≡ firstOf (encodeChecks N L A descs grands marks out offset budget)
-          unfolding firstOf
-          encode-desc d = rw (s, l, eq-eqb (length A) (allOf N) w, within-limit, lt-leb (allOf N / 4) descs d)
-
-          module _ (d : allOf N / 4 ≤ descs) where
-            pub encode-grand : grands < allOf N / 16 → Refused Lent ≡ firstOf (encodeChecks N L A descs grands marks out offset budget)
-            unfolding firstOf
-            encode-grand g = rw (s, l, eq-eqb (length A) (allOf N) w, within-limit, le-leb (allOf N / 4) descs d, lt-leb (allOf N / 16) grands g)
-
-            module _ (g : allOf N / 16 ≤ grands) where
-              pub encode-marks : marks < allOf N → Refused Lent ≡ firstOf (encodeChecks N L A descs grands marks out offset budget)
-              unfolding firstOf
-              encode-marks m = rw (s, l, eq-eqb (length A) (allOf N) w, within-limit, le-leb (allOf N / 4) descs d, le-leb (allOf N / 16) grands g, lt-leb (allOf N) marks m)
-
-              module _ (m : allOf N ≤ marks) where
-                pub encode-output : leb (offset + bytesFor (min budget (worstBody N L (planesOf A)))) out ≡ false → Refused Output ≡ firstOf (encodeChecks N L A descs grands marks out offset budget)
-                unfolding firstOf
-                encode-output r = rw (s, l, eq-eqb (length A) (allOf N) w, within-limit, le-leb (allOf N / 4) descs d, le-leb (allOf N / 16) grands g, le-leb (allOf N) marks m, r)
-
-                pub encode-well : leb (offset + bytesFor (min budget (worstBody N L (planesOf A)))) out ≡ true → Done ≡ firstOf (encodeChecks N L A descs grands marks out offset budget)
-                unfolding firstOf
-                encode-well r = rw (s, l, eq-eqb (length A) (allOf N) w, within-limit, le-leb (allOf N / 4) descs d, le-leb (allOf N / 16) grands g, le-leb (allOf N) marks m, r)
+module _ (N L : ℕ) (A : List ℤ) (descs grands marks out offset budget : ℕ) where
+  -- what holds where the summaries' checks do
+  pub summaries-met : firstOf (summaryChecks N L A descs grands) ≡ Done → (sideFits N ≡ true) × (levelsFit N L ≡ true) × (firstOver A ≡ length A)
+  unfolding AllHold
+  summaries-met is = let all = passed (summaryChecks N L A descs grands) is in (all .0, all .1 .0, eqb-true (firstOver A) (length A) (all .1 .1 .1 .0))
 
   pub encode-ready : Done ≡ firstOf (encodeChecks N L A descs grands marks out offset budget) → EncodeReady N L A descs grands (out - offset) budget × (allOf N ≤ marks) × (offset ≤ out)
   unfolding AllHold
   encode-ready is =
       let all = passed (encodeChecks N L A descs grands marks out offset budget) (sym is) in
       let rooms = all .1 .1 .1 .1 .0 in
-      let others = both-right (leb (allOf N / 4) descs) (leb (allOf N / 16) grands && leb (allOf N) marks) rooms in
-      let fits = leb-true (offset + bytesFor (min budget (worstBody N L (planesOf A)))) out (all .1 .1 .1 .1 .1 .0) in (
+      let fits = leb-true (offset + bytesFor (min budget (worstBody N L (planesOf A)))) out (all .1 .1 .1 .1 .1 .1 .0) in (
         record {
           side = all .0;
           levels = all .1 .0;
           whole = eqb-true (length A) (allOf N) (all .1 .1 .0);
           limited = eqb-true (firstOver A) (length A) (all .1 .1 .1 .0);
-          descRoom = leb-true (allOf N / 4) descs (both-left (leb (allOf N / 4) descs) (leb (allOf N / 16) grands && leb (allOf N) marks) rooms);
-          grandRoom = leb-true (allOf N / 16) grands (both-left (leb (allOf N / 16) grands) (leb (allOf N) marks) others);
+          descRoom = leb-true (allOf N / 4) descs (both-left (leb (allOf N / 4) descs) (leb (allOf N / 16) grands) rooms);
+          grandRoom = leb-true (allOf N / 16) grands (both-right (leb (allOf N / 4) descs) (leb (allOf N / 16) grands) rooms);
           outRoom = omega (arith, fits);
         },
-        leb-true (allOf N) marks (both-right (leb (allOf N / 16) grands) (leb (allOf N) marks) others),
+        leb-true (allOf N) marks (all .1 .1 .1 .1 .1 .0),
         omega (arith, fits),
       )
 

@@ -1,5 +1,5 @@
 -- What the encoder's scan leaves, from the summaries and the start table on.
-use Prim.Native.Nat.{ℕ, _+_, _-_, _/_, _≤_, _<_, min}
+use Prim.Native.Nat.{ℕ, _+_, _-_, _*_, _/_, _≤_, _<_, min}
 use mathlib.Core.Path.{_≡_, sym, ap, _∙_}
 use mathlib.Core.List.{List, [], _++_, append-nil}
 use native.Mathlib.Omega.{arith}
@@ -49,6 +49,10 @@ module _ (N L : ℕ) (A : List ℤ) (descs grands outs budget : ℕ) (ready : En
   filled r own held now is e =
       let done : r ≡ Done = is ∙ sym (all-well N L A descs grands (ready .side) (ready .levels) (ready .whole) (omega (arith, ready .limited)) (ready .descRoom) (ready .grandRoom)) in
       e ∙ ap (λ (x : Outcome). lentAfter x own held) done
+
+  -- the bytes have room for every bit under the cap
+  pub room-so : (P cap : ℕ) → P ≡ planesOf A → cap ≡ min budget (worstBody N L P) → cap ≤ 8 * outs
+  room-so P cap ep ek = let cut : cap ≡ min budget (worstBody N L (planesOf A)) = ek ∙ ap (λ (x : ℕ). min budget (worstBody N L x)) ep in omega (arith, cut, ready .outRoom)
 
   pub tables-so : (all : ℕ) (d g : List ℕ) → all ≡ allOf N → length d ≡ descs → length g ≡ grands → Tables d g all
   tables-so all d g ea ed eg =

@@ -3,16 +3,17 @@ use Prim.Native.Nat.{ℕ, _+_, _*_, _/_, min}
 use mathlib.Core.Path.{_≡_}
 use mathlib.Core.Bool.{Bool, _&&_}
 use mathlib.Core.List.{List, [], _∷_, _++_}
-use lib.Dec.{leb, eqb}
+use lib.Dec.{leb}
 use lib.IntN.{ℤ, pos}
 use lib.ListN.{length, take, drop, replicate}
 use Rattle.refusals.specs.Checks.{Check, need}
-use Rattle.refusals.specs.declared.Refusal.the-variants.{Side, Levels, Length, Lent, Output, Planes, Contradiction, Beyond}
+use Rattle.refusals.specs.declared.Refusal.the-variants.{Side, Levels, Lent, Output, Planes, Contradiction, Beyond}
 use Rattle.refusals.specs.declared.Outcome.{Outcome}
 use Rattle.refusals.specs.declared.Outcome.the-variants as outcome
 use Rattle.sizes.specs.Sizes.{allOf, sideFits, levelsFit, mostPlanes}
 use Rattle.bits.specs.Bits.{bitsOf, bytesFor}
-use Rattle.coef.specs.Coef.{planesOf, coefficientCheck}
+use Rattle.coef.specs.Coef.{planesOf}
+use Rattle.tree.specs.Summaries.{summaryChecks}
 use Rattle.nls.specs.Stream.{stream, after, worstBody}
 use Rattle.nls.specs.Reading.{midpoint, valuesBy, precisions, planesFinished, worstError}
 use Rattle.nls.specs.Judging.{Verdict, taken, contradiction, beyond, Judged}
@@ -34,12 +35,14 @@ worstAnswer N L P (outcome.Refused why) = worst.Refused why
 
 -- ---- encoding
 
--- "Encoding checks 1 to 6 in that order." `descs`, `grands`, `marks` and `out` are the lengths of what is lent; the body begins at `offset`.
+-- "Encoding checks 1 to 6 in that order.": those of the summaries, then the marks and the output.
+-- `descs`, `grands`, `marks` and `out` are the lengths of what is lent; the body begins at `offset`.
+abbrev pub roomChecks : ℕ → ℕ → List ℤ → ℕ → ℕ → ℕ → ℕ → List Check
+roomChecks N L A marks out offset budget =
+    need (leb (allOf N) marks) Lent ∷ need (leb (offset + bytesFor (min budget (worstBody N L (planesOf A)))) out) Output ∷ []
+
 abbrev pub encodeChecks : ℕ → ℕ → List ℤ → ℕ → ℕ → ℕ → ℕ → ℕ → ℕ → List Check
-encodeChecks N L A descs grands marks out offset budget =
-    need (sideFits N) Side ∷ need (levelsFit N L) Levels ∷ need (eqb (length A) (allOf N)) Length ∷ coefficientCheck A
-    ∷ need (leb (allOf N / 4) descs && (leb (allOf N / 16) grands && leb (allOf N) marks)) Lent
-    ∷ need (leb (offset + bytesFor (min budget (worstBody N L (planesOf A)))) out) Output ∷ []
+encodeChecks N L A descs grands marks out offset budget = summaryChecks N L A descs grands ++ roomChecks N L A marks out offset budget
 
 -- "The number of bits written is the smaller of the budget and the whole stream's length": the first of the stream
 abbrev pub sentBits : ℕ → ℕ → List ℤ → ℕ → List Bool
@@ -67,8 +70,7 @@ outputAfter (outcome.Refused why) offset own held = held
 -- of decoding's checks those of a body: 1, 2, 9, 5, by the lengths of what is lent
 abbrev pub decodeChecks : ℕ → ℕ → ℕ → ℕ → ℕ → ℕ → List Check
 decodeChecks N L P values precisions marks =
-    need (sideFits N) Side ∷ need (levelsFit N L) Levels ∷ need (leb P mostPlanes) Planes
-    ∷ need (leb (allOf N) values && (leb (allOf N) precisions && leb (allOf N) marks)) Lent ∷ []
+    worstChecks N L P ++ (need (leb (allOf N) values && (leb (allOf N) precisions && leb (allOf N) marks)) Lent ∷ [])
 
 -- "usable bits are the smaller of declared and 8 times the bytes present"
 abbrev pub usableBits : ℕ → List ℕ → List Bool

@@ -49,15 +49,16 @@ after (halt t) = t
 after (refuse t) = t
 after (move p t) = t
 
-abbrev pub answer : Seen (Sv Bytes) → Step
-answer (halt t) = Stop (t .rest .n)
-answer (refuse t) = Stop (t .rest .n)
-answer (move p t) = Go p (t .rest .n)
+-- what a visit of a place answers
+abbrev pub answer : ℕ → Seen (Sv Bytes) → Step
+answer place (halt t) = Stop (t .rest .n) place
+answer place (refuse t) = Stop (t .rest .n) place
+answer place (move p t) = Go (t .rest .n) p
 
 -- a visit that goes on, goes on at a later place or has put a bit: what the scan's end rests on
 abbrev pub Falls : ℕ → ℕ → ℕ → Step → Type 0
-Falls budget place n (Stop k) = (n ≤ k) × (k ≤ budget)
-Falls budget place n (Go p k) = (place ≤ p) × (n ≤ k) × (k ≤ budget) × (place + n < p + k)
+Falls budget place n (Stop k p) = (n ≤ k) × (k ≤ budget)
+Falls budget place n (Go k p) = (place ≤ p) × (n ≤ k) × (k ≤ budget) × (place + n < p + k)
 
 -- no visit of the encoder refuses
 abbrev pub Clean : Seen (Sv Bytes) → Type 0
@@ -67,19 +68,20 @@ Clean (move p t) = Unit {0}
 
 -- the answer r, and the marks m and bytes o left behind, are those of s
 pub record Does (s : Seen (Sv Bytes)) (budget place n : ℕ) (r : Step) (m o : List ℕ) : Type 0 where
-  pub answered : r ≡ answer s
+  pub answered : r ≡ answer place s
   pub marked : m ≡ after s .marks
   pub wrote : o ≡ after s .rest .out
   pub falls : Falls budget place n r
   pub clean : Clean s
 
 -- what a visit asks of its room
-pub record Room (A : List ℤ) (m : List ℕ) (all budget place n : ℕ) : Type 0 where
+pub record Room (A : List ℤ) (m o : List ℕ) (all budget place n : ℕ) : Type 0 where
   pub below : place < all
   pub size : length m ≡ all
   pub near : all ≤ 65536
   pub inCoefs : all ≤ length A
   pub spent : n ≤ budget
+  pub room : budget ≤ 8 * length o
 
 pub record Tables (d g : List ℕ) (all : ℕ) : Type 0 where
   pub descs : all ≤ length d * 4

@@ -2,14 +2,18 @@
 use refusals::Outcome;
 use refusals::Refusal;
 ghost use mathlib.Core.Path.{_≡_};
-ghost use mathlib.Core.Bool.{true};
+ghost use mathlib.Core.Bool.{true, _&&_};
+ghost use mathlib.Core.List.{[], _∷_};
 ghost use Prim.Native.Nat.{_+_, _*_, _≤_, min};
 ghost use lib.Dec.{leb};
-ghost use Rattle.refusals.specs.Checks.{firstOf};
+ghost use lib.ListN.{length};
+ghost use Rattle.refusals.specs.Checks.{need, firstOf};
+ghost use Rattle.refusals.specs.declared.Refusal.the-variants.{Lent};
 ghost use Rattle.sizes.specs.Sizes.{sideFits, levelsFit, mostPlanes};
 ghost use Rattle.bits.specs.Bits.{bytesFor};
 ghost use Rattle.nls.specs.Stream.{worstBody};
-ghost use Rattle.coder.specs.Body.{worstChecks, encodeChecks, decodeChecks};
+ghost use Rattle.coef.specs.Coef.{firstOver};
+ghost use Rattle.coder.specs.Body.{worstChecks, roomChecks, encodeChecks, decodeChecks};
 
 // The smaller of two.
 pub(crate) fn smaller(a: u32, b: u32) -> u32
@@ -70,6 +74,32 @@ pub(crate) fn check_worst(n: u32, l: u32, p: u32) -> Outcome
     Outcome::Done
 }
 
+// The refusal of marks or an output that are too short, after the checks of the summaries.
+fn check_room(
+    n: u32,
+    l: u32,
+    coefs: &[i32],
+    marks: usize,
+    out: usize,
+    offset: usize,
+    budget: u32,
+) -> Outcome
+    requires { ⌜ (sideFits n ≡ true) × (levelsFit n l ≡ true) × (firstOver (now coefs) ≡ length (now coefs)) ⌝ }
+    ensures { λ r. ⌜ r ≡ firstOf (roomChecks n l (now (coefs .entry)) marks out offset budget) ⌝ }
+{
+    if marks < sizes::all_of(n) {
+        return Outcome::Refused(Refusal::Lent);
+    }
+    if !has_room(
+        out,
+        offset,
+        smaller(budget, worst_of(n, l, coef::planes(coefs))),
+    ) {
+        return Outcome::Refused(Refusal::Output);
+    }
+    Outcome::Done
+}
+
 // The first of refusals 1 to 6 that holds, if any.
 pub(crate) fn check_encode(
     n: u32,
@@ -84,35 +114,25 @@ pub(crate) fn check_encode(
 ) -> Outcome
     ensures { λ r. ⌜ r ≡ firstOf (encodeChecks n l (now (coefs .entry)) descs grands marks out offset budget) ⌝ }
 {
-    if !sizes::side_fits(n) {
-        return Outcome::Refused(Refusal::Side);
+    let checked = tree::check(n, l, coefs, descs, grands);
+    match checked {
+        Outcome::Done => check_room(n, l, coefs, marks, out, offset, budget),
+        Outcome::Refused(why) => Outcome::Refused(why),
     }
-    if !sizes::levels_fit(n, l) {
-        return Outcome::Refused(Refusal::Levels);
-    }
-    let all = sizes::all_of(n);
-    if coefs.len() != all {
-        return Outcome::Refused(Refusal::Length);
-    }
-    let over = coef::first_over(coefs);
-    if over < all {
-        return Outcome::Refused(Refusal::Coefficient(over as u32));
-    }
-    if descs < all / 4 {
+}
+
+// The refusal of tables that are too short for the values, the precisions and the marks.
+fn check_tables(all: usize, values: usize, precisions: usize, marks: usize) -> Outcome
+    ensures { λ r. ⌜ r ≡ firstOf (need (leb all values && (leb all precisions && leb all marks)) Lent ∷ []) ⌝ }
+{
+    if values < all {
         return Outcome::Refused(Refusal::Lent);
     }
-    if grands < all / 16 {
+    if precisions < all {
         return Outcome::Refused(Refusal::Lent);
     }
     if marks < all {
         return Outcome::Refused(Refusal::Lent);
-    }
-    if !has_room(
-        out,
-        offset,
-        smaller(budget, worst_of(n, l, coef::planes(coefs))),
-    ) {
-        return Outcome::Refused(Refusal::Output);
     }
     Outcome::Done
 }
@@ -128,24 +148,9 @@ pub(crate) fn check_decode(
 ) -> Outcome
     ensures { λ r. ⌜ r ≡ firstOf (decodeChecks n l p values precisions marks) ⌝ }
 {
-    if !sizes::side_fits(n) {
-        return Outcome::Refused(Refusal::Side);
+    let checked = check_worst(n, l, p);
+    match checked {
+        Outcome::Done => check_tables(sizes::all_of(n), values, precisions, marks),
+        Outcome::Refused(why) => Outcome::Refused(why),
     }
-    if !sizes::levels_fit(n, l) {
-        return Outcome::Refused(Refusal::Levels);
-    }
-    if sizes::MOST_PLANES < p {
-        return Outcome::Refused(Refusal::Planes);
-    }
-    let all = sizes::all_of(n);
-    if values < all {
-        return Outcome::Refused(Refusal::Lent);
-    }
-    if precisions < all {
-        return Outcome::Refused(Refusal::Lent);
-    }
-    if marks < all {
-        return Outcome::Refused(Refusal::Lent);
-    }
-    Outcome::Done
 }

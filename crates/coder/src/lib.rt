@@ -15,9 +15,9 @@ pub use body::decode;
 pub use body::encode;
 pub use body::worst_body;
 
-// What a visit of the encoder leaves to do: nothing, for want of a bit, or the place to go on at; and the number of bits put.
+// What a visit of the encoder leaves to do: nothing, for want of a bit, or to go on. In both the number of bits put, then the place: where it stopped, or where to go on.
 pub enum Step {
-    Stop(usize),
+    Stop(usize, usize),
     Go(usize, usize),
 }
 

@@ -10,6 +10,9 @@ ghost use Rattle.coder.specs.Visits.{skipOf, setSkipOf, pushSix, newDesc
 pub(crate) fn skip(mark: u8) -> usize
     ensures { λ r. ⌜ r ≡ skipOf mark ⌝ }
 {
+    if mark < 5 {
+        return 1;
+    }
     match mark {
         5 => 4,
         6 => 16,

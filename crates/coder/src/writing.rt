@@ -5,7 +5,7 @@ ghost use mathlib.Core.Bool.{false};
 ghost use mathlib.Core.List.{[]};
 ghost use Prim.Native.Nat.{ℕ, _+_, _*_, _/_, _<_, _≤_};
 ghost use lib.ListN.{length, getD};
-ghost use Rattle.bits.specs.Bits.{bit};
+ghost use Rattle.bits.specs.Bits.{bit, withBit};
 ghost use Rattle.coef.specs.Coef.{at, magAt, negative};
 ghost use Rattle.nls.specs.Scan.{pixels, inDesc, inGrand};
 ghost use Rattle.coder.specs.Scans.{planes};
@@ -30,6 +30,16 @@ fn negative_at(coefs: &[i32], place: usize) -> bool
     coef::is_negative(z)
 }
 
+// Puts a bit into bytes that have room for it.
+fn put(out: &mut [u8], n: usize, x: bool)
+    requires { ⌜ n < 8 * length (now out) ⌝ }
+    ensures { λ _. ⌜ now (out .exit) ≡ withBit (now (out .entry)) n x ⌝ }
+{
+    let byte = n / 8;
+    let held = out[byte];
+    out[byte] = bits::with_bit(held, n, x);
+}
+
 // A coefficient by itself: its bit, and after a 1 its sign.
 fn coefficient(
     coefs: &[i32],
@@ -41,25 +51,25 @@ fn coefficient(
     b: u32,
     place: usize,
 ) -> Step
-    requires { ⌜ Room (now coefs) (now marks) all budget place n ⌝ }
+    requires { ⌜ Room (now coefs) (now marks) (now out) all budget place n ⌝ }
     ensures { λ r. ⌜ Does (oneSeen (plain (now (coefs .entry)) budget) pixels b place false (now (marks .entry)) (bytes (now (out .entry)) n)) budget place n r (now (marks .exit)) (now (out .exit)) ⌝ }
 {
     if budget <= n {
-        return Step::Stop(n);
+        return Step::Stop(n, place);
     }
     let x = bit_at(coefs, b, place);
-    bits::put(out, n, x);
+    put(out, n, x);
     let k = n + 1;
     if !x {
         marks[place] = 1;
-        return Step::Go(place + 1, k);
+        return Step::Go(k, place + 1);
     }
     if budget <= k {
-        return Step::Stop(k);
+        return Step::Stop(k, place);
     }
-    bits::put(out, k, negative_at(coefs, place));
+    put(out, k, negative_at(coefs, place));
     marks[place] = 2;
-    Step::Go(place + 1, k + 1)
+    Step::Go(k + 1, place + 1)
 }
 
 // A place of the pixel pass.
@@ -73,7 +83,7 @@ fn pixel(
     b: u32,
     place: usize,
 ) -> Step
-    requires { ⌜ Room (now coefs) (now marks) all budget place n ⌝ }
+    requires { ⌜ Room (now coefs) (now marks) (now out) all budget place n ⌝ }
     ensures { λ r. ⌜ Does (pixelsSeen (plain (now (coefs .entry)) budget) b place (getD (now (marks .entry)) place 0) (now (marks .entry)) (bytes (now (out .entry)) n)) budget place n r (now (marks .exit)) (now (out .exit)) ⌝ }
 {
     let mark = marks[place];
@@ -81,7 +91,7 @@ fn pixel(
         return coefficient(coefs, marks, out, all, budget, n, b, place);
     }
     let next = place + crate::marks::skip(mark);
-    Step::Go(next, n)
+    Step::Go(n, next)
 }
 
 // A place of the refinement pass.
@@ -95,23 +105,26 @@ fn refine(
     b: u32,
     place: usize,
 ) -> Step
-    requires { ⌜ Room (now coefs) (now marks) all budget place n ⌝ }
+    requires { ⌜ Room (now coefs) (now marks) (now out) all budget place n ⌝ }
     ensures { λ r. ⌜ Does (refiningSeen (plain (now (coefs .entry)) budget) b place (getD (now (marks .entry)) place 0) (now (marks .entry)) (bytes (now (out .entry)) n)) budget place n r (now (marks .exit)) (now (out .exit)) ⌝ }
 {
     let mark = marks[place];
     if mark == 3 {
         if budget <= n {
-            return Step::Stop(n);
+            return Step::Stop(n, place);
         }
-        bits::put(out, n, bit_at(coefs, b, place));
-        return Step::Go(place + 1, n + 1);
+        put(out, n, bit_at(coefs, b, place));
+        return Step::Go(n + 1, place + 1);
+    }
+    if 3 < mark {
+        let next = place + crate::marks::skip(mark);
+        return Step::Go(n, next);
     }
     if mark == 2 {
         marks[place] = 3;
-        return Step::Go(place + 1, n);
+        return Step::Go(n, place + 1);
     }
-    let next = place + crate::marks::skip(mark);
-    Step::Go(next, n)
+    Step::Go(n, place + 1)
 }
 
 // The test of a DESC.
@@ -125,20 +138,20 @@ fn test_desc(
     b: u32,
     place: usize,
 ) -> Step
-    requires { ⌜ (place < all) × (length (now marks) ≡ all) × (all ≤ 65536) × (all ≤ length (now desc) * 4) × (n ≤ budget) ⌝ }
+    requires { ⌜ (place < all) × (length (now marks) ≡ all) × (all ≤ 65536) × (all ≤ length (now desc) * 4) × (n ≤ budget) × (budget ≤ 8 * length (now out)) ⌝ }
     ensures { λ r. ⌜ Does (testSeen (writer [] (now (desc .entry)) [] budget) b place (inDesc (place / 4) b) 4 false (descSplit all place (now (marks .entry))) (now (marks .entry)) (bytes (now (out .entry)) n)) budget place n r (now (marks .exit)) (now (out .exit)) ⌝ }
 {
     if budget <= n {
-        return Step::Stop(n);
+        return Step::Stop(n, place);
     }
     let sum = desc[place / 4];
     let x = bits::bit_of(sum, b);
-    bits::put(out, n, x);
+    put(out, n, x);
     if !x {
-        return Step::Go(place + 4, n + 1);
+        return Step::Go(n + 1, place + 4);
     }
     crate::marks::split_desc(marks, all, place);
-    Step::Go(place, n + 1)
+    Step::Go(n + 1, place)
 }
 
 // The test of a GRAND.
@@ -152,20 +165,20 @@ fn test_grand(
     b: u32,
     place: usize,
 ) -> Step
-    requires { ⌜ (place < all) × (length (now marks) ≡ all) × (all ≤ 65536) × (all ≤ length (now grand) * 16) × (n ≤ budget) ⌝ }
+    requires { ⌜ (place < all) × (length (now marks) ≡ all) × (all ≤ 65536) × (all ≤ length (now grand) * 16) × (n ≤ budget) × (budget ≤ 8 * length (now out)) ⌝ }
     ensures { λ r. ⌜ Does (testSeen (writer [] [] (now (grand .entry)) budget) b place (inGrand (place / 16) b) 16 false (grandSplit all place (now (marks .entry))) (now (marks .entry)) (bytes (now (out .entry)) n)) budget place n r (now (marks .exit)) (now (out .exit)) ⌝ }
 {
     if budget <= n {
-        return Step::Stop(n);
+        return Step::Stop(n, place);
     }
     let sum = grand[place / 16];
     let x = bits::bit_of(sum, b);
-    bits::put(out, n, x);
+    put(out, n, x);
     if !x {
-        return Step::Go(place + 16, n + 1);
+        return Step::Go(n + 1, place + 16);
     }
     crate::marks::split_grand(marks, all, place);
-    Step::Go(place, n + 1)
+    Step::Go(n + 1, place)
 }
 
 // A place of the set pass.
@@ -181,7 +194,7 @@ fn sets(
     b: u32,
     place: usize,
 ) -> Step
-    requires { ⌜ Room (now coefs) (now marks) all budget place n × Tables (now desc) (now grand) all ⌝ }
+    requires { ⌜ Room (now coefs) (now marks) (now out) all budget place n × Tables (now desc) (now grand) all ⌝ }
     ensures { λ r. ⌜ Does (setsSeen (writer (now (coefs .entry)) (now (desc .entry)) (now (grand .entry)) budget) all b place (getD (now (marks .entry)) place 0) (now (marks .entry)) (bytes (now (out .entry)) n)) budget place n r (now (marks .exit)) (now (out .exit)) ⌝ }
 {
     let mark = marks[place];
@@ -195,7 +208,7 @@ fn sets(
         return test_grand(grand, marks, out, all, budget, n, b, place);
     }
     let next = place + crate::marks::set_skip(mark);
-    Step::Go(next, n)
+    Step::Go(n, next)
 }
 
 // A place of a pass.
@@ -212,7 +225,7 @@ fn visit(
     pass: u32,
     place: usize,
 ) -> Step
-    requires { ⌜ Room (now coefs) (now marks) all budget place n × Tables (now desc) (now grand) all ⌝ }
+    requires { ⌜ Room (now coefs) (now marks) (now out) all budget place n × Tables (now desc) (now grand) all ⌝ }
     ensures { λ r. ⌜ Does (visitSeen (writer (now (coefs .entry)) (now (desc .entry)) (now (grand .entry)) budget) all b pass place (st (now (marks .entry)) (now (out .entry)) n)) budget place n r (now (marks .exit)) (now (out .exit)) ⌝ }
 {
     if pass == 0 {
@@ -235,7 +248,7 @@ pub(crate) fn scan(
     budget: usize,
     count: u32,
 ) -> usize
-    requires { ⌜ (length (now marks) ≡ all) × (all ≤ 65536) × (all ≤ length (now coefs)) × Tables (now desc) (now grand) all ⌝ }
+    requires { ⌜ (length (now marks) ≡ all) × (all ≤ 65536) × (all ≤ length (now coefs)) × (budget ≤ 8 * length (now out)) × Tables (now desc) (now grand) all ⌝ }
     ensures { λ r. ⌜ Holds (planes (scanOf (writer (now (coefs .entry)) (now (desc .entry)) (now (grand .entry)) budget) all) count (st (now (marks .entry)) (now (out .entry)) 0)) r (now (marks .exit)) (now (out .exit)) ⌝ }
 {
     let mut n = 0;
@@ -258,11 +271,11 @@ pub(crate) fn scan(
                     pass,
                     place,
                 ) {
-                    Step::Stop(k) => {
+                    Step::Stop(k, _) => {
                         n = k;
                         break 'scan;
                     }
-                    Step::Go(p, k) => {
+                    Step::Go(k, p) => {
                         place = p;
                         n = k;
                     }

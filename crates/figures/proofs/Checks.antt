@@ -1,52 +1,39 @@
 -- The checks of `figures_of`, one way at a time; and what holds where all are met.
 use mathlib.Core.Path.{_≡_, sym, ap, _∙_}
-use mathlib.Core.Bool.{true, false, _&&_}
 use mathlib.Core.List.{List, [], _∷_}
 use Prim.Native.Nat.{ℕ, _/_, _≤_, _<_}
 use native.Mathlib.Omega.{arith}
-use borrow.Author.Tests.{eqb-true, eq-eqb, ne-eqb, ltb-true}
-use lib.Dec.{leb, ltb}
+use borrow.Author.Tests.{eqb-true, ltb-true, le-ltb, lt-ltb}
+use lib.Dec.{ltb}
 use lib.IntN.{ℤ}
 use lib.ListN.{length, take, drop, length-append}
 use lib.Seq.{take-at}
-use Rattle.refusals.specs.declared.Refusal.the-variants.{Side, Levels, Length, Coefficient, Lent, Planes}
+use Rattle.refusals.specs.declared.Refusal.the-variants.{Planes}
+use Rattle.refusals.specs.declared.Refusal.{Refusal}
 use Rattle.refusals.specs.declared.Outcome.{Outcome}
 use Rattle.refusals.specs.declared.Outcome.the-variants.{Done, Refused}
 use Rattle.refusals.specs.Checks.{need, firstOf, lentAfter}
-use Rattle.refusals.proofs.Laws.{AllHold, passed, all-pass, lent-done}
-use Rattle.sizes.specs.Sizes.{allOf, mostPlanes, sideFits, levelsFit}
+use Rattle.refusals.proofs.Laws.{first-holds, first-fails, first-none, first-then-done, first-then-refused, AllHold, passed, all-pass, lent-done}
+use Rattle.sizes.specs.Sizes.{allOf, mostPlanes}
 use Rattle.sizes.proofs.Tables.{table-length}
-use Rattle.coef.specs.Coef.{firstOver}
-use Rattle.coef.proofs.Laws.{first-le}
 use Rattle.tree.specs.Summaries.{descOr, grandOr, descTable, grandTable, summaryChecks}
 use Rattle.figures.specs.Figures.{figuresChecks}
 use Rattle.figures.specs.Tables.{Filled}
 
-module _ (N L : ℕ) (A : List ℤ) (descs grands b : ℕ) where
-  pub no-side : sideFits N ≡ false → Refused Side ≡ firstOf (figuresChecks N L A descs grands b)
-  unfolding firstOf
-  no-side s = rw s
+-- the plane is checked after the summaries' checks
+module _ (N L : ℕ) (A : List ℤ) (descs grands b : ℕ) {r : Outcome} (first : r ≡ firstOf (summaryChecks N L A descs grands)) where
+  pub no-summaries : (why : Refusal) → r ≡ Refused why → Refused why ≡ firstOf (figuresChecks N L A descs grands b)
+  no-summaries why e = sym (first-then-refused (summaryChecks N L A descs grands) (need (ltb b mostPlanes) Planes ∷ []) why (sym first ∙ e))
 
-  module _ (s : sideFits N ≡ true) where
-    pub no-levels : levelsFit N L ≡ false → Refused Levels ≡ firstOf (figuresChecks N L A descs grands b)
-    unfolding firstOf
-    no-levels l = rw (s, l)
+  module _ (done : r ≡ Done) where
+    then : firstOf (figuresChecks N L A descs grands b) ≡ firstOf (need (ltb b mostPlanes) Planes ∷ [])
+    then = first-then-done (summaryChecks N L A descs grands) (need (ltb b mostPlanes) Planes ∷ []) (sym first ∙ done)
 
-    module _ (l : levelsFit N L ≡ true) where
-      pub no-length : (length A ≡ allOf N → ⊥) → Refused Length ≡ firstOf (figuresChecks N L A descs grands b)
-      unfolding firstOf
-      no-length w = rw (s, l, ne-eqb (length A) (allOf N) w)
+    pub no-plane : mostPlanes ≤ b → Refused Planes ≡ firstOf (figuresChecks N L A descs grands b)
+    no-plane h = sym (then ∙ first-fails (ltb b mostPlanes) Planes [] (le-ltb b mostPlanes h))
 
-      module _ (w : length A ≡ allOf N) where
-        pub no-coefficient : firstOver A < length A → Refused (Coefficient (firstOver A)) ≡ firstOf (figuresChecks N L A descs grands b)
-        unfolding firstOf
-        no-coefficient o = rw (s, l, eq-eqb (length A) (allOf N) w, ne-eqb (firstOver A) (length A) (λ (e : firstOver A ≡ length A). omega arith))
-
-        pub the-rest : length A ≤ firstOver A
-            → firstOf (need (leb (allOf N / 4) descs && leb (allOf N / 16) grands) Lent ∷ need (ltb b mostPlanes) Planes ∷ [])
-            ≡ firstOf (figuresChecks N L A descs grands b)
-        unfolding firstOf
-        the-rest o = rw (s, l, eq-eqb (length A) (allOf N) w, eq-eqb (firstOver A) (length A) (omega (arith, first-le A)))
+    pub all-met : b < mostPlanes → Done ≡ firstOf (figuresChecks N L A descs grands b)
+    all-met h = sym (then ∙ first-holds (ltb b mostPlanes) Planes [] (lt-ltb b mostPlanes h) ∙ first-none)
 
 -- a table of which a call that is done holds its own entries
 module _ (own held now : List ℕ) (r : Outcome) (done : r ≡ Done) (is : now ≡ lentAfter r own held) where

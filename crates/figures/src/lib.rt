@@ -4,12 +4,8 @@ use refusals::Refusal;
 use sizes::MOST_PLANES;
 ghost use Prim.Native.Nat.{_/_, _<_, _≤_, _^_};
 ghost use mathlib.Core.Path.{_≡_};
-ghost use mathlib.Core.Bool.{_&&_};
-ghost use mathlib.Core.List.{[], _∷_};
-ghost use lib.Dec.{leb, ltb};
 ghost use lib.ListN.{length, getD};
-ghost use Rattle.refusals.specs.declared.Refusal.the-variants as refusal;
-ghost use Rattle.refusals.specs.Checks.{need, firstOf, lentAfter};
+ghost use Rattle.refusals.specs.Checks.{firstOf, lentAfter};
 ghost use Rattle.sizes.specs.Sizes.{allOf, mostN, mostPlanes};
 ghost use Rattle.bits.specs.Bits.{digit};
 ghost use Rattle.coef.specs.Coef.{magAt};
@@ -196,41 +192,20 @@ fn count(n: u32, l: u32, values: &[i32], plane: u32, desc: &[u32], grand: &[u32]
     }
 }
 
-// Refusals 5 and 9, in that order.
-fn check_rest(all: usize, descs: usize, grands: usize, plane: u32) -> Outcome
-    ensures { λ r. ⌜ r ≡ firstOf (need (leb (all / 4) descs && leb (all / 16) grands) refusal.Lent ∷ need (ltb plane mostPlanes) refusal.Planes ∷ []) ⌝ }
-{
-    if descs < all / 4 {
-        return Outcome::Refused(Refusal::Lent);
-    }
-    if grands < all / 16 {
-        return Outcome::Refused(Refusal::Lent);
-    }
-    if MOST_PLANES <= plane {
-        return Outcome::Refused(Refusal::Planes);
-    }
-    Outcome::Done
-}
-
-// Refusals 1 to 5 and 9, in that order.
+// The checks of the summaries, and after them refusal 9.
 fn check(n: u32, l: u32, values: &[i32], descs: usize, grands: usize, plane: u32) -> Outcome
     ensures { λ r. ⌜ r ≡ firstOf (figuresChecks n l (now (values .entry)) descs grands plane) ⌝ }
 {
-    if !sizes::side_fits(n) {
-        return Outcome::Refused(Refusal::Side);
+    let checked = tree::check(n, l, values, descs, grands);
+    match checked {
+        Outcome::Done => {
+            if MOST_PLANES <= plane {
+                return Outcome::Refused(Refusal::Planes);
+            }
+            Outcome::Done
+        }
+        Outcome::Refused(why) => Outcome::Refused(why),
     }
-    if !sizes::levels_fit(n, l) {
-        return Outcome::Refused(Refusal::Levels);
-    }
-    let all = sizes::all_of(n);
-    if values.len() != all {
-        return Outcome::Refused(Refusal::Length);
-    }
-    let over = coef::first_over(values);
-    if over < all {
-        return Outcome::Refused(Refusal::Coefficient(over as u32));
-    }
-    check_rest(all, descs, grands, plane)
 }
 
 // The figures of one plane. Fills DESC and GRAND on the way: I/4 and I/16 entries. Nothing is filled before the plane is checked too.

@@ -46,6 +46,27 @@ unfolding AllHold
 all-pass [] e = first-none
 all-pass (check ∷ rest) e = first-holds (check .holds) (check .otherwise) rest (e .0) ∙ all-pass rest (e .1)
 
+-- two lists of checks, one after the other
+pub first-then-done : (checks more : List Check) → firstOf checks ≡ Done → firstOf (checks ++ more) ≡ firstOf more
+unfolding AllHold
+first-then-done [] more e = refl
+first-then-done (check ∷ rest) more e =
+    let h = passed (check ∷ rest) e in
+    first-holds (check .holds) (check .otherwise) (rest ++ more) (h .0) ∙ first-then-done rest more (all-pass rest (h .1))
+
+pub first-then-refused : (checks more : List Check) (why : Refusal) → firstOf checks ≡ Refused why → firstOf (checks ++ more) ≡ Refused why
+first-then-refused [] more why e =
+    let f : Done ≡ Refused why = sym first-none ∙ e in
+    let z : _≡_ {A = ℕ} 0 1 = cc in
+    absurd (omega arith)
+first-then-refused (check ∷ rest) more why e = tell (check .holds) refl (λ f. first-then-refused rest more why f)
+  where
+    tell : (t : Bool) → check .holds ≡ t → (firstOf rest ≡ Refused why → firstOf (rest ++ more) ≡ Refused why) → firstOf (check ∷ (rest ++ more)) ≡ Refused why
+    tell true h later =
+        first-holds (check .holds) (check .otherwise) (rest ++ more) h ∙ later (sym (first-holds (check .holds) (check .otherwise) rest h) ∙ e)
+    tell false h later =
+        first-fails (check .holds) (check .otherwise) (rest ++ more) h ∙ sym (first-fails (check .holds) (check .otherwise) rest h) ∙ e
+
 -- a lent table after a call that is done, and after one that is refused
 module _ {A : Type 0} (answer : Outcome) (own held : List A) where
   pub lent-done : answer ≡ Done → lentAfter answer own held ≡ own ++ drop (length own) held

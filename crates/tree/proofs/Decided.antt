@@ -1,10 +1,14 @@
--- The contract of the public function decides its outcome: the answer and what both tables hold afterwards.
+-- The contract of each public function decides its outcome: the answer, and what both tables hold after `summaries`.
 use mathlib.Core.Path.{_≡_, sym, _∙_}
 use mathlib.Core.List.{List}
 use Prim.Native.Nat.{ℕ}
 use denote.Ref.{now}
-use Rattle.refusals.proofs.Decided.{OneOutcome}
+use Rattle.refusals.proofs.Decided.{OneAnswer, OneOutcome}
+use Rattle.tree.proofs.check.Reads as check
 use Rattle.tree.proofs.summaries.Reads as summaries
+
+pub check-decided : OneAnswer check.Learnt
+check-decided k args r r' s s' p q = p ∙ sym q
 
 -- the fourth and the fifth parameter are DESC and GRAND
 pub summaries-decided : OneOutcome {Lent = List ℕ × List ℕ} summaries.Learnt (λ k s. (now (s .1 .1 .1 .0), now (s .1 .1 .1 .1 .0)))

@@ -101,8 +101,8 @@ fn fill(n: u32, l: u32, coefs: &[i32], desc: &mut [u32], grand: &mut [u32])
     clear(grand, low);
 }
 
-// The checks 1 to 5 in order: the refusal of the first that fails, if any.
-fn check(n: u32, l: u32, coefs: &[i32], descs: usize, grands: usize) -> Outcome
+// The checks of `summaries`, 1 to 5 in order: the refusal of the first that fails, if any.
+pub fn check(n: u32, l: u32, coefs: &[i32], descs: usize, grands: usize) -> Outcome
     ensures { λ r. ⌜ r ≡ firstOf (summaryChecks n l (now (coefs .entry)) descs grands) ⌝ }
 {
     if !sizes::side_fits(n) {

@@ -10,7 +10,7 @@ use Rattle.coef.specs.Coef.{planesOf}
 use Rattle.tree.specs.Summaries.{descTable, grandTable}
 use Rattle.coder.specs.Body.{sentBits, sentMarks}
 use Rattle.coder.proofs.CheckLaws.{sizes-near}
-use Rattle.coder.proofs.EncodeLaws.{sent-most, planes-so, filled, tables-so, written}
+use Rattle.coder.proofs.EncodeLaws.{sent-most, planes-so, filled, room-so, tables-so, written}
 use Rattle.coder.proofs.body.write.Statement.{statement}
 use Rattle.coder.proofs.body.write.Tie as tie
 
@@ -64,6 +64,7 @@ scan-requires c κs =
       c .before .before .before .before .before .before .before .before .before .start .kept .0 ∙ start .pre .1 ∙ sym e,
       s .0,
       omega (arith, e, r .whole),
+      room-so (a .n) (a .l) (a .coefs .now) (length (a .desc .now)) (length (a .grand .now)) (length (a .out .now)) (a .budget) r _ _ (planes-are (c .before .before .before .before .before .before) .0) (c .before .before .before .before .smaller .ensures ∙ ap (λ (x : ℕ). min (a .budget) x) (c .before .before .before .before .before .worst-of .ensures)),
       tables-so (a .n) (a .l) (a .coefs .now) (length (a .desc .now)) (length (a .grand .now)) (length (a .out .now)) (a .budget) r (c .before .before .before .before .before .before .before .before .before .before .before .before .all-of .result) _ _ e (c .before .before .before .before .before .before .before .before .before .before .before .before .before .before .before .before .before .summaries .kept .1 .1 .1 .0) (c .before .before .before .before .before .before .before .before .before .before .before .before .before .before .before .before .before .summaries .kept .1 .1 .1 .1 .0),
     )
 

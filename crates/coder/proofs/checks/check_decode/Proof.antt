@@ -1,78 +1,54 @@
-use mathlib.Core.Path.{_≡_, sym, _∙_}
-use mathlib.Core.Bool.{true}
-use native.Mathlib.Omega.{arith}
-use borrow.Author.Tests.{not-true, not-false}
+use mathlib.Core.Path.{_≡_, sym, ap, _∙_}
+use mathlib.Core.Bool.{_&&_}
+use mathlib.Core.List.{[], _∷_}
+use Prim.Native.Nat.{ℕ}
 use borrow.Author.Needs.{needs}
-use Rattle.sizes.specs.Sizes.{allOf, sideFits, levelsFit}
-use Rattle.coder.proofs.CheckLaws.{decode-side, decode-levels, decode-planes, decode-values, decode-precisions, decode-marks, decode-well}
+use lib.Dec.{leb}
+use Rattle.refusals.specs.declared.Refusal.the-variants.{Lent}
+use Rattle.refusals.specs.Checks.{need, firstOf}
+use Rattle.sizes.specs.Sizes.{allOf}
+use Rattle.coder.specs.Body.{worstChecks}
+use Rattle.coder.proofs.CheckLaws.{refused-first, then-more, worst-ready}
 use Rattle.coder.proofs.checks.check_decode.Statement.{statement}
 use Rattle.coder.proofs.checks.check_decode.Tie as tie
 
--- what each check that holds says
-side-so : (c : tie.Else1) → sideFits (c .before .before .args .n) ≡ true
-side-so c = sym (c .before .side-fits .ensures) ∙ not-false (c .before .side-fits .result) (c .if1 .left)
+check-worst-requires : tie.Need-check-worst-requires
+check-worst-requires c κs = search needs
 
-levels-so : (c : tie.Else2) → levelsFit (c .before .before .before .before .args .n) (c .before .before .before .before .args .l) ≡ true
-levels-so c = sym (c .before .levels-fit .ensures) ∙ not-false (c .before .levels-fit .result) (c .if2 .left)
-
-all-so : (c : tie.After-all-of) → c .all-of .result ≡ allOf (c .before .before .before .before .before .before .args .n)
-all-so c = c .all-of .ensures ∙ rw (side-so (c .before .before .before .before))
-
-side-fits-requires : tie.Need-side-fits-requires
-side-fits-requires c κs = search needs
-
-returns : tie.Need-returns
-returns c =
-    let a = c .before .before .args in
-    decode-side (a .n) (a .l) (a .p) (a .values) (a .precisions) (a .marks) (sym (c .before .side-fits .ensures) ∙ not-true (c .before .side-fits .result) (c .if1 .taken))
-
-levels-fit-requires : tie.Need-levels-fit-requires
-levels-fit-requires c κs = search needs
-
-returns-2 : tie.Need-returns-2
-returns-2 c =
-    let a = c .before .before .before .before .args in
-    decode-levels (a .n) (a .l) (a .p) (a .values) (a .precisions) (a .marks) (side-so (c .before .before)) (sym (c .before .levels-fit .ensures) ∙ not-true (c .before .levels-fit .result) (c .if2 .taken))
-
-returns-3 : tie.Need-returns-3
-returns-3 c =
-    let a = c .before .before .before .before .before .args in
-    decode-planes (a .n) (a .l) (a .p) (a .values) (a .precisions) (a .marks) (side-so (c .before .before .before)) (levels-so (c .before)) (c .if3 .taken)
+enum-told : tie.Need-enum-told
+enum-told c = search needs
 
 all-of-requires : tie.Need-all-of-requires
 all-of-requires c κs = search needs
 
-returns-4 : tie.Need-returns-4
-returns-4 c =
-    let a = c .before .before .before .before .before .before .before .args in
-    decode-values (a .n) (a .l) (a .p) (a .values) (a .precisions) (a .marks) (side-so (c .before .before .before .before .before)) (levels-so (c .before .before .before)) (c .before .before .if3 .left) (omega (arith, c .if4 .taken, all-so (c .before)))
+check-tables-requires : tie.Need-check-tables-requires
+check-tables-requires c κs = search needs
 
-returns-5 : tie.Need-returns-5
-returns-5 c =
-    let a = c .before .before .before .before .before .before .before .before .args in
-    decode-precisions (a .n) (a .l) (a .p) (a .values) (a .precisions) (a .marks) (side-so (c .before .before .before .before .before .before)) (levels-so (c .before .before .before .before)) (c .before .before .before .if3 .left) (omega (arith, c .before .if4 .left, all-so (c .before .before))) (omega (arith, c .if5 .taken, all-so (c .before .before)))
+enum-known-checked : tie.Need-enum-known-checked
+enum-known-checked c = search needs
 
-returns-6 : tie.Need-returns-6
-returns-6 c =
-    let a = c .before .before .before .before .before .before .before .before .before .args in
-    decode-marks (a .n) (a .l) (a .p) (a .values) (a .precisions) (a .marks) (side-so (c .before .before .before .before .before .before .before)) (levels-so (c .before .before .before .before .before)) (c .before .before .before .before .if3 .left) (omega (arith, c .before .before .if4 .left, all-so (c .before .before .before))) (omega (arith, c .before .if5 .left, all-so (c .before .before .before))) (omega (arith, c .if6 .taken, all-so (c .before .before .before)))
+returns : tie.Need-returns
+returns c =
+    let a = c .before .before .before .before .before .args in
+    let done = c .before .before .enum-told .given .1 in
+    let first = c .before .before .before .before .check-worst .ensures in
+    let all : c .before .all-of .result ≡ allOf (a .n) = c .before .all-of .ensures ∙ rw (worst-ready (a .n) (a .l) (a .p) (sym done ∙ first) .0) in
+    then-more (worstChecks (a .n) (a .l) (a .p)) _ first done
+    (c .check-tables .ensures ∙ ap (λ (x : ℕ). firstOf (need (leb x (a .values) && (leb x (a .precisions) && leb x (a .marks))) Lent ∷ [])) all)
 
-returns-7 : tie.Need-returns-7
-returns-7 c =
-    let a = c .before .before .before .before .before .before .before .before .before .args in
-    decode-well (a .n) (a .l) (a .p) (a .values) (a .precisions) (a .marks) (side-so (c .before .before .before .before .before .before .before)) (levels-so (c .before .before .before .before .before)) (c .before .before .before .before .if3 .left) (omega (arith, c .before .before .if4 .left, all-so (c .before .before .before))) (omega (arith, c .before .if5 .left, all-so (c .before .before .before))) (omega (arith, c .if6 .left, all-so (c .before .before .before)))
+returns-2 : tie.Need-returns-2
+returns-2 c =
+    let a = c .before .before .before .before .args in
+    refused-first (worstChecks (a .n) (a .l) (a .p)) _ (c .before .before .before .check-worst .ensures) _ (c .before .checked .given .1)
 
 pub check-decode-spec : {M : Type 1} → statement M
 check-decode-spec =
     tie.close
     (tie.spec
-    side-fits-requires
-    returns
-    levels-fit-requires
-    returns-2
-    returns-3
+    check-worst-requires
+    enum-told
     all-of-requires
-    returns-4
-    returns-5
-    returns-6
-    returns-7)
+    check-tables-requires
+    enum-known-checked
+    returns
+    returns-2)

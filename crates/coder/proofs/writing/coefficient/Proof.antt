@@ -6,7 +6,7 @@ use Rattle.coder.proofs.writing.coefficient.Statement.{statement}
 use Rattle.coder.proofs.writing.coefficient.Tie as tie
 use Rattle.coder.proofs.writing.coefficient.Reads as reads
 use Rattle.coder.proofs.writing.coefficient.Lts as lts
-use Rattle.bits.proofs.put.Reads as put-reads
+use Rattle.coder.proofs.writing.put.Reads as put-reads
 use Rattle.coder.proofs.writing.bit_at.Reads as bit-at-reads
 use Rattle.coder.proofs.writing.negative_at.Reads as negative-at-reads
 

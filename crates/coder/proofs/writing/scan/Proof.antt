@@ -59,8 +59,8 @@ loop2-holds c = (record { marks = refl; bytes = refl; spent = search needs }, at
 -- src/writing.rt:230:23
 visit-requires : tie.Need-visit-requires Inv-loop2 μ-loop2 Inv-loop μ-loop Inv-scan μ-scan
 visit-requires c κs = (
-  record { below = c .before .before .loop2-test .taken; size = omega arith; near = omega arith; inCoefs = omega arith; spent = omega arith },
-  c .before .before .before .before .before .before .before .before .before .before .before .before .pre .3,
+  record { below = c .before .before .loop2-test .taken; size = omega arith; near = omega arith; inCoefs = omega arith; spent = omega arith; room = omega arith },
+  c .before .before .before .before .before .before .before .before .before .before .before .before .pre .4,
 )
 
 -- src/writing.rt:231:32
@@ -68,18 +68,18 @@ enum-known-k : tie.Need-enum-known-k Inv-loop2 μ-loop2 Inv-loop μ-loop Inv-sca
 enum-known-k c = c .match .keys1
 
 -- src/writing.rt:235:30
-enum-known-p : tie.Need-enum-known-p Inv-loop2 μ-loop2 Inv-loop μ-loop Inv-scan μ-scan
-enum-known-p c = c .match .keys2
+enum-known-k-2 : tie.Need-enum-known-k-2 Inv-loop2 μ-loop2 Inv-loop μ-loop Inv-scan μ-scan
+enum-known-k-2 c = c .match .keys2
 
 -- src/writing.rt:229:13
 loop2-less : tie.Need-loop2-less Inv-loop2 μ-loop2 Inv-loop μ-loop Inv-scan μ-scan
-loop2-less c = let f = falls-go _ _ _ _ _ _ (c .before .before .before .before .before .before .before .visit .ensures .falls) (c .before .p .given .1) in omega arith
+loop2-less c = let f = falls-go _ _ _ _ _ _ (c .before .before .before .before .before .before .before .visit .ensures .falls) (c .before .k2 .given .1) in omega arith
 
 -- src/writing.rt:229:13
 loop2-again : tie.Need-loop2-again Inv-loop2 μ-loop2 Inv-loop μ-loop Inv-scan μ-scan
-loop2-again c = let f = falls-go _ _ _ _ _ _ (c .before .before .before .before .before .before .before .visit .ensures .falls) (c .before .p .given .1) in (
+loop2-again c = let f = falls-go _ _ _ _ _ _ (c .before .before .before .before .before .before .before .visit .ensures .falls) (c .before .k2 .given .1) in (
   record { marks = c .before .before .before .before .before .before .before .visit .kept .1 .1 .1 .0 ∙ c .before .before .before .before .before .before .before .before .before .before .before .loop2 .inv .0 .marks; bytes = c .before .before .before .before .before .before .before .visit .kept .1 .1 .1 .1 .0 ∙ c .before .before .before .before .before .before .before .before .before .before .before .loop2 .inv .0 .bytes; spent = f .2 },
-  turn-go _ _ _ _ _ _ _ _ _ _ _ _ _ _ _ _ _ (c .before .before .before .before .before .before .before .before .before .before .before .loop2 .inv .1) (c .before .before .before .before .before .before .before .visit .ensures) (c .before .p .given .1) (c .before .before .before .before .before .before .before .before .before .before .loop2-test .taken),
+  turn-go _ _ _ _ _ _ _ _ _ _ _ _ _ _ _ _ _ (c .before .before .before .before .before .before .before .before .before .before .before .loop2 .inv .1) (c .before .before .before .before .before .before .before .visit .ensures) (c .before .k2 .given .1) (c .before .before .before .before .before .before .before .before .before .before .loop2-test .taken),
 )
 
 -- src/writing.rt:227:13
@@ -117,7 +117,7 @@ same-length-4 c = c .before .before .before .before .before .before .before .vis
 
 -- src/writing.rt:210:1
 returns-2 : tie.Need-returns-2 Inv-loop2 μ-loop2 Inv-loop μ-loop Inv-scan μ-scan
-returns-2 c = let y = turn-stop _ _ _ _ _ _ _ _ _ _ _ _ _ _ _ _ (c .before .before .before .before .before .before .before .before .before .before .before .loop2 .inv .1) (c .before .before .before .before .before .before .before .visit .ensures) (c .before .k .given .1) (c .before .before .before .before .before .before .before .before .before .before .loop2-test .taken) in
+returns-2 c = let y = turn-stop _ _ _ _ _ _ _ _ _ _ _ _ _ _ _ _ _ (c .before .before .before .before .before .before .before .before .before .before .before .loop2 .inv .1) (c .before .before .before .before .before .before .before .visit .ensures) (c .before .k .given .1) (c .before .before .before .before .before .before .before .before .before .before .loop2-test .taken) in
     let x = pass-stop _ _ _ _ _ _ (c .before .before .before .before .before .before .before .before .before .before .before .before .before .loop .inv .2) y (c .before .before .before .before .before .before .before .before .before .before .before .before .loop-test .taken) in
     let w = plane-stop _ _ _ _ _ (c .before .before .before .before .before .before .before .before .before .before .before .before .before .before .before .scan .inv .1) x (c .before .before .before .before .before .before .before .before .before .before .before .before .before .before .scan-test .taken) in
     rw w (record { count = refl; marked = refl; wrote = refl })
@@ -140,7 +140,7 @@ scan-spec =
     loop2-holds
     visit-requires
     enum-known-k
-    enum-known-p
+    enum-known-k-2
     loop2-less
     loop2-again
     add-pass

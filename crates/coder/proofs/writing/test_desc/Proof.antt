@@ -7,7 +7,7 @@ use Rattle.coder.proofs.writing.test_desc.Tie as tie
 use Rattle.coder.proofs.writing.test_desc.Reads as reads
 use Rattle.coder.proofs.writing.test_desc.Lts as lts
 use Rattle.bits.proofs.bit_of.Reads as bit-of-reads
-use Rattle.bits.proofs.put.Reads as put-reads
+use Rattle.coder.proofs.writing.put.Reads as put-reads
 use Rattle.coder.proofs.marks.split_desc.Reads as split-desc-reads
 
 -- src/writing.rt:114:9

@@ -7,7 +7,7 @@ use Rattle.coder.proofs.writing.test_grand.Tie as tie
 use Rattle.coder.proofs.writing.test_grand.Reads as reads
 use Rattle.coder.proofs.writing.test_grand.Lts as lts
 use Rattle.bits.proofs.bit_of.Reads as bit-of-reads
-use Rattle.bits.proofs.put.Reads as put-reads
+use Rattle.coder.proofs.writing.put.Reads as put-reads
 use Rattle.coder.proofs.marks.split_grand.Reads as split-grand-reads
 
 -- src/writing.rt:141:9
