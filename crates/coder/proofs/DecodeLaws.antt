@@ -15,7 +15,7 @@ use Rattle.sizes.specs.Tables.{table}
 use Rattle.sizes.proofs.Laws.{side-least, side-most, sized, coarsest-least}
 use Rattle.bits.specs.Bits.{bitsOf}
 use Rattle.bits.proofs.Laws.{bitsOf-length}
-use Rattle.coef.specs.Coef.{at, magnitude}
+use Rattle.coef.specs.Coef.{at, magnitude, negative}
 use Rattle.nls.specs.Marks.{startMarks}
 use Rattle.nls.specs.Stream.{after}
 use Rattle.nls.specs.Reading.{Known, known, midpoint, valueBy, lastPlane}
@@ -25,11 +25,12 @@ use Rattle.nls.proofs.Values.{midpoint-between, value-range}
 use Rattle.nls.proofs.Verdicts.{verdict, verdict-judged}
 use Rattle.coder.specs.Scans.{Ran, last, isBad, planes, leftOf}
 use Rattle.coder.specs.Visits.{Sv, scanOf}
-use Rattle.coder.specs.Reading.{Read, reader, st, Holds}
+use Rattle.coder.specs.Reading.{Read, plainOf, reader, st, Holds}
 use Rattle.coder.specs.Body.{usableBits, Tables, tables, zeros, ownTables, over, Decoded}
 use Rattle.coder.specs.Calls.{ReadReady}
 use Rattle.coder.specs.declared.body.DecodeAnswer.{DecodeAnswer}
 use Rattle.coder.specs.declared.body.DecodeAnswer.the-variants.{Done, Refused}
+use Rattle.coder.proofs.Coded.{codes, codes-at, plain-coded}
 use Rattle.coder.proofs.FinishLaws.{whole}
 use Rattle.coder.proofs.Received.{Matches, reads}
 
@@ -46,7 +47,7 @@ module _ (N L P values precisions marks : ℕ) (ready : ReadReady N L P values p
     pub record Took : Type 0 where
       pub used : n ≡ usable
       pub marked : m ≡ after N L P (bitsOf usable body) .marks
-      pub valued : v ≡ known N L P (bitsOf usable body) .bits
+      pub valued : v ≡ codes (known N L P (bitsOf usable body) .bits)
       pub planed : p ≡ known N L P (bitsOf usable body) .planes
       pub lefts : left ≡ lastPlane N L P (bitsOf usable body)
 
@@ -85,7 +86,7 @@ module _ (N L P values precisions marks : ℕ) (ready : ReadReady N L P values p
         refuses = h .refuses ∙ ap (λ (x : Ran (Sv Read)). isBad x) same
 
         go : (w : Verdict) → Matches N L P (ready .planes) body usable w E l → Ends w
-        go taken (b, c, d, e, f, g) = (
+        go taken (b, c, d, e, f) = (
           refuses ∙ b,
           record {
             used = count ∙ c;
@@ -150,9 +151,16 @@ module _ (N L P values precisions marks : ℕ) (ready : ReadReady N L P values p
       pub left-in : left ≤ P
       left-in = omega (arith, t .lefts, left-most N L P (bitsOf usable body))
 
+      -- the codes undone
+      plain-at : (i : ℕ) → plainOf (at v i) ≡ at (known N L P (bitsOf usable body) .bits) i
+      plain-at i = ap (λ (x : List ℤ). plainOf (at x i)) (t .valued) ∙ ap plainOf (codes-at (known N L P (bitsOf usable body) .bits) i) ∙ plain-coded (at (known N L P (bitsOf usable body) .bits) i)
+
       -- what the final pass asks
-      pub in-range : (i : ℕ) → i < allOf N → magnitude (valueBy midpoint (min (getD p i 0) left) (at v i)) ≤ limit
-      in-range i h = rw (t .valued, t .planed, t .lefts) (omega (arith, value-range N L P (bitsOf usable body) midpoint midpoint-between i h, pow-mono {i = P} {j = mostPlanes} (ready .planes)))
+      pub not-below : (i : ℕ) → negative (at v i) ≡ false
+      not-below i = ap (λ (x : List ℤ). negative (at x i)) (t .valued) ∙ ap negative (codes-at (known N L P (bitsOf usable body) .bits) i)
+
+      pub in-range : (i : ℕ) → i < allOf N → magnitude (valueBy midpoint (min (getD p i 0) left) (plainOf (at v i))) ≤ limit
+      in-range i h = rw (plain-at i, t .planed, t .lefts) (omega (arith, value-range N L P (bitsOf usable body) midpoint midpoint-between i h, pow-mono {i = P} {j = mostPlanes} (ready .planes)))
 
       -- 2^left as the machine shifts it
       pub power : (1 * 2 ^ left) % 4294967296 ≡ 2 ^ left
@@ -163,7 +171,7 @@ module _ (N L P values precisions marks : ℕ) (ready : ReadReady N L P values p
 
       pub accepted : Judged N L P (bitsOf usable body) taken → (held : Tables) → length (held .values) ≡ allOf N → length (held .precisions) ≡ allOf N → length (held .marks) ≡ allOf N
           → (w : List ℤ) (q : List ℕ) (vs ps : ℕ) → vs ≡ allOf N → ps ≡ allOf N
-          → w ≡ table vs (λ i. valueBy midpoint (min (getD p i 0) left) (at v i)) → q ≡ table ps (λ i. min (getD p i 0) left)
+          → w ≡ table vs (λ i. valueBy midpoint (min (getD p i 0) left) (plainOf (at v i))) → q ≡ table ps (λ i. min (getD p i 0) left)
           → Decoded N L P (bitsOf usable body) held (Done (record { used = n; finished = P - left; error = (1 * 2 ^ left) % 4294967296 - 1 })) (tables w q m)
       accepted j held hv hp hm w q vs ps es eps ew eq =
           record {
@@ -172,7 +180,7 @@ module _ (N L P values precisions marks : ℕ) (ready : ReadReady N L P values p
             answered = λ i. Done (record { used = used i; finished = P - t .lefts i; error = error i });
             filled =
                 same-tables w _ q _ m _
-                (ew ∙ rw (es, t .valued, t .planed, t .lefts) (sym (whole (allOf N) _ (held .values) hv)))
+                (ew ∙ (λ j. table vs (λ i. valueBy midpoint (min (getD p i 0) left) (plain-at i j))) ∙ rw (es, t .planed, t .lefts) (sym (whole (allOf N) _ (held .values) hv)))
                 (eq ∙ rw (eps, t .planed, t .lefts) (sym (whole (allOf N) _ (held .precisions) hp)))
                 (t .marked ∙ sym (whole (allOf N) _ (held .marks) hm));
           }

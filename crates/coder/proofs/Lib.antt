@@ -10,7 +10,7 @@ pub mod Sent
 pub mod ReadLaws
 pub mod ValueLaws
 pub mod ReadTurns
-pub mod Fair
+pub mod Coded
 pub mod Received
 pub mod CheckLaws
 pub mod FinishLaws

@@ -8,16 +8,16 @@ use borrow.Author.Tests.{eq-eqb, ne-eqb, le-leb, lt-leb}
 use lib.Dec.{leb, eqb}
 use lib.IntN.{ℤ, pos}
 use lib.ListN.{length, set, getD}
-use Rattle.bits.specs.Bits.{bitAt, digit}
-use Rattle.coef.specs.Coef.{at, magnitude, negative}
+use Rattle.bits.specs.Bits.{bit, bitAt}
+use Rattle.coef.specs.Coef.{at}
 use Rattle.nls.specs.Scan.{Question, bitOf, signOf, inDesc, inGrand, Pass, pixels, sets, refining}
 use Rattle.nls.specs.Reading.{Known}
 use Rattle.coder.specs.Scans.{Seen, halt, refuse, move}
 use Rattle.coder.specs.Visits.{Source, got, Sv, sv, skipOf, setSkipOf, descSplit, grandSplit, oneSeen, testSeen, pixelsSeen, setsSeen, refiningSeen, visitSeen}
-use Rattle.coder.specs.Reading.{Read, read, joined, keep, is, childClash, grandClash, lastClash, rootClash, descClash, reader, st, Does}
+use Rattle.coder.specs.Reading.{Read, read, newCode, moreCode, keep, is, childClash, grandClash, lastClash, rootClash, descClash, reader, st, Does}
 use Rattle.coder.specs.declared.Turn.{Turn}
 use Rattle.coder.specs.declared.Turn.the-variants.{Stop, Bad, Go}
-use Rattle.coder.proofs.MarkLaws.{skip-in, set-skip-in}
+use Rattle.coder.proofs.MarkLaws.{skip-low, skip-in, set-skip-in}
 use Rattle.coder.proofs.VisitLaws.{one-none, one-zero, one-bad, one-cut, one-one, test-none, test-zero, test-bad, test-one, pixels-own, pixels-skip, refining-none, refining-own, refining-new, refining-skip, sets-one, sets-desc, sets-grand, sets-skip, visit-pixels, visit-sets, visit-refining}
 
 -- ---- the tests of refusal 12
@@ -91,6 +91,10 @@ module _ (D P b used t : ℕ) where
 
 -- ---- visits
 
+pub bit-is : (body : List ℕ) (n : ℕ) (x : Bool) → x ≡ bit (getD body (n / 8) 0) (7 - n % 8) → x ≡ bitAt body n
+unfolding bitAt
+bit-is body n x e = e
+
 by-way : (s t : Seen (Sv Read)) (usable place n : ℕ) (r : Turn) (m : List ℕ) (v : List ℤ) (p : List ℕ) → s ≡ t → Does t usable place n r m v p → Does s usable place n r m v p
 by-way s t usable place n r m v p e d = subst (λ (x : Seen (Sv Read)). Does x usable place n r m v p) (sym e) d
 
@@ -105,32 +109,32 @@ module _ (body : List ℕ) (usable I D P b i : ℕ) (bar : Bool) (m : List ℕ) 
   own : (x : Bool) → bitAt body n ≡ x → got K pixels b (bitOf i b) (read v p n) ≡ record { known = keep pixels b (bitOf i b) x (record { bits = v; planes = p }); n = n + 1 }
   own x e = ap (λ (y : Bool). record { known = keep pixels b (bitOf i b) y (record { bits = v; planes = p }); n = n + 1 }) e
 
-  pub coefficient-none : usable ≤ n → n ≤ usable → One (Stop n) m v p
+  pub coefficient-none : usable ≤ n → n ≤ usable → One (Stop n i) m v p
   coefficient-none h l =
-      by-way _ (halt (st m v p n)) usable i n (Stop n) m v p (one-none K pixels b i bar m (read v p n) h) (record { answered = refl; marked = refl; valued = refl; known = refl; falls = (omega arith, omega arith) })
+      by-way _ (halt (st m v p n)) usable i n (Stop n i) m v p (one-none K pixels b i bar m (read v p n) h) (record { answered = refl; marked = refl; valued = refl; known = refl; falls = (omega arith, omega arith) })
 
   module _ (x : Bool) (ex : x ≡ bitAt body n) (h : n < usable) where
-    pub coefficient-cut : x ≡ true → usable ≤ n + 1 → One (Stop (n + 1)) m v p
+    pub coefficient-cut : x ≡ true → usable ≤ n + 1 → One (Stop (n + 1) i) m v p
     coefficient-cut e k =
-        by-way _ (halt (st m v p (n + 1))) usable i n (Stop (n + 1)) m v p (one-cut K pixels b i bar m (read v p n) h (sym ex ∙ e) k ∙ ap (λ (o : Read). halt (sv m o)) (own true (sym ex ∙ e)))
+        by-way _ (halt (st m v p (n + 1))) usable i n (Stop (n + 1) i) m v p (one-cut K pixels b i bar m (read v p n) h (sym ex ∙ e) k ∙ ap (λ (o : Read). halt (sv m o)) (own true (sym ex ∙ e)))
         (record { answered = refl; marked = refl; valued = refl; known = refl; falls = (omega arith, omega arith) })
 
-    pub coefficient-one : x ≡ true → n + 1 < usable → (s : Bool) → s ≡ bitAt body (n + 1) → (v₁ : List ℤ) → v₁ ≡ set v i (joined s (2 ^ b)) → One (Go (i + 1) (n + 1 + 1)) (set m i 2) v₁ (set p i b)
+    pub coefficient-one : x ≡ true → n + 1 < usable → (s : Bool) → s ≡ bitAt body (n + 1) → (v₁ : List ℤ) → v₁ ≡ set v i (newCode s b) → One (Go (n + 1 + 1) (i + 1)) (set m i 2) v₁ (set p i b)
     coefficient-one e k s es v₁ ev =
-        by-way _ (move (i + 1) (st (set m i 2) (set v i (joined s (2 ^ b))) (set p i b) (n + 1 + 1))) usable i n (Go (i + 1) (n + 1 + 1)) (set m i 2) v₁ (set p i b)
+        by-way _ (move (i + 1) (st (set m i 2) (set v i (newCode s b)) (set p i b) (n + 1 + 1))) usable i n (Go (n + 1 + 1) (i + 1)) (set m i 2) v₁ (set p i b)
         (one-one K pixels b i bar m (read v p n) h (sym ex ∙ e) k
         ∙ ap (λ (o : Read). move (i + 1) (sv (set m i 2) (got K pixels b (signOf i) o))) (own true (sym ex ∙ e))
-        ∙ ap (λ (y : Bool). move (i + 1) (st (set m i 2) (set v i (joined y (2 ^ b))) (set p i b) (n + 1 + 1))) (sym es))
+        ∙ ap (λ (y : Bool). move (i + 1) (st (set m i 2) (set v i (newCode y b)) (set p i b) (n + 1 + 1))) (sym es))
         (record { answered = refl; marked = refl; valued = ev; known = refl; falls = (omega arith, omega arith, omega arith, omega arith) })
 
-    pub coefficient-bad : x ≡ false → (z : Bool) → z ≡ bar → z ≡ true → One (Bad n) m v p
+    pub coefficient-bad : x ≡ false → (z : Bool) → z ≡ bar → z ≡ true → One (Bad n i) m v p
     coefficient-bad e z ez et =
-        by-way _ (refuse (st m v p n)) usable i n (Bad n) m v p (one-bad K pixels b i bar m (read v p n) h (sym ex ∙ e) (sym ez ∙ et))
+        by-way _ (refuse (st m v p n)) usable i n (Bad n i) m v p (one-bad K pixels b i bar m (read v p n) h (sym ex ∙ e) (sym ez ∙ et))
         (record { answered = refl; marked = refl; valued = refl; known = refl; falls = (omega arith, omega arith) })
 
-    pub coefficient-zero : x ≡ false → (z : Bool) → z ≡ bar → z ≡ false → One (Go (i + 1) (n + 1)) (set m i 1) v (set p i b)
+    pub coefficient-zero : x ≡ false → (z : Bool) → z ≡ bar → z ≡ false → One (Go (n + 1) (i + 1)) (set m i 1) v (set p i b)
     coefficient-zero e z ez ef =
-        by-way _ (move (i + 1) (st (set m i 1) v (set p i b) (n + 1))) usable i n (Go (i + 1) (n + 1)) (set m i 1) v (set p i b)
+        by-way _ (move (i + 1) (st (set m i 1) v (set p i b) (n + 1))) usable i n (Go (n + 1) (i + 1)) (set m i 1) v (set p i b)
         (one-zero K pixels b i bar m (read v p n) h (sym ex ∙ e) (sym ez ∙ ef) ∙ ap (λ (o : Read). move (i + 1) (sv (set m i 1) o)) (own false (sym ex ∙ e)))
         (record { answered = refl; marked = refl; valued = refl; known = refl; falls = (omega arith, omega arith, omega arith, omega arith) })
 
@@ -142,39 +146,46 @@ module _ (body : List ℕ) (usable I D P b i : ℕ) (m : List ℕ) (v : List ℤ
   pub pixel-own : (r : Turn) (m₁ : List ℕ) (v₁ : List ℤ) (p₁ : List ℕ) → getD m i 0 ≡ 1 → Does (oneSeen (reader body usable I D P) pixels b i false m (read v p n)) usable i n r m₁ v₁ p₁ → Pixel r m₁ v₁ p₁
   pixel-own r m₁ v₁ p₁ e d = by-way _ _ usable i n r m₁ v₁ p₁ (pixels-own (reader body usable I D P) b i (getD m i 0) m (read v p n) e) d
 
-  pub pixel-skip : (far : ℕ) → (getD m i 0 ≡ 1 → ⊥) → far ≡ skipOf (getD m i 0) → n ≤ usable → Pixel (Go (i + far) n) m v p
+  pub pixel-skip : (far : ℕ) → (getD m i 0 ≡ 1 → ⊥) → far ≡ skipOf (getD m i 0) → n ≤ usable → Pixel (Go n (i + far)) m v p
   pixel-skip far e f l =
-      by-way _ _ usable i n (Go (i + far) n) m v p (pixels-skip (reader body usable I D P) b i (getD m i 0) m (read v p n) e)
-      (record { answered = ap (λ (k : ℕ). Go (i + k) n) f; marked = refl; valued = refl; known = refl; falls = (omega arith, omega arith, l, omega (arith, f, skip-in (getD m i 0))) })
+      by-way _ _ usable i n (Go n (i + far)) m v p (pixels-skip (reader body usable I D P) b i (getD m i 0) m (read v p n) e)
+      (record { answered = ap (λ (k : ℕ). Go n (i + k)) f; marked = refl; valued = refl; known = refl; falls = (omega arith, omega arith, l, omega (arith, f, skip-in (getD m i 0))) })
 
   abbrev pub Refining : Turn → List ℕ → List ℤ → List ℕ → Type 0
   Refining r m₁ v₁ p₁ = Does (refiningSeen (reader body usable I D P) b i (getD m i 0) m (read v p n)) usable i n r m₁ v₁ p₁
 
-  pub refine-none : getD m i 0 ≡ 3 → usable ≤ n → n ≤ usable → Refining (Stop n) m v p
+  pub refine-none : getD m i 0 ≡ 3 → usable ≤ n → n ≤ usable → Refining (Stop n i) m v p
   refine-none e h l =
-      by-way _ _ usable i n (Stop n) m v p (refining-none (reader body usable I D P) b i (getD m i 0) m (read v p n) e h)
+      by-way _ _ usable i n (Stop n i) m v p (refining-none (reader body usable I D P) b i (getD m i 0) m (read v p n) e h)
       (record { answered = refl; marked = refl; valued = refl; known = refl; falls = (omega arith, omega arith) })
 
-  pub refine-own : (x : Bool) (v₁ : List ℤ) → getD m i 0 ≡ 3 → n < usable → x ≡ bitAt body n → v₁ ≡ set v i (joined (negative (at v i)) (magnitude (at v i) + digit x * 2 ^ b)) → Refining (Go (i + 1) (n + 1)) m v₁ (set p i b)
+  pub refine-own : (x : Bool) (v₁ : List ℤ) → getD m i 0 ≡ 3 → n < usable → x ≡ bitAt body n → v₁ ≡ set v i (moreCode x b (at v i)) → Refining (Go (n + 1) (i + 1)) m v₁ (set p i b)
   refine-own x v₁ e h ex ev =
-      by-way _ _ usable i n (Go (i + 1) (n + 1)) m v₁ (set p i b) (refining-own (reader body usable I D P) b i (getD m i 0) m (read v p n) e h)
+      by-way _ _ usable i n (Go (n + 1) (i + 1)) m v₁ (set p i b) (refining-own (reader body usable I D P) b i (getD m i 0) m (read v p n) e h)
       (record {
         answered = refl;
         marked = refl;
-        valued = ev ∙ ap (λ (y : Bool). set v i (joined (negative (at v i)) (magnitude (at v i) + digit y * 2 ^ b))) ex;
+        valued = ev ∙ ap (λ (y : Bool). set v i (moreCode y b (at v i))) ex;
         known = refl;
         falls = (omega arith, omega arith, omega arith, omega arith);
       })
 
-  pub refine-new : (getD m i 0 ≡ 3 → ⊥) → getD m i 0 ≡ 2 → n ≤ usable → Refining (Go (i + 1) n) (set m i 3) v p
+  pub refine-new : (getD m i 0 ≡ 3 → ⊥) → getD m i 0 ≡ 2 → n ≤ usable → Refining (Go n (i + 1)) (set m i 3) v p
   refine-new d e l =
-      by-way _ _ usable i n (Go (i + 1) n) (set m i 3) v p (refining-new (reader body usable I D P) b i (getD m i 0) m (read v p n) d e)
+      by-way _ _ usable i n (Go n (i + 1)) (set m i 3) v p (refining-new (reader body usable I D P) b i (getD m i 0) m (read v p n) d e)
       (record { answered = refl; marked = refl; valued = refl; known = refl; falls = (omega arith, omega arith, l, omega arith) })
 
-  pub refine-skip : (far : ℕ) → (getD m i 0 ≡ 3 → ⊥) → (getD m i 0 ≡ 2 → ⊥) → far ≡ skipOf (getD m i 0) → n ≤ usable → Refining (Go (i + far) n) m v p
-  refine-skip far d e f l =
-      by-way _ _ usable i n (Go (i + far) n) m v p (refining-skip (reader body usable I D P) b i (getD m i 0) m (read v p n) d e)
-      (record { answered = ap (λ (k : ℕ). Go (i + k) n) f; marked = refl; valued = refl; known = refl; falls = (omega arith, omega arith, l, omega (arith, f, skip-in (getD m i 0))) })
+  -- a mark above 3
+  pub refine-skip : (far : ℕ) → 3 < getD m i 0 → far ≡ skipOf (getD m i 0) → n ≤ usable → Refining (Go n (i + far)) m v p
+  refine-skip far h f l =
+      by-way _ _ usable i n (Go n (i + far)) m v p (refining-skip (reader body usable I D P) b i (getD m i 0) m (read v p n) (λ e. omega (arith, h, e)) (λ e. omega (arith, h, e)))
+      (record { answered = ap (λ (k : ℕ). Go n (i + k)) f; marked = refl; valued = refl; known = refl; falls = (omega arith, omega arith, l, omega (arith, f, skip-in (getD m i 0))) })
+
+  -- mark 0 or 1: there the skip is 1
+  pub refine-small : (getD m i 0 ≡ 3 → ⊥) → getD m i 0 ≤ 3 → (getD m i 0 ≡ 2 → ⊥) → n ≤ usable → Refining (Go n (i + 1)) m v p
+  refine-small d h e l =
+      by-way _ _ usable i n (Go n (i + 1)) m v p (refining-skip (reader body usable I D P) b i (getD m i 0) m (read v p n) d e)
+      (record { answered = ap (λ (k : ℕ). Go n (i + k)) (sym (skip-low (getD m i 0) (omega (arith, h)))); marked = refl; valued = refl; known = refl; falls = (omega arith, omega arith, l, omega arith) })
 
 -- a set's test: what is known stays
 abbrev pub Set : Question → Type 0
@@ -196,26 +207,26 @@ module _ (body : List ℕ) (usable I D P b i : ℕ) (q : Question) (far : ℕ) (
   abbrev Tested : Turn → List ℕ → List ℤ → List ℕ → Type 0
   Tested r m₁ v p = Does (testSeen (reader body usable I D P) b i q far bar new m (read v p n)) usable i n r m₁ v p
 
-  pub tested-none : usable ≤ n → n ≤ usable → (v : List ℤ) (p : List ℕ) → Tested (Stop n) m v p
+  pub tested-none : usable ≤ n → n ≤ usable → (v : List ℤ) (p : List ℕ) → Tested (Stop n i) m v p
   tested-none h l v p =
-      by-way _ _ usable i n (Stop n) m v p (test-none (reader body usable I D P) b i q far bar new m (read v p n) h)
+      by-way _ _ usable i n (Stop n i) m v p (test-none (reader body usable I D P) b i q far bar new m (read v p n) h)
       (record { answered = refl; marked = refl; valued = refl; known = refl; falls = (omega arith, omega arith) })
 
   module _ (x : Bool) (ex : x ≡ bitAt body n) (h : n < usable) where
-    pub tested-one : (m₁ : List ℕ) → x ≡ true → m₁ ≡ new → (v : List ℤ) (p : List ℕ) → Tested (Go i (n + 1)) m₁ v p
+    pub tested-one : (m₁ : List ℕ) → x ≡ true → m₁ ≡ new → (v : List ℤ) (p : List ℕ) → Tested (Go (n + 1) i) m₁ v p
     tested-one m₁ e em v p =
-        by-way _ (move i (st new v p (n + 1))) usable i n (Go i (n + 1)) m₁ v p
+        by-way _ (move i (st new v p (n + 1))) usable i n (Go (n + 1) i) m₁ v p
         (test-one (reader body usable I D P) b i q far bar new m (read v p n) h (sym ex ∙ e) ∙ ap (λ (o : Read). move i (sv new o)) (kept v p))
         (record { answered = refl; marked = em; valued = refl; known = refl; falls = (omega arith, omega arith, omega arith, omega arith) })
 
-    pub tested-bad : x ≡ false → (z : Bool) → z ≡ bar → z ≡ true → (v : List ℤ) (p : List ℕ) → Tested (Bad n) m v p
+    pub tested-bad : x ≡ false → (z : Bool) → z ≡ bar → z ≡ true → (v : List ℤ) (p : List ℕ) → Tested (Bad n i) m v p
     tested-bad e z ez et v p =
-        by-way _ (refuse (st m v p n)) usable i n (Bad n) m v p (test-bad (reader body usable I D P) b i q far bar new m (read v p n) h (sym ex ∙ e) (sym ez ∙ et))
+        by-way _ (refuse (st m v p n)) usable i n (Bad n i) m v p (test-bad (reader body usable I D P) b i q far bar new m (read v p n) h (sym ex ∙ e) (sym ez ∙ et))
         (record { answered = refl; marked = refl; valued = refl; known = refl; falls = (omega arith, omega arith) })
 
-    pub tested-zero : 1 ≤ far → x ≡ false → (z : Bool) → z ≡ bar → z ≡ false → (v : List ℤ) (p : List ℕ) → Tested (Go (i + far) (n + 1)) m v p
+    pub tested-zero : 1 ≤ far → x ≡ false → (z : Bool) → z ≡ bar → z ≡ false → (v : List ℤ) (p : List ℕ) → Tested (Go (n + 1) (i + far)) m v p
     tested-zero l e z ez ef v p =
-        by-way _ (move (i + far) (st m v p (n + 1))) usable i n (Go (i + far) (n + 1)) m v p
+        by-way _ (move (i + far) (st m v p (n + 1))) usable i n (Go (n + 1) (i + far)) m v p
         (test-zero (reader body usable I D P) b i q far bar new m (read v p n) h (sym ex ∙ e) (sym ez ∙ ef) ∙ ap (λ (o : Read). move (i + far) (sv m o)) (kept v p))
         (record { answered = refl; marked = refl; valued = refl; known = refl; falls = (omega arith, omega arith, omega arith, omega arith) })
 
@@ -262,10 +273,10 @@ module _ (body : List ℕ) (usable I D P b i : ℕ) (m : List ℕ) (v : List ℤ
       → ((v : List ℤ) (p : List ℕ) → Does (testSeen (reader body usable I 0 0) b i (inGrand (i / 16) b) 16 (grandClash i m) (grandSplit I i m) m (read v p n)) usable i n r m₁ v p) → Sets r m₁ v p
   set-grand r m₁ e f g d = by-way _ _ usable i n r m₁ v p (sets-grand (reader body usable I D P) I b i (getD m i 0) m (read v p n) e f g ∙ grand-alone) (d v p)
 
-  pub set-skip : (far : ℕ) → (getD m i 0 ≡ 4 → ⊥) → (getD m i 0 ≡ 5 → ⊥) → (getD m i 0 ≡ 6 → ⊥) → far ≡ setSkipOf (getD m i 0) → n ≤ usable → Sets (Go (i + far) n) m v p
+  pub set-skip : (far : ℕ) → (getD m i 0 ≡ 4 → ⊥) → (getD m i 0 ≡ 5 → ⊥) → (getD m i 0 ≡ 6 → ⊥) → far ≡ setSkipOf (getD m i 0) → n ≤ usable → Sets (Go n (i + far)) m v p
   set-skip far e f k z l =
-      by-way _ _ usable i n (Go (i + far) n) m v p (sets-skip (reader body usable I D P) I b i (getD m i 0) m (read v p n) e f k)
-      (record { answered = ap (λ (k : ℕ). Go (i + k) n) z; marked = refl; valued = refl; known = refl; falls = (omega arith, omega arith, l, omega (arith, z, set-skip-in (getD m i 0))) })
+      by-way _ _ usable i n (Go n (i + far)) m v p (sets-skip (reader body usable I D P) I b i (getD m i 0) m (read v p n) e f k)
+      (record { answered = ap (λ (k : ℕ). Go n (i + k)) z; marked = refl; valued = refl; known = refl; falls = (omega arith, omega arith, l, omega (arith, z, set-skip-in (getD m i 0))) })
 
   pixel-plain : pixelsSeen (reader body usable I D P) b i (getD m i 0) m (read v p n) ≡ pixelsSeen (reader body usable I 0 0) b i (getD m i 0) m (read v p n)
   unfolding pixelsSeen oneSeen

@@ -1,4 +1,4 @@
--- The decoder's scan does what the verdict on the usable bits says, and keeps what the definitions keep.
+-- The decoder's scan does what the verdict on the usable bits says, and keeps the codes of what the definitions keep.
 use Prim.Native.Nat.{ℕ, zero, suc, _+_, _-_, _*_, _/_, _%_, _^_, _≤_, _<_}
 use mathlib.Core.Path.{_≡_, refl, sym, ap, subst, _∙_}
 use mathlib.Core.Option.{Option, none, some}
@@ -20,6 +20,7 @@ use Rattle.nls.specs.Scan.{Question, bitOf, signOf, inDesc, inGrand, Pass, pixe
 use Rattle.nls.specs.Stream.{begin, after}
 use Rattle.nls.specs.Reading.{Known, nothing, learn, learnAt, learned, known}
 use Rattle.nls.specs.Judging.{Verdict, taken, contradiction, beyond}
+use Rattle.nls.proofs.Known.{Sound, known-sound}
 use Rattle.nls.proofs.Machine.Run.{settle-hush, settle-asks, settle-over}
 use Rattle.nls.proofs.Judging.Decide.{clash-by, cb-child, cb-grand, cb-desc, cb-root}
 use Rattle.nls.proofs.Judging.ByCount.{clash-count}
@@ -30,7 +31,7 @@ use Rattle.coder.specs.Reading.{Read, read, keep, is, childClash, grandC
 use Rattle.coder.proofs.Good.{Keeps, Proper, Free, state, Stopped, dry, Barred, barred, Stands}
 use Rattle.coder.proofs.Whole.{Ended, scan-good}
 use Rattle.coder.proofs.Led.{Led, led-silent, led-there, led-over, led-told, led-asks, asks-some, over-none, led-start, codes-first}
-use Rattle.coder.proofs.Fair.{Fair, FairAt, fair-silent, fair-told, learn-is, fair-start}
+use Rattle.coder.proofs.Coded.{inCodes, codes, codes-none, learn-is}
 
 -- ---- the code's tests of refusal 12 are the verdict's
 
@@ -131,9 +132,8 @@ module _ (N L P : ℕ) (most : P ≤ 24) (body : List ℕ) (usable : ℕ) where
 
   pub record Going (s : State) (o : Read) : Type 0 where
     pub led : Led N (begin N L P) s (bitsOf (o .n) body)
-    pub knows : o .known ≡ known N L P (bitsOf (o .n) body)
+    pub knows : o .known ≡ inCodes (known N L P (bitsOf (o .n) body))
     pub same : verdict N L P (bitsOf usable body) ≡ verdictFrom N L P (o .n) (settle (allOf N) s) (drop (o .n) (bitsOf usable body))
-    pub fair : FairAt (allOf N) P s (o .known)
 
   next-bit : (n : ℕ) → n < usable → drop n B ≡ bitAt body n ∷ drop (suc n) B
   next-bit n h = drop-cons B n false (omega (arith, h, bitsOf-length usable body)) ∙ ap {B = List Bool} (λ (x : Bool). x ∷ drop (suc n) B) (bitsOf-at usable body n h)
@@ -165,22 +165,22 @@ module _ (N L P : ℕ) (most : P ≤ 24) (body : List ℕ) (usable : ℕ) where
       let z : ask I (reach I s₀ w) ≡ some q = led-asks N s₀ s w q (g .led) l in
       let d : suc b - 1 ≡ b = omega arith in
       let t : settle I s ≡ s = settle-asks I s q l in
-      let kw : learnAt (ask I (reach I s₀ w)) (reach I s₀ w) a (known N L P w) ≡ keep p b q a (o .known) =
+      let f₀ : Sound I P s (known N L P w) = subst (λ (v : State). Sound I P v (known N L P w)) r (known-sound N L P w) in
+      let lw : learnAt (ask I (reach I s₀ w)) (reach I s₀ w) a (known N L P w) ≡ learn p b q a (known N L P w) =
       ap (λ (v : Option Question). learnAt v (reach I s₀ w) a (known N L P w)) z
       ∙ ap (λ (v : State). learn (v .pass) (v .left - 1) q a (known N L P w)) r
-      ∙ ap (λ (v : ℕ). learn p v q a (known N L P w)) d
-      ∙ ap (λ (v : Known). learn p b q a v) (sym (g .knows))
-      ∙ sym (learn-is I P b i m (o .known) h p e a q l (g .fair) most) in
+      ∙ ap (λ (v : ℕ). learn p v q a (known N L P w)) d in
+      let kw : keep p b q a (o .known) ≡ inCodes (learn p b q a (known N L P w)) =
+      ap (λ (v : Known). keep p b q a v) (g .knows) ∙ learn-is I P b i m (known N L P w) h p e a q l f₀ most in
       record {
         led = led-told N s₀ s w q a (g .led) l ∙ ap (λ (v : List Bool). reach I s₀ v) (sym c);
-        knows = sym (ap (λ (v : List Bool). known N L P v) c ∙ learned-append N s₀ (nothing N P) w (a ∷ []) ∙ learned-one N (reach I s₀ w) (known N L P w) a ∙ kw);
+        knows = kw ∙ ap (λ (v : Known). inCodes v) (sym (ap (λ (v : List Bool). known N L P v) c ∙ learned-append N s₀ (nothing N P) w (a ∷ []) ∙ learned-one N (reach I s₀ w) (known N L P w) a ∙ lw));
         same =
             g .same
             ∙ ap (λ (v : State). verdictFrom N L P (o .n) v (drop (o .n) B)) t
             ∙ ap (λ (v : List Bool). verdictFrom N L P (o .n) s v) (next-bit (o .n) u)
             ∙ verdict-go N L P (o .n) s a (drop (suc (o .n)) B) q (asks-some I s q l) (no-clash b p i e m q o l f)
             ∙ ap (λ (k : ℕ). verdictFrom N L P (o .n + 1) (settle I (tell I s a)) (drop k B)) (sym (add-one (o .n)));
-        fair = subst (λ (k : Known). FairAt I P (tell I s a) k) (sym (learn-is I P b i m (o .known) h p e a q l (g .fair) most)) (fair-told I P b i m (o .known) h p e a q l (g .fair));
       }
 
   keeps : Keeps K I Going
@@ -190,7 +190,6 @@ module _ (N L P : ℕ) (most : P ≤ 24) (body : List ℕ) (usable : ℕ) where
           led = led-silent N s₀ s r (bitsOf (o .n) body) (g .led) e;
           knows = g .knows;
           same = g .same ∙ ap (λ (v : State). verdictFrom N L P (o .n) v (drop (o .n) B)) (settle-hush I s r e);
-          fair = fair-silent I P s r (o .known) (g .fair) e;
         };
         told = λ b p i e m q o g l h x u f. going-told b p i e m q o g l h u f;
         counts = λ p b q x o. refl;
@@ -199,8 +198,8 @@ module _ (N L P : ℕ) (most : P ≤ 24) (body : List ℕ) (usable : ℕ) where
   -- what the scan leaves, by the verdict on the usable bits
   abbrev pub Matches : Verdict → Ran (Sv Read) → ℕ → Type 0
   Matches taken r l =
-      (isBad r ≡ false) × (last r .rest .n ≡ usable) × (last r .marks ≡ after N L P (bitsOf usable body) .marks) × (last r .rest .known ≡ known N L P (bitsOf usable body))
-      × (l ≡ after N L P (bitsOf usable body) .left) × FairAt (allOf N) P (after N L P (bitsOf usable body)) (known N L P (bitsOf usable body))
+      (isBad r ≡ false) × (last r .rest .n ≡ usable) × (last r .marks ≡ after N L P (bitsOf usable body) .marks) × (last r .rest .known ≡ inCodes (known N L P (bitsOf usable body)))
+      × (l ≡ after N L P (bitsOf usable body) .left)
   Matches (contradiction k) r l = (isBad r ≡ true) × (last r .rest .n ≡ k) × (k < usable)
   Matches (beyond k) r l = (isBad r ≡ false) × (last r .rest .n ≡ k) × (k < usable)
 
@@ -211,14 +210,13 @@ module _ (N L P : ℕ) (most : P ≤ 24) (body : List ℕ) (usable : ℕ) where
       g .same ∙ ap (λ (k : List Bool). verdictFrom N L P (o .n) (settle I s) k) (drop-of-length-le B {i = o .n} (omega (arith, n, bitsOf-length usable body))) ∙ verdict-end N L P (o .n) (settle I s) in
       let c : bitsOf (o .n) body ≡ B = ap {B = List Bool} (λ (k : ℕ). bitsOf k body) n in
       let w : after N L P B ≡ s = sym (sym t ∙ g .led ∙ ap (λ (u : List Bool). reach I s₀ u) c) in
-      let k : o .known ≡ known N L P B = g .knows ∙ ap (λ (u : List Bool). known N L P u) c in
+      let k : o .known ≡ inCodes (known N L P B) = g .knows ∙ ap (λ (u : List Bool). inCodes (known N L P u)) c in
       subst (λ (v : Verdict). Matches v r l) (sym d) (
         nb,
         ap (λ (v : Sv Read). v .rest .n) e ∙ n,
         ap (λ (v : Sv Read). v .marks) e ∙ ap (λ (x : State). x .marks) (sym w),
         ap (λ (v : Sv Read). v .rest .known) e ∙ k,
         z ∙ ap (λ (x : State). x .left) (sym w),
-        subst (λ (x : State). FairAt I P x (known N L P B)) (sym w) (subst (λ (x : Known). FairAt I P s x) k (g .fair)),
       )
 
   -- some are left
@@ -231,9 +229,8 @@ module _ (N L P : ℕ) (most : P ≤ 24) (body : List ℕ) (usable : ℕ) where
   first =
       record {
         led = led-start N D P;
-        knows = refl;
+        knows = ap {B = Known} (λ (v : List ℤ). record { bits = v; planes = replicate I P }) (codes-none I);
         same = ap (λ (s : State). verdictFrom N L P 0 s B) (sym (led-start N D P));
-        fair = fair-start N P (startMarks I D);
       }
 
   abbrev pub E : Ran (Sv Read)

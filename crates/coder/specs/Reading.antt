@@ -3,12 +3,15 @@ use Prim.Native.Nat.{ℕ, suc, _+_, _*_, _-_, _/_, _%_, _^_, _≤_, _<_}
 use mathlib.Core.Path.{_≡_}
 use mathlib.Core.Bool.{Bool, true, false, _&&_, _||_, cond}
 use mathlib.Core.List.{List}
+use lib.Bits.{bitOr}
 use lib.Dec.{leb, eqb}
 use lib.IntN.{ℤ, pos}
 use lib.ListN.{length, getD, set}
+use mir.Syntax.{w32}
+use mir.Val.{ofZ, toZ}
 use Rattle.sizes.specs.Sizes.{limit}
 use Rattle.bits.specs.Bits.{digit, bitAt}
-use Rattle.coef.specs.Coef.{at, magnitude, negative, signed}
+use Rattle.coef.specs.Coef.{at, magnitude, signed}
 use Rattle.nls.specs.Scan.{Question, bitOf, signOf, inDesc, inGrand, Pass, pixels, sets, refining}
 use Rattle.nls.specs.Reading.{Known, noted}
 use Rattle.coder.specs.Scans.{Seen, halt, refuse, move, Ran, last, isBad}
@@ -28,14 +31,30 @@ read v p n = record { known = record { bits = v; planes = p }; n = n }
 abbrev pub joined : Bool → ℕ → ℤ
 joined below size = cond (leb size limit) (signed below size) (pos 0)
 
--- what is kept of an answer: `learn` of nls, with values as the code makes them
+-- While the scan runs a value is kept as a code: twice its magnitude, and 1 more where it is below 0.
+-- the code of a coefficient found in plane b
+abbrev pub newCode : Bool → ℕ → ℤ
+newCode below b = pos (2 * 2 ^ b + digit below)
+
+-- a code with bit b of the magnitude put into its word
+unfoldable pub moreCode : Bool → ℕ → ℤ → ℤ
+moreCode x b z = toZ w32 (bitOr (ofZ w32 z) (digit x * 2 ^ (b + 1)))
+
+-- the value of a code
+abbrev pub uncoded : ℕ → ℤ
+uncoded n = signed (eqb (n % 2) 1) (n / 2)
+
+abbrev pub plainOf : ℤ → ℤ
+plainOf z = uncoded (magnitude z)
+
+-- what is kept of an answer: `learn` of nls, in codes
 abbrev pub keep : Pass → ℕ → Question → Bool → Known → Known
-keep refining b (bitOf i c) a k = noted i (joined (negative (at (k .bits) i)) (magnitude (at (k .bits) i) + digit a * 2 ^ b)) b k
+keep refining b (bitOf i c) a k = noted i (moreCode a b (at (k .bits) i)) b k
 keep pixels b (bitOf i c) false k = record { bits = k .bits; planes = set (k .planes) i b }
 keep pixels b (bitOf i c) true k = k
 keep sets b (bitOf i c) false k = record { bits = k .bits; planes = set (k .planes) i b }
 keep sets b (bitOf i c) true k = k
-keep pass b (signOf i) a k = noted i (joined a (2 ^ b)) b k
+keep pass b (signOf i) a k = noted i (newCode a b) b k
 keep pass b (inDesc g c) a k = k
 keep pass b (inGrand g c) a k = k
 
@@ -86,32 +105,34 @@ after (halt t) = t
 after (refuse t) = t
 after (move p t) = t
 
-abbrev pub answer : Seen (Sv Read) → Turn
-answer (halt t) = Stop (t .rest .n)
-answer (refuse t) = Bad (t .rest .n)
-answer (move p t) = Go p (t .rest .n)
+-- the bits used, and the place: where it stopped, or where to go on
+abbrev pub answer : ℕ → Seen (Sv Read) → Turn
+answer place (halt t) = Stop (t .rest .n) place
+answer place (refuse t) = Bad (t .rest .n) place
+answer place (move p t) = Go (t .rest .n) p
 
 abbrev pub Falls : ℕ → ℕ → ℕ → Turn → Type 0
-Falls usable place n (Stop k) = (n ≤ k) × (k ≤ usable)
-Falls usable place n (Bad k) = (n ≤ k) × (k ≤ usable)
-Falls usable place n (Go p k) = (place ≤ p) × (n ≤ k) × (k ≤ usable) × (place + n < p + k)
+Falls usable place n (Stop k p) = (n ≤ k) × (k ≤ usable)
+Falls usable place n (Bad k p) = (n ≤ k) × (k ≤ usable)
+Falls usable place n (Go k p) = (place ≤ p) × (n ≤ k) × (k ≤ usable) × (place + n < p + k)
 
 -- the answer r, and the marks, values and precisions left behind, are those of s
 pub record Does (s : Seen (Sv Read)) (usable place n : ℕ) (r : Turn) (m : List ℕ) (v : List ℤ) (p : List ℕ) : Type 0 where
-  pub answered : r ≡ answer s
+  pub answered : r ≡ answer place s
   pub marked : m ≡ after s .marks
   pub valued : v ≡ after s .rest .known .bits
   pub known : p ≡ after s .rest .known .planes
   pub falls : Falls usable place n r
 
 -- what a visit asks of its room
-pub record Room (m : List ℕ) (v : List ℤ) (p : List ℕ) (all usable place n b : ℕ) : Type 0 where
+pub record Room (body m : List ℕ) (v : List ℤ) (p : List ℕ) (all usable place n b : ℕ) : Type 0 where
   pub below : place < all
   pub size : length m ≡ all
   pub inValues : length v ≡ all
   pub inPrecisions : length p ≡ all
   pub near : all ≤ 65536
   pub spent : n ≤ usable
+  pub held : usable ≤ 8 * length body
   pub plane : b < 24
 
 -- the sizes, in range

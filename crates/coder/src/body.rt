@@ -3,6 +3,7 @@ use refusals::Outcome;
 use refusals::Refusal;
 ghost use mathlib.Core.Path.{_≡_};
 ghost use mathlib.Core.List.{_++_};
+ghost use Prim.Native.Nat.{_*_, _≤_};
 ghost use lib.IntN.{pos};
 ghost use lib.ListN.{length, drop, replicate};
 ghost use Rattle.refusals.specs.Checks.{firstOf, lentAfter};
@@ -163,7 +164,7 @@ fn read(
     precisions: &mut [u8],
     marks: &mut [u8],
 ) -> DecodeAnswer
-    requires { ⌜ ReadReady n l p (length (now values)) (length (now precisions)) (length (now marks)) ⌝ }
+    requires { ⌜ ReadReady n l p (length (now values)) (length (now precisions)) (length (now marks)) × (usable ≤ 8 * length (now body)) ⌝ }
     ensures { λ r. ⌜ Decoded n l p (bitsOf usable (now (body .entry))) (tables (now (values .entry)) (now (precisions .entry)) (now (marks .entry))) r (tables (now (values .exit)) (now (precisions .exit)) (now (marks .exit))) ⌝ }
 {
     let all = sizes::all_of(n);

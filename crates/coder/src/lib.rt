@@ -21,10 +21,11 @@ pub enum Step {
     Go(usize, usize),
 }
 
-// The same for the decoder and the bits used; it may also have met a bit that fits no array.
+// What a visit of the decoder leaves to do: nothing, for want of a bit or because the next one fits no array, or to go on.
+// In each the number of bits used comes first, and then the place: where it stopped, or where to go on.
 pub enum Turn {
-    Stop(usize),
-    Bad(usize),
+    Stop(usize, usize),
+    Bad(usize, usize),
     Go(usize, usize),
 }
 

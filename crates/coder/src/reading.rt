@@ -1,61 +1,45 @@
 // The decoder's scan: visits, passes, planes.
+// While it runs a known value is kept as a code: twice its magnitude, and 1 more where it is below 0.
 use crate::Reached;
 use crate::Turn;
 ghost use mathlib.Core.Path.{_≡_};
 ghost use mathlib.Core.Bool.{_&&_, false};
 ghost use mathlib.Core.List.{List};
-ghost use Prim.Native.Nat.{ℕ, _+_, _*_, _/_, _<_, _≤_, _^_};
+ghost use Prim.Native.Nat.{ℕ, _*_, _/_, _<_, _≤_};
 ghost use lib.Dec.{leb};
 ghost use lib.IntN.{ℤ};
 ghost use lib.ListN.{length, getD, set};
-ghost use Rattle.bits.specs.Bits.{bitAt, digit};
-ghost use Rattle.coef.specs.Coef.{at, magnitude, negative};
+ghost use Rattle.bits.specs.Bits.{bitAt};
+ghost use Rattle.coef.specs.Coef.{at};
 ghost use Rattle.nls.specs.Scan.{pixels, bitOf, inDesc, inGrand};
 ghost use Rattle.coder.specs.Scans.{planes, leftOf};
 ghost use Rattle.coder.specs.Visits.{oneSeen, testSeen, pixelsSeen, setsSeen, refiningSeen, visitSeen, scanOf, descSplit, grandSplit};
-ghost use Rattle.coder.specs.Reading.{joined, is, childClash, grandClash, lastClash, rootClash, descClash, reader, read, st, Does, Room, Sizes, Holds};
+ghost use Rattle.coder.specs.Reading.{newCode, moreCode, is, childClash, grandClash, lastClash, rootClash, descClash, reader, read, st, Does, Room, Sizes, Holds};
 
-// The bit with this number; 0 past the end.
+// The bit with this number.
 fn bit_at(body: &[u8], n: usize) -> bool
+    requires { ⌜ n < 8 * length (now body) ⌝ }
     ensures { λ r. ⌜ r ≡ bitAt (now (body .entry)) n ⌝ }
 {
-    match bits::fetch(body, n) {
-        bits::Next::Bit(x) => x,
-        bits::Next::NoMore => false,
-    }
-}
-
-// A value of a sign and a magnitude; 0 for one over the limit.
-pub(crate) fn value_of(negative: bool, magnitude: u32) -> i32
-    ensures { λ r. ⌜ r ≡ joined negative magnitude ⌝ }
-{
-    match coef::join_of(coef::Signed {
-        negative,
-        magnitude,
-    }) {
-        coef::Joined::Is(v) => v,
-        coef::Joined::TooLarge => 0,
-    }
+    let byte = body[n / 8];
+    bits::bit_in(byte, n)
 }
 
 // A coefficient that is found in plane b.
 fn found(values: &mut [i32], b: u32, place: usize, negative: bool)
     requires { ⌜ (place < length (now values)) × (b < 24) ⌝ }
-    ensures { λ _. ⌜ now (values .exit) ≡ set (now (values .entry)) place (joined negative (2 ^ b)) ⌝ }
+    ensures { λ _. ⌜ now (values .exit) ≡ set (now (values .entry)) place (newCode negative b) ⌝ }
 {
-    let v = value_of(negative, 1u32 << b);
-    values[place] = v;
+    values[place] = ((2u32 << b) + (negative as u32)) as i32;
 }
 
 // One more known bit of a value.
 fn refined(values: &mut [i32], b: u32, place: usize, x: bool)
     requires { ⌜ (place < length (now values)) × (b < 24) ⌝ }
-    ensures { λ _. ⌜ now (values .exit) ≡ set (now (values .entry)) place (joined (negative (at (now (values .entry)) place)) (magnitude (at (now (values .entry)) place) + digit x * 2 ^ b)) ⌝ }
+    ensures { λ _. ⌜ now (values .exit) ≡ set (now (values .entry)) place (moreCode x b (at (now (values .entry)) place)) ⌝ }
 {
     let old = values[place];
-    let size = coef::magnitude(old) + ((x as u32) << b);
-    let v = value_of(coef::is_negative(old), size);
-    values[place] = v;
+    values[place] = old | (((x as u32) << (b + 1)) as i32);
 }
 
 // Whether three marks are all of one code.
@@ -167,28 +151,28 @@ fn coefficient(
     place: usize,
     in_sets: bool,
 ) -> Turn
-    requires { ⌜ Room (now marks) (now values) (now precisions) all usable place n b ⌝ }
+    requires { ⌜ Room (now body) (now marks) (now values) (now precisions) all usable place n b ⌝ }
     ensures { λ r. ⌜ Does (oneSeen (reader (now (body .entry)) usable all 0 0) pixels b place (in_sets && childClash all place (now (marks .entry))) (now (marks .entry)) (read (now (values .entry)) (now (precisions .entry)) n)) usable place n r (now (marks .exit)) (now (values .exit)) (now (precisions .exit)) ⌝ }
 {
     if usable <= n {
-        return Turn::Stop(n);
+        return Turn::Stop(n, place);
     }
     let k = n + 1;
     if bit_at(body, n) {
         if usable <= k {
-            return Turn::Stop(k);
+            return Turn::Stop(k, place);
         }
         found(values, b, place, bit_at(body, k));
         precisions[place] = b as u8;
         marks[place] = 2;
-        return Turn::Go(place + 1, k + 1);
+        return Turn::Go(k + 1, place + 1);
     }
     if one_clash(marks, all, place, in_sets) {
-        return Turn::Bad(n);
+        return Turn::Bad(n, place);
     }
     precisions[place] = b as u8;
     marks[place] = 1;
-    Turn::Go(place + 1, k)
+    Turn::Go(k, place + 1)
 }
 
 // A place of the pixel pass.
@@ -203,7 +187,7 @@ fn pixel(
     b: u32,
     place: usize,
 ) -> Turn
-    requires { ⌜ Room (now marks) (now values) (now precisions) all usable place n b ⌝ }
+    requires { ⌜ Room (now body) (now marks) (now values) (now precisions) all usable place n b ⌝ }
     ensures { λ r. ⌜ Does (pixelsSeen (reader (now (body .entry)) usable all 0 0) b place (getD (now (marks .entry)) place 0) (now (marks .entry)) (read (now (values .entry)) (now (precisions .entry)) n)) usable place n r (now (marks .exit)) (now (values .exit)) (now (precisions .exit)) ⌝ }
 {
     let mark = marks[place];
@@ -222,7 +206,7 @@ fn pixel(
         );
     }
     let next = place + crate::marks::skip(mark);
-    Turn::Go(next, n)
+    Turn::Go(n, next)
 }
 
 // A place of the refinement pass.
@@ -237,24 +221,27 @@ fn refine(
     b: u32,
     place: usize,
 ) -> Turn
-    requires { ⌜ Room (now marks) (now values) (now precisions) all usable place n b ⌝ }
+    requires { ⌜ Room (now body) (now marks) (now values) (now precisions) all usable place n b ⌝ }
     ensures { λ r. ⌜ Does (refiningSeen (reader (now (body .entry)) usable all 0 0) b place (getD (now (marks .entry)) place 0) (now (marks .entry)) (read (now (values .entry)) (now (precisions .entry)) n)) usable place n r (now (marks .exit)) (now (values .exit)) (now (precisions .exit)) ⌝ }
 {
     let mark = marks[place];
     if mark == 3 {
         if usable <= n {
-            return Turn::Stop(n);
+            return Turn::Stop(n, place);
         }
         refined(values, b, place, bit_at(body, n));
         precisions[place] = b as u8;
-        return Turn::Go(place + 1, n + 1);
+        return Turn::Go(n + 1, place + 1);
+    }
+    if 3 < mark {
+        let next = place + crate::marks::skip(mark);
+        return Turn::Go(n, next);
     }
     if mark == 2 {
         marks[place] = 3;
-        return Turn::Go(place + 1, n);
+        return Turn::Go(n, place + 1);
     }
-    let next = place + crate::marks::skip(mark);
-    Turn::Go(next, n)
+    Turn::Go(n, place + 1)
 }
 
 // The test of a DESC.
@@ -269,20 +256,20 @@ fn test_desc(
     b: u32,
     place: usize,
 ) -> Turn
-    requires { ⌜ (place < all) × (length (now marks) ≡ all) × (b < 24) × (n ≤ usable) × Sizes all coarsest top ⌝ }
+    requires { ⌜ (place < all) × (length (now marks) ≡ all) × (b < 24) × (n ≤ usable) × (usable ≤ 8 * length (now body)) × Sizes all coarsest top ⌝ }
     ensures { λ r. ⌜ ((v : List ℤ) (p : List ℕ) → Does (testSeen (reader (now (body .entry)) usable all coarsest top) b place (inDesc (place / 4) b) 4 (descClash coarsest top b n place (now (marks .entry))) (descSplit all place (now (marks .entry))) (now (marks .entry)) (read v p n)) usable place n r (now (marks .exit)) v p) ⌝ }
 {
     if usable <= n {
-        return Turn::Stop(n);
+        return Turn::Stop(n, place);
     }
     if bit_at(body, n) {
         crate::marks::split_desc(marks, all, place);
-        return Turn::Go(place, n + 1);
+        return Turn::Go(n + 1, place);
     }
     if desc_clash(marks, all, coarsest, top, n, b, place) {
-        return Turn::Bad(n);
+        return Turn::Bad(n, place);
     }
-    Turn::Go(place + 4, n + 1)
+    Turn::Go(n + 1, place + 4)
 }
 
 // The test of a GRAND.
@@ -295,20 +282,20 @@ fn test_grand(
     b: u32,
     place: usize,
 ) -> Turn
-    requires { ⌜ (place < all) × (length (now marks) ≡ all) × (all ≤ 65536) × (16 ≤ all) × (n ≤ usable) ⌝ }
+    requires { ⌜ (place < all) × (length (now marks) ≡ all) × (all ≤ 65536) × (16 ≤ all) × (n ≤ usable) × (usable ≤ 8 * length (now body)) ⌝ }
     ensures { λ r. ⌜ ((v : List ℤ) (p : List ℕ) → Does (testSeen (reader (now (body .entry)) usable all 0 0) b place (inGrand (place / 16) b) 16 (grandClash place (now (marks .entry))) (grandSplit all place (now (marks .entry))) (now (marks .entry)) (read v p n)) usable place n r (now (marks .exit)) v p) ⌝ }
 {
     if usable <= n {
-        return Turn::Stop(n);
+        return Turn::Stop(n, place);
     }
     if bit_at(body, n) {
         crate::marks::split_grand(marks, all, place);
-        return Turn::Go(place, n + 1);
+        return Turn::Go(n + 1, place);
     }
     if grand_clash(marks, all, place) {
-        return Turn::Bad(n);
+        return Turn::Bad(n, place);
     }
-    Turn::Go(place + 16, n + 1)
+    Turn::Go(n + 1, place + 16)
 }
 
 // A place of the set pass.
@@ -325,7 +312,7 @@ fn sets(
     b: u32,
     place: usize,
 ) -> Turn
-    requires { ⌜ Room (now marks) (now values) (now precisions) all usable place n b × Sizes all coarsest top ⌝ }
+    requires { ⌜ Room (now body) (now marks) (now values) (now precisions) all usable place n b × Sizes all coarsest top ⌝ }
     ensures { λ r. ⌜ Does (setsSeen (reader (now (body .entry)) usable all coarsest top) all b place (getD (now (marks .entry)) place 0) (now (marks .entry)) (read (now (values .entry)) (now (precisions .entry)) n)) usable place n r (now (marks .exit)) (now (values .exit)) (now (precisions .exit)) ⌝ }
 {
     let mark = marks[place];
@@ -350,7 +337,7 @@ fn sets(
         return test_grand(body, marks, all, usable, n, b, place);
     }
     let next = place + crate::marks::set_skip(mark);
-    Turn::Go(next, n)
+    Turn::Go(n, next)
 }
 
 // A place of a pass.
@@ -368,7 +355,7 @@ fn visit(
     pass: u32,
     place: usize,
 ) -> Turn
-    requires { ⌜ Room (now marks) (now values) (now precisions) all usable place n b × Sizes all coarsest top ⌝ }
+    requires { ⌜ Room (now body) (now marks) (now values) (now precisions) all usable place n b × Sizes all coarsest top ⌝ }
     ensures { λ r. ⌜ Does (visitSeen (reader (now (body .entry)) usable all coarsest top) all b pass place (st (now (marks .entry)) (now (values .entry)) (now (precisions .entry)) n)) usable place n r (now (marks .exit)) (now (values .exit)) (now (precisions .exit)) ⌝ }
 {
     if pass == 0 {
@@ -403,7 +390,7 @@ pub(crate) fn scan(
     top: u32,
     usable: usize,
 ) -> Reached
-    requires { ⌜ (length (now marks) ≡ all) × (length (now values) ≡ all) × (length (now precisions) ≡ all) × Sizes all coarsest top ⌝ }
+    requires { ⌜ (length (now marks) ≡ all) × (length (now values) ≡ all) × (length (now precisions) ≡ all) × (usable ≤ 8 * length (now body)) × Sizes all coarsest top ⌝ }
     ensures { λ r. ⌜ Holds (planes (scanOf (reader (now (body .entry)) usable all coarsest top) all) top (st (now (marks .entry)) (now (values .entry)) (now (precisions .entry)) 0)) (leftOf (scanOf (reader (now (body .entry)) usable all coarsest top) all) top (st (now (marks .entry)) (now (values .entry)) (now (precisions .entry)) 0)) (r .bits) (r .left) (r .bad) (now (marks .exit)) (now (values .exit)) (now (precisions .exit)) ⌝ }
 {
     let mut n = 0;
@@ -428,16 +415,16 @@ pub(crate) fn scan(
                     pass,
                     place,
                 ) {
-                    Turn::Stop(k) => {
+                    Turn::Stop(k, _) => {
                         n = k;
                         break 'scan;
                     }
-                    Turn::Bad(k) => {
+                    Turn::Bad(k, _) => {
                         n = k;
                         bad = true;
                         break 'scan;
                     }
-                    Turn::Go(p, k) => {
+                    Turn::Go(k, p) => {
                         place = p;
                         n = k;
                     }

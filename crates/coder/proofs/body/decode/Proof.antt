@@ -57,15 +57,17 @@ read-requires c κs =
     let a = c .before .before .before .before .before .before .before .before .before .before .before .args in
     let all = c .before .before .before .before .all-of .result in
     let e = all-so (c .before .before .before .before) in
-    let r = ready (c .before .before .before .before) in
-    record {
-      side = r .side;
-      levels = r .levels;
-      planes = r .planes;
-      valuesSize = length-take-le all (a .values .now) (omega (arith, e, r .valuesRoom)) ∙ e;
-      precisionsSize = length-take-le all (a .precisions .now) (omega (arith, e, r .precisionsRoom)) ∙ e;
-      marksSize = length-take-le all (a .marks .now) (omega (arith, e, r .marksRoom)) ∙ e;
-    }
+    let r = ready (c .before .before .before .before) in (
+      record {
+        side = r .side;
+        levels = r .levels;
+        planes = r .planes;
+        valuesSize = length-take-le all (a .values .now) (omega (arith, e, r .valuesRoom)) ∙ e;
+        precisionsSize = length-take-le all (a .precisions .now) (omega (arith, e, r .precisionsRoom)) ∙ e;
+        marksSize = length-take-le all (a .marks .now) (omega (arith, e, r .marksRoom)) ∙ e;
+      },
+      omega (arith, c .before .before .before .usable-of .ensures),
+    )
 
 enum-known-why : tie.Need-enum-known-why
 enum-known-why c = search needs

@@ -10,15 +10,15 @@ use Rattle.nls.specs.Judging.{taken, Judged}
 use Rattle.nls.proofs.Verdicts.{verdict}
 use Rattle.coder.specs.Body.{tables}
 use Rattle.coder.proofs.CheckLaws.{sizes-near}
-use Rattle.coder.proofs.DecodeLaws.{Took, Ends, ends, bits-most, judged-taken, refused-12, refused-13, left-in, in-range, power-one, accepted}
+use Rattle.coder.proofs.DecodeLaws.{Took, Ends, ends, bits-most, judged-taken, refused-12, refused-13, left-in, not-below, in-range, power-one, accepted}
 use Rattle.coder.proofs.body.read.Statement.{statement}
 use Rattle.coder.proofs.body.read.Tie as tie
 
 all-so : (c : tie.After-all-of) → c .all-of .result ≡ allOf (c .before .before .before .before .args .n)
-all-so c = c .all-of .ensures ∙ rw (c .before .before .before .before .pre .side)
+all-so c = c .all-of .ensures ∙ rw (c .before .before .before .before .pre .0 .side)
 
 coarsest-so : (c : tie.After-coarsest-of) → c .coarsest-of .result ≡ coarsestOf (c .before .before .before .before .before .args .n) (c .before .before .before .before .before .args .l)
-coarsest-so c = c .coarsest-of .ensures ∙ rw (c .before .before .before .before .before .pre .side, c .before .before .before .before .before .pre .levels)
+coarsest-so c = c .coarsest-of .ensures ∙ rw (c .before .before .before .before .before .pre .0 .side, c .before .before .before .before .before .pre .0 .levels)
 
 all-of-requires : tie.Need-all-of-requires
 all-of-requires c κs = search needs
@@ -29,8 +29,8 @@ coarsest-of-requires c κs = search needs
 start-requires : tie.Need-start-requires
 start-requires c κs =
     let start = c .before .before .before .before .before .before in
-    let s = sizes-near (start .args .n) (start .args .l) (c .before .before .all-of .result) (c .before .coarsest-of .result) (all-so (c .before .before)) (coarsest-so (c .before)) (start .pre .side) (start .pre .levels) in
-    (start .pre .marksSize ∙ sym (all-so (c .before .before)), s .0, s .1, s .2, s .3)
+    let s = sizes-near (start .args .n) (start .args .l) (c .before .before .all-of .result) (c .before .coarsest-of .result) (all-so (c .before .before)) (coarsest-so (c .before)) (start .pre .0 .side) (start .pre .0 .levels) in
+    (start .pre .0 .marksSize ∙ sym (all-so (c .before .before)), s .0, s .1, s .2, s .3)
 
 clear-requires : tie.Need-clear-requires
 clear-requires c κs = search needs
@@ -45,45 +45,46 @@ scan-requires : tie.Need-scan-requires
 scan-requires c κs =
     let start = c .before .before .before .before .before .before .before .before .before .before .before .before .before .before .before .before .before .before .before in
     let e = all-so (c .before .before .before .before .before .before .before .before .before .before .before .before .before .before .before) in
-    let s = sizes-near (start .args .n) (start .args .l) (c .before .before .before .before .before .before .before .before .before .before .before .before .before .before .before .all-of .result) (c .before .before .before .before .before .before .before .before .before .before .before .before .before .before .coarsest-of .result) e (coarsest-so (c .before .before .before .before .before .before .before .before .before .before .before .before .before .before)) (start .pre .side) (start .pre .levels) in (
-      c .before .before .before .before .before .before .before .before .before .before .before .before .start .kept .0 ∙ start .pre .marksSize ∙ sym e,
-      c .before .before .before .before .before .before .before .before .clear .kept .0 ∙ start .pre .valuesSize ∙ sym e,
-      c .before .before .before .before .before .fill .kept .0 ∙ start .pre .precisionsSize ∙ sym e,
-      record { near = s .0; wide = s .1; room = s .2; tops = omega (arith, start .pre .planes) },
+    let s = sizes-near (start .args .n) (start .args .l) (c .before .before .before .before .before .before .before .before .before .before .before .before .before .before .before .all-of .result) (c .before .before .before .before .before .before .before .before .before .before .before .before .before .before .coarsest-of .result) e (coarsest-so (c .before .before .before .before .before .before .before .before .before .before .before .before .before .before)) (start .pre .0 .side) (start .pre .0 .levels) in (
+      c .before .before .before .before .before .before .before .before .before .before .before .before .start .kept .0 ∙ start .pre .0 .marksSize ∙ sym e,
+      c .before .before .before .before .before .before .before .before .clear .kept .0 ∙ start .pre .0 .valuesSize ∙ sym e,
+      c .before .before .before .before .before .fill .kept .0 ∙ start .pre .0 .precisionsSize ∙ sym e,
+      start .pre .1,
+      record { near = s .0; wide = s .1; room = s .2; tops = omega (arith, start .pre .0 .planes) },
     )
 
 -- where the scan ended, by the verdict
 ended : (c : tie.After-scan)
     → let a = c .before .before .before .before .before .before .before .before .before .before .before .before .before .before .before .before .before .before .before .before .args in
     let r = c .scan .result in
-    Ends (a .n) (a .l) (a .p) (length (a .values .now)) (length (a .precisions .now)) (length (a .marks .now)) (c .before .before .before .before .before .before .before .before .before .before .before .before .before .before .before .before .before .before .before .before .pre) (a .body .now) (a .usable) (r .bits) (r .left) (r .bad) (c .scan .last .1 .0) (c .scan .last .1 .1 .0) (c .scan .last .1 .1 .1 .0) (verdict (a .n) (a .l) (a .p) (bitsOf (a .usable) (a .body .now)))
+    Ends (a .n) (a .l) (a .p) (length (a .values .now)) (length (a .precisions .now)) (length (a .marks .now)) (c .before .before .before .before .before .before .before .before .before .before .before .before .before .before .before .before .before .before .before .before .pre .0) (a .body .now) (a .usable) (r .bits) (r .left) (r .bad) (c .scan .last .1 .0) (c .scan .last .1 .1 .0) (c .scan .last .1 .1 .1 .0) (verdict (a .n) (a .l) (a .p) (bitsOf (a .usable) (a .body .now)))
 ended c =
     let start = c .before .before .before .before .before .before .before .before .before .before .before .before .before .before .before .before .before .before .before .before in
     let a = start .args in
     let r = c .scan .result in
-    ends (a .n) (a .l) (a .p) (length (a .values .now)) (length (a .precisions .now)) (length (a .marks .now)) (start .pre) (a .body .now) (a .usable) (r .bits) (r .left) (r .bad) (c .scan .last .1 .0) (c .scan .last .1 .1 .0) (c .scan .last .1 .1 .1 .0)
+    ends (a .n) (a .l) (a .p) (length (a .values .now)) (length (a .precisions .now)) (length (a .marks .now)) (start .pre .0) (a .body .now) (a .usable) (r .bits) (r .left) (r .bad) (c .scan .last .1 .0) (c .scan .last .1 .1 .0) (c .scan .last .1 .1 .1 .0)
     (c .before .before .before .before .before .before .before .before .before .before .before .before .before .start .last .0) (c .before .before .before .before .before .before .before .before .before .clear .last .0) (c .before .before .before .before .before .before .fill .last .0) (c .before .before .before .before .before .before .before .before .before .before .before .before .before .before .before .before .all-of .result) (c .before .before .before .before .before .before .before .before .before .before .before .before .before .before .before .coarsest-of .result)
     (all-so (c .before .before .before .before .before .before .before .before .before .before .before .before .before .before .before .before)) (coarsest-so (c .before .before .before .before .before .before .before .before .before .before .before .before .before .before .before)) (c .before .before .before .before .before .before .before .before .before .before .before .before .before .start .ensures)
-    (c .before .before .before .before .before .before .before .before .before .clear .ensures ∙ ap (λ (k : ℕ). replicate k (pos 0)) (start .pre .valuesSize))
-    (c .before .before .before .before .before .before .fill .ensures ∙ ap (λ (k : ℕ). replicate k (a .p)) (start .pre .precisionsSize))
+    (c .before .before .before .before .before .before .before .before .before .clear .ensures ∙ ap (λ (k : ℕ). replicate k (pos 0)) (start .pre .0 .valuesSize))
+    (c .before .before .before .before .before .before .fill .ensures ∙ ap (λ (k : ℕ). replicate k (a .p)) (start .pre .0 .precisionsSize))
     (c .scan .ensures)
 
 -- the tables keep their sizes
 values-so : (c : tie.After-scan) → length (c .scan .last .1 .1 .0) ≡ allOf (c .before .before .before .before .before .before .before .before .before .before .before .before .before .before .before .before .before .before .before .before .args .n)
-values-so c = c .scan .kept .1 .1 .0 ∙ c .before .before .before .before .before .before .before .before .before .clear .kept .0 ∙ c .before .before .before .before .before .before .before .before .before .before .before .before .before .before .before .before .before .before .before .before .pre .valuesSize
+values-so c = c .scan .kept .1 .1 .0 ∙ c .before .before .before .before .before .before .before .before .before .clear .kept .0 ∙ c .before .before .before .before .before .before .before .before .before .before .before .before .before .before .before .before .before .before .before .before .pre .0 .valuesSize
 
 precisions-so : (c : tie.After-scan) → length (c .scan .last .1 .1 .1 .0) ≡ allOf (c .before .before .before .before .before .before .before .before .before .before .before .before .before .before .before .before .before .before .before .before .args .n)
-precisions-so c = c .scan .kept .1 .1 .1 .0 ∙ c .before .before .before .before .before .before .fill .kept .0 ∙ c .before .before .before .before .before .before .before .before .before .before .before .before .before .before .before .before .before .before .before .before .pre .precisionsSize
+precisions-so c = c .scan .kept .1 .1 .1 .0 ∙ c .before .before .before .before .before .before .fill .kept .0 ∙ c .before .before .before .before .before .before .before .before .before .before .before .before .before .before .before .before .before .before .before .before .pre .0 .precisionsSize
 
 marks-so : (c : tie.After-scan) → length (c .scan .last .1 .0) ≡ allOf (c .before .before .before .before .before .before .before .before .before .before .before .before .before .before .before .before .before .before .before .before .args .n)
-marks-so c = c .scan .kept .1 .0 ∙ c .before .before .before .before .before .before .before .before .before .before .before .before .before .start .kept .0 ∙ c .before .before .before .before .before .before .before .before .before .before .before .before .before .before .before .before .before .before .before .before .pre .marksSize
+marks-so c = c .scan .kept .1 .0 ∙ c .before .before .before .before .before .before .before .before .before .before .before .before .before .start .kept .0 ∙ c .before .before .before .before .before .before .before .before .before .before .before .before .before .before .before .before .before .before .before .before .pre .0 .marksSize
 
 cast-bits : tie.Need-cast-bits
 cast-bits c =
     let start = c .before .before .before .before .before .before .before .before .before .before .before .before .before .before .before .before .before .before .before .before .before .before .before .before .before .before in
     let a = start .args in
     let s = c .before .before .before .before .before .before .scan in
-    record { fits = omega (arith, bits-most (a .n) (a .l) (a .p) (length (a .values .now)) (length (a .precisions .now)) (length (a .marks .now)) (start .pre) (a .body .now) (a .usable) (s .result .bits) (s .result .left) (s .result .bad) (s .last .1 .0) (s .last .1 .1 .0) (s .last .1 .1 .1 .0) (ended (c .before .before .before .before .before .before)), start .fits .usable .fits) }
+    record { fits = omega (arith, bits-most (a .n) (a .l) (a .p) (length (a .values .now)) (length (a .precisions .now)) (length (a .marks .now)) (start .pre .0) (a .body .now) (a .usable) (s .result .bits) (s .result .left) (s .result .bad) (s .last .1 .0) (s .last .1 .1 .0) (s .last .1 .1 .1 .0) (ended (c .before .before .before .before .before .before)), start .fits .usable .fits) }
 
 clear-requires-2 : tie.Need-clear-requires-2
 clear-requires-2 c κs = search needs
@@ -103,7 +104,7 @@ returns c =
     let a = start .args in
     let s = c .before .before .before .before .before .before .before .before .before .before .before .before .before .before .before .before .scan in
     let k = c .before .before .before .before .before .clear2 in
-    refused-12 (a .n) (a .l) (a .p) (length (a .values .now)) (length (a .precisions .now)) (length (a .marks .now)) (start .pre) (a .body .now) (a .usable) (s .result .bits) (s .result .left) (s .result .bad) (s .last .1 .0) (s .last .1 .1 .0) (s .last .1 .1 .1 .0) (ended (c .before .before .before .before .before .before .before .before .before .before .before .before .before .before .before .before)) (tables (a .values .now) (a .precisions .now) (a .marks .now)) (start .pre .valuesSize) (start .pre .precisionsSize) (start .pre .marksSize)
+    refused-12 (a .n) (a .l) (a .p) (length (a .values .now)) (length (a .precisions .now)) (length (a .marks .now)) (start .pre .0) (a .body .now) (a .usable) (s .result .bits) (s .result .left) (s .result .bad) (s .last .1 .0) (s .last .1 .1 .0) (s .last .1 .1 .1 .0) (ended (c .before .before .before .before .before .before .before .before .before .before .before .before .before .before .before .before)) (tables (a .values .now) (a .precisions .now) (a .marks .now)) (start .pre .0 .valuesSize) (start .pre .0 .precisionsSize) (start .pre .0 .marksSize)
     (k .last .0) (k .last .1 .0) (k .last .1 .1 .0)
     (k .ensures .0 ∙ ap (λ (x : ℕ). replicate x (pos 0)) (values-so (c .before .before .before .before .before .before .before .before .before .before .before .before .before .before .before .before)))
     (k .ensures .1 .0 ∙ ap (λ (x : ℕ). replicate x 0) (precisions-so (c .before .before .before .before .before .before .before .before .before .before .before .before .before .before .before .before)))
@@ -128,7 +129,7 @@ returns-2 c =
     let a = start .args in
     let s = c .before .before .before .before .before .before .before .before .before .before .before .before .before .before .before .before .before .scan in
     let k = c .before .before .before .before .before .clear3 in
-    refused-13 (a .n) (a .l) (a .p) (length (a .values .now)) (length (a .precisions .now)) (length (a .marks .now)) (start .pre) (a .body .now) (a .usable) (s .result .bits) (s .result .left) (s .result .bad) (s .last .1 .0) (s .last .1 .1 .0) (s .last .1 .1 .1 .0) (ended (c .before .before .before .before .before .before .before .before .before .before .before .before .before .before .before .before .before)) (tables (a .values .now) (a .precisions .now) (a .marks .now)) (start .pre .valuesSize) (start .pre .precisionsSize) (start .pre .marksSize)
+    refused-13 (a .n) (a .l) (a .p) (length (a .values .now)) (length (a .precisions .now)) (length (a .marks .now)) (start .pre .0) (a .body .now) (a .usable) (s .result .bits) (s .result .left) (s .result .bad) (s .last .1 .0) (s .last .1 .1 .0) (s .last .1 .1 .1 .0) (ended (c .before .before .before .before .before .before .before .before .before .before .before .before .before .before .before .before .before)) (tables (a .values .now) (a .precisions .now) (a .marks .now)) (start .pre .0 .valuesSize) (start .pre .0 .precisionsSize) (start .pre .0 .marksSize)
     (k .last .0) (k .last .1 .0) (k .last .1 .1 .0)
     (k .ensures .0 ∙ ap (λ (x : ℕ). replicate x (pos 0)) (values-so (c .before .before .before .before .before .before .before .before .before .before .before .before .before .before .before .before .before)))
     (k .ensures .1 .0 ∙ ap (λ (x : ℕ). replicate x 0) (precisions-so (c .before .before .before .before .before .before .before .before .before .before .before .before .before .before .before .before .before)))
@@ -140,12 +141,12 @@ took : (c : tie.Else2)
     → let a = c .before .before .before .before .before .before .before .before .before .before .before .before .before .before .before .before .before .before .before .before .before .before .before .before .before .before .before .before .args in
     let s = c .before .before .before .before .before .before .before .before .scan in
     Judged (a .n) (a .l) (a .p) (bitsOf (a .usable) (a .body .now)) taken
-    × Took (a .n) (a .l) (a .p) (length (a .values .now)) (length (a .precisions .now)) (length (a .marks .now)) (c .before .before .before .before .before .before .before .before .before .before .before .before .before .before .before .before .before .before .before .before .before .before .before .before .before .before .before .before .pre) (a .body .now) (a .usable) (s .result .bits) (s .result .left) (s .result .bad) (s .last .1 .0) (s .last .1 .1 .0) (s .last .1 .1 .1 .0)
+    × Took (a .n) (a .l) (a .p) (length (a .values .now)) (length (a .precisions .now)) (length (a .marks .now)) (c .before .before .before .before .before .before .before .before .before .before .before .before .before .before .before .before .before .before .before .before .before .before .before .before .before .before .before .before .pre .0) (a .body .now) (a .usable) (s .result .bits) (s .result .left) (s .result .bad) (s .last .1 .0) (s .last .1 .1 .0) (s .last .1 .1 .1 .0)
 took c =
     let start = c .before .before .before .before .before .before .before .before .before .before .before .before .before .before .before .before .before .before .before .before .before .before .before .before .before .before .before .before in
     let a = start .args in
     let s = c .before .before .before .before .before .before .before .before .scan in
-    judged-taken (a .n) (a .l) (a .p) (length (a .values .now)) (length (a .precisions .now)) (length (a .marks .now)) (start .pre) (a .body .now) (a .usable) (s .result .bits) (s .result .left) (s .result .bad) (s .last .1 .0) (s .last .1 .1 .0) (s .last .1 .1 .1 .0) (ended (c .before .before .before .before .before .before .before .before)) (c .before .if1 .left) (c .if2 .left)
+    judged-taken (a .n) (a .l) (a .p) (length (a .values .now)) (length (a .precisions .now)) (length (a .marks .now)) (start .pre .0) (a .body .now) (a .usable) (s .result .bits) (s .result .left) (s .result .bad) (s .last .1 .0) (s .last .1 .1 .0) (s .last .1 .1 .1 .0) (ended (c .before .before .before .before .before .before .before .before)) (c .before .if1 .left) (c .if2 .left)
 
 finish-requires : tie.Need-finish-requires
 finish-requires c κs =
@@ -154,8 +155,8 @@ finish-requires c κs =
     let s = c .before .before .before .before .before .before .before .before .before .before .scan in
     let t = took (c .before .before) .1 in (
       values-so (c .before .before .before .before .before .before .before .before .before .before) ∙ sym (precisions-so (c .before .before .before .before .before .before .before .before .before .before)),
-      omega (arith, left-in (a .n) (a .l) (a .p) (length (a .values .now)) (length (a .precisions .now)) (length (a .marks .now)) (start .pre) (a .body .now) (a .usable) (s .result .bits) (s .result .left) (s .result .bad) (s .last .1 .0) (s .last .1 .1 .0) (s .last .1 .1 .1 .0) t, start .pre .planes),
-      λ i h. in-range (a .n) (a .l) (a .p) (length (a .values .now)) (length (a .precisions .now)) (length (a .marks .now)) (start .pre) (a .body .now) (a .usable) (s .result .bits) (s .result .left) (s .result .bad) (s .last .1 .0) (s .last .1 .1 .0) (s .last .1 .1 .1 .0) t i (omega (arith, h, values-so (c .before .before .before .before .before .before .before .before .before .before))),
+      omega (arith, left-in (a .n) (a .l) (a .p) (length (a .values .now)) (length (a .precisions .now)) (length (a .marks .now)) (start .pre .0) (a .body .now) (a .usable) (s .result .bits) (s .result .left) (s .result .bad) (s .last .1 .0) (s .last .1 .1 .0) (s .last .1 .1 .1 .0) t, start .pre .0 .planes),
+      λ i h. (not-below (a .n) (a .l) (a .p) (length (a .values .now)) (length (a .precisions .now)) (length (a .marks .now)) (start .pre .0) (a .body .now) (a .usable) (s .result .bits) (s .result .left) (s .result .bad) (s .last .1 .0) (s .last .1 .1 .0) (s .last .1 .1 .1 .0) t i, in-range (a .n) (a .l) (a .p) (length (a .values .now)) (length (a .precisions .now)) (length (a .marks .now)) (start .pre .0) (a .body .now) (a .usable) (s .result .bits) (s .result .left) (s .result .bad) (s .last .1 .0) (s .last .1 .1 .0) (s .last .1 .1 .1 .0) t i (omega (arith, h, values-so (c .before .before .before .before .before .before .before .before .before .before)))),
     )
 
 sub-t50 : tie.Need-sub-t50
@@ -163,7 +164,7 @@ sub-t50 c =
     let start = c .before .before .before .before .before .before .before .before .before .before .before .before .before .before .before .before .before .before .before .before .before .before .before .before .before .before .before .before .before .before .before .before .before .before in
     let a = start .args in
     let s = c .before .before .before .before .before .before .before .before .before .before .before .before .before .before .scan in
-    left-in (a .n) (a .l) (a .p) (length (a .values .now)) (length (a .precisions .now)) (length (a .marks .now)) (start .pre) (a .body .now) (a .usable) (s .result .bits) (s .result .left) (s .result .bad) (s .last .1 .0) (s .last .1 .1 .0) (s .last .1 .1 .1 .0) (took (c .before .before .before .before .before .before) .1)
+    left-in (a .n) (a .l) (a .p) (length (a .values .now)) (length (a .precisions .now)) (length (a .marks .now)) (start .pre .0) (a .body .now) (a .usable) (s .result .bits) (s .result .left) (s .result .bad) (s .last .1 .0) (s .last .1 .1 .0) (s .last .1 .1 .1 .0) (took (c .before .before .before .before .before .before) .1)
 
 shl-t51 : tie.Need-shl-t51
 shl-t51 c = search needs
@@ -173,7 +174,7 @@ sub-t52 c =
     let start = c .before .before .before .before .before .before .before .before .before .before .before .before .before .before .before .before .before .before .before .before .before .before .before .before .before .before .before .before .before .before .before .before .before .before in
     let a = start .args in
     let s = c .before .before .before .before .before .before .before .before .before .before .before .before .before .before .scan in
-    power-one (a .n) (a .l) (a .p) (length (a .values .now)) (length (a .precisions .now)) (length (a .marks .now)) (start .pre) (a .body .now) (a .usable) (s .result .bits) (s .result .left) (s .result .bad) (s .last .1 .0) (s .last .1 .1 .0) (s .last .1 .1 .1 .0) (took (c .before .before .before .before .before .before) .1)
+    power-one (a .n) (a .l) (a .p) (length (a .values .now)) (length (a .precisions .now)) (length (a .marks .now)) (start .pre .0) (a .body .now) (a .usable) (s .result .bits) (s .result .left) (s .result .bad) (s .last .1 .0) (s .last .1 .1 .0) (s .last .1 .1 .1 .0) (took (c .before .before .before .before .before .before) .1)
 
 same-length-7 : tie.Need-same-length-7
 same-length-7 c = search needs
@@ -191,7 +192,7 @@ returns-3 c =
     let s = c .before .before .before .before .before .before .before .before .before .before .before .before .before .before .scan in
     let t = took (c .before .before .before .before .before .before) in
     let f = c .before .before .before .finish in
-    accepted (a .n) (a .l) (a .p) (length (a .values .now)) (length (a .precisions .now)) (length (a .marks .now)) (start .pre) (a .body .now) (a .usable) (s .result .bits) (s .result .left) (s .result .bad) (s .last .1 .0) (s .last .1 .1 .0) (s .last .1 .1 .1 .0) (t .1) (t .0) (tables (a .values .now) (a .precisions .now) (a .marks .now)) (start .pre .valuesSize) (start .pre .precisionsSize) (start .pre .marksSize)
+    accepted (a .n) (a .l) (a .p) (length (a .values .now)) (length (a .precisions .now)) (length (a .marks .now)) (start .pre .0) (a .body .now) (a .usable) (s .result .bits) (s .result .left) (s .result .bad) (s .last .1 .0) (s .last .1 .1 .0) (s .last .1 .1 .1 .0) (t .1) (t .0) (tables (a .values .now) (a .precisions .now) (a .marks .now)) (start .pre .0 .valuesSize) (start .pre .0 .precisionsSize) (start .pre .0 .marksSize)
     (f .last .0) (f .last .1 .0) (length (s .last .1 .1 .0)) (length (s .last .1 .1 .1 .0)) (values-so (c .before .before .before .before .before .before .before .before .before .before .before .before .before .before)) (precisions-so (c .before .before .before .before .before .before .before .before .before .before .before .before .before .before)) (f .ensures .0) (f .ensures .1)
 
 pub read-spec : {M : Type 1} → statement M

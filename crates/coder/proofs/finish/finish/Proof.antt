@@ -1,4 +1,5 @@
 use mathlib.Core.Path.{_≡_, refl, ap, _∙_}
+use mathlib.Core.Bool.{false}
 use mathlib.Core.List.{List, _++_}
 use Prim.Native.Nat.{ℕ, _-_, _≤_, min}
 use native.Mathlib.Omega.{arith}
@@ -11,8 +12,10 @@ use mir.Syntax.{w32}
 use mir.Val.{SFits, toZ, ofZ}
 use Rattle.sizes.specs.Tables.{table}
 use Rattle.sizes.proofs.Tables.{fill-step}
-use Rattle.coef.specs.Coef.{at}
+use Rattle.coef.specs.Coef.{at, negative}
 use Rattle.nls.specs.Reading.{midpoint, valueBy}
+use Rattle.coef.proofs.Held.{pos-cast}
+use Rattle.coder.specs.Reading.{plainOf}
 use Rattle.coder.proofs.FinishLaws.{not-yet, whole}
 use Rattle.coder.proofs.finish.finish.Statement.{statement}
 use Rattle.coder.proofs.finish.finish.Tie as tie
@@ -20,13 +23,13 @@ use Rattle.coder.proofs.finish.finish.Tie as tie
 abbrev Inv-loop : tie.InvT-loop
 Inv-loop values₀ precisions₀ left i₀ i-end values precisions i =
     (i ≤ i-end) × (i-end ≡ length values₀) × (length values ≡ length values₀) × (length precisions ≡ length precisions₀)
-    × (values ≡ table i (λ k. valueBy midpoint (min (getD precisions₀ k 0) left) (at values₀ k)) ++ drop i values₀)
+    × (values ≡ table i (λ k. valueBy midpoint (min (getD precisions₀ k 0) left) (plainOf (at values₀ k))) ++ drop i values₀)
     × (precisions ≡ table i (λ k. min (getD precisions₀ k 0) left) ++ drop i precisions₀)
 
 abbrev μ-loop : tie.MeasureT-loop
 μ-loop values₀ precisions₀ left i₀ i-end values precisions i = i-end - i
 
--- in a turn: the precision and the known bits at i as they were, and the smaller precision
+-- in a turn: the precision and the code at i as they were, and the smaller precision
 precision-so : (c : tie.After-smaller Inv-loop μ-loop) → c .smaller .result ≡ min (getD (c .before .before .before .before .before .args .precisions .now) (c .before .before .before .loop .i) 0) (c .before .before .before .before .before .args .left)
 precision-so c =
     let a = c .before .before .before .before .before .args in
@@ -34,13 +37,18 @@ precision-so c =
     c .smaller .ensures
     ∙ ap (λ (p : ℕ). min p (a .left)) (ap (λ (x : List ℕ). getD x (l .i) 0) (l .inv .5) ∙ not-yet (l .i) (λ k. min (getD (a .precisions .now) k 0) (a .left)) (a .precisions .now) 0)
 
-known-so : (c : tie.After-known Inv-loop μ-loop) → toZ w32 (ofZ w32 (at (c .before .before .before .before .loop .values) (c .before .before .before .before .loop .i))) ≡ at (c .before .before .before .before .before .before .args .values .now) (c .before .before .before .before .loop .i)
-known-so c =
+code-is : (c : tie.After-code Inv-loop μ-loop) → at (c .before .before .before .before .loop .values) (c .before .before .before .before .loop .i) ≡ at (c .before .before .before .before .before .before .args .values .now) (c .before .before .before .before .loop .i)
+code-is c =
     let a = c .before .before .before .before .before .before .args in
     let l = c .before .before .before .before .loop in
-    let f : SFits w32 (at (l .values) (l .i)) = record { sfits = c .known .given } in
-    toZ-ofZ f ∙ ap (λ (x : List ℤ). at x (l .i)) (l .inv .4)
-    ∙ not-yet (l .i) (λ k. valueBy midpoint (min (getD (a .precisions .now) k 0) (a .left)) (at (a .values .now) k)) (a .values .now) (pos 0)
+    ap (λ (x : List ℤ). at x (l .i)) (l .inv .4)
+    ∙ not-yet (l .i) (λ k. valueBy midpoint (min (getD (a .precisions .now) k 0) (a .left)) (plainOf (at (a .values .now) k))) (a .values .now) (pos 0)
+
+code-so : (c : tie.After-code Inv-loop μ-loop) → toZ w32 (ofZ w32 (at (c .before .before .before .before .loop .values) (c .before .before .before .before .loop .i))) ≡ at (c .before .before .before .before .before .before .args .values .now) (c .before .before .before .before .loop .i)
+code-so c =
+    let l = c .before .before .before .before .loop in
+    let f : SFits w32 (at (l .values) (l .i)) = record { sfits = c .code .given } in
+    toZ-ofZ f ∙ code-is c
 
 loop-holds : tie.Need-loop-holds Inv-loop μ-loop
 loop-holds c = (search needs, refl, refl, refl, unfold table in refl, unfold table in refl)
@@ -54,17 +62,23 @@ cast-smaller c = record { fits = omega (arith, c .slice-known2 .given (c .before
 smaller-requires : tie.Need-smaller-requires Inv-loop μ-loop
 smaller-requires c κs = search needs
 
-mul-known : tie.Need-mul-known Inv-loop μ-loop
-mul-known c = search needs
+mul-code : tie.Need-mul-code Inv-loop μ-loop
+mul-code c = search needs
 
-slice-copy-out-known : tie.Need-slice-copy-out-known Inv-loop μ-loop
-slice-copy-out-known c = search needs
+slice-copy-out-code : tie.Need-slice-copy-out-code Inv-loop μ-loop
+slice-copy-out-code c = search needs
+
+cast-value-at : tie.Need-cast-value-at Inv-loop μ-loop
+cast-value-at c =
+    let start = c .before .before .before .before .before .before in
+    let l = c .before .before .before .before .loop in
+    pos-cast (at (l .values) (l .i)) (record { sfits = c .code .given }) (ap (λ (z : ℤ). negative z) (code-is c) ∙ start .pre .2 (l .i) (c .before .before .before .loop-test .taken) .0)
 
 value-at-requires : tie.Need-value-at-requires Inv-loop μ-loop
 value-at-requires c κs =
     let start = c .before .before .before .before .before .before in
     let l = c .before .before .before .before .loop in
-    rw (known-so c, precision-so (c .before)) (omega (arith, start .pre .1), start .pre .2 (l .i) (c .before .before .before .loop-test .taken))
+    rw (code-so c, precision-so (c .before)) (omega (arith, start .pre .1), start .pre .2 (l .i) (c .before .before .before .loop-test .taken) .1)
 
 mul-v : tie.Need-mul-v Inv-loop μ-loop
 mul-v c = search needs
@@ -90,13 +104,13 @@ loop-again c =
     let l = c .before .before .before .before .before .loop in
     let f : SFits w32 (c .value-at .result) = record { sfits = c .value-at .ok } in
     let k = precision-so (c .before .before) in
-    let v : toZ w32 (ofZ w32 (c .value-at .result)) ≡ valueBy midpoint (min (getD (a .precisions .now) (l .i) 0) (a .left)) (at (a .values .now) (l .i)) =
-    toZ-ofZ f ∙ c .value-at .ensures ∙ rw (known-so (c .before), k) in (
+    let v : toZ w32 (ofZ w32 (c .value-at .result)) ≡ valueBy midpoint (min (getD (a .precisions .now) (l .i) 0) (a .left)) (plainOf (at (a .values .now) (l .i))) =
+    toZ-ofZ f ∙ c .value-at .ensures ∙ rw (code-so (c .before), k) in (
       omega arith,
       refl,
       length-set (l .values) (l .i) _ ∙ l .inv .2,
       length-set (l .precisions) (l .i) _ ∙ l .inv .3,
-      rw (l .inv .4, add-one (l .i)) (fill-step (l .i) (λ k. valueBy midpoint (min (getD (a .precisions .now) k 0) (a .left)) (at (a .values .now) k)) (a .values .now) (toZ w32 (ofZ w32 (c .value-at .result))) (omega arith) v),
+      rw (l .inv .4, add-one (l .i)) (fill-step (l .i) (λ k. valueBy midpoint (min (getD (a .precisions .now) k 0) (a .left)) (plainOf (at (a .values .now) k))) (a .values .now) (toZ w32 (ofZ w32 (c .value-at .result))) (omega arith) v),
       rw (l .inv .5, add-one (l .i)) (fill-step (l .i) (λ k. min (getD (a .precisions .now) k 0) (a .left)) (a .precisions .now) (c .before .before .smaller .result) (omega arith) k),
     )
 
@@ -124,8 +138,9 @@ finish-spec =
     slice-read-smaller
     cast-smaller
     smaller-requires
-    mul-known
-    slice-copy-out-known
+    mul-code
+    slice-copy-out-code
+    cast-value-at
     value-at-requires
     mul-v
     slice-set-from-v

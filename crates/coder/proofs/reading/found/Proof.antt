@@ -1,28 +1,51 @@
-use Rattle.coder.proofs.ValueLaws.{found-is}
+use Rattle.coder.proofs.ValueLaws.{found-fits, found-signed, found-is}
 use borrow.Author.Needs.{needs}
 use Rattle.coder.proofs.reading.found.Statement.{statement}
 use Rattle.coder.proofs.reading.found.Tie as tie
 use Rattle.coder.proofs.reading.found.Reads as reads
 use Rattle.coder.proofs.reading.found.Lts as lts
-use Rattle.coder.proofs.reading.value_of.Reads as value-of-reads
 
-shl-value-of : tie.Need-shl-value-of
-shl-value-of c = search needs
+-- src/reading.rt:33:23
+shl-values : tie.Need-shl-values
+shl-values c = search needs
 
-value-of-requires : tie.Need-value-of-requires
-value-of-requires c κs = search needs
+-- src/reading.rt:33:37
+cast-values : tie.Need-cast-values
+cast-values c = search needs
 
-mul-v : tie.Need-mul-v
-mul-v c = search needs
+-- src/reading.rt:33:22
+add-values : tie.Need-add-values
+add-values c = found-fits (c .args .negative) (c .args .b) (c .pre .1)
 
-slice-set-from-v : tie.Need-slice-set-from-v
-slice-set-from-v c = search needs
+-- src/reading.rt:33:21
+cast-values-2 : tie.Need-cast-values-2
+cast-values-2 c = found-signed (c .args .negative) (c .args .b) (c .pre .1)
 
+-- src/reading.rt:33:5
+mul-t9 : tie.Need-mul-t9
+mul-t9 c = search needs
+
+-- src/reading.rt:33:5
+slice-set-from-values : tie.Need-slice-set-from-values
+slice-set-from-values c = search needs
+
+-- src/reading.rt:29:1
 same-length : tie.Need-same-length
 same-length c = search needs
 
+-- src/reading.rt:29:1
 returns : tie.Need-returns
-returns c = found-is (c .before .args .values .now) (c .before .args .place) (c .before .args .negative) (c .before .args .b) _ (c .before .pre .1) (c .value-of .ensures)
+returns c = found-is (c .args .negative) (c .args .b) (c .pre .1) (c .args .values .now) (c .args .place)
 
 pub found-spec : {M : Type 1} → statement M
-found-spec = tie.close (tie.spec shl-value-of value-of-requires mul-v slice-set-from-v same-length returns)
+found-spec =
+    tie.close
+    (tie.spec
+    shl-values
+    cast-values
+    add-values
+    cast-values-2
+    mul-t9
+    slice-set-from-values
+    same-length
+    returns)

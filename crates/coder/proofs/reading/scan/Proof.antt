@@ -46,8 +46,8 @@ loop2-holds c = (c .before .loop .inv .0, record { marks = refl; values = refl; 
 
 visit-requires : tie.Need-visit-requires Inv-loop2 μ-loop2 Inv-loop μ-loop Inv-scan μ-scan
 visit-requires c κs = (
-  record { below = c .before .before .before .loop2-test .taken; size = omega arith; inValues = omega arith; inPrecisions = omega arith; near = omega arith; spent = omega arith; plane = omega arith },
-  c .before .before .before .before .before .before .before .before .before .before .before .before .pre .3,
+  record { below = c .before .before .before .loop2-test .taken; size = omega arith; inValues = omega arith; inPrecisions = omega arith; near = omega arith; spent = omega arith; held = omega arith; plane = omega arith },
+  c .before .before .before .before .before .before .before .before .before .before .before .before .pre .4,
 )
 
 enum-known-k : tie.Need-enum-known-k Inv-loop2 μ-loop2 Inv-loop μ-loop Inv-scan μ-scan
@@ -56,17 +56,17 @@ enum-known-k c = c .match .keys1
 enum-known-k-2 : tie.Need-enum-known-k-2 Inv-loop2 μ-loop2 Inv-loop μ-loop Inv-scan μ-scan
 enum-known-k-2 c = c .match .keys2
 
-enum-known-p : tie.Need-enum-known-p Inv-loop2 μ-loop2 Inv-loop μ-loop Inv-scan μ-scan
-enum-known-p c = c .match .keys3
+enum-known-k-3 : tie.Need-enum-known-k-3 Inv-loop2 μ-loop2 Inv-loop μ-loop Inv-scan μ-scan
+enum-known-k-3 c = c .match .keys3
 
 loop2-less : tie.Need-loop2-less Inv-loop2 μ-loop2 Inv-loop μ-loop Inv-scan μ-scan
-loop2-less c = let f = falls-go _ _ _ _ _ _ (c .before .before .before .before .before .before .before .before .visit .ensures .falls) (c .before .p .given .1) in omega arith
+loop2-less c = let f = falls-go _ _ _ _ _ _ (c .before .before .before .before .before .before .before .before .visit .ensures .falls) (c .before .k3 .given .1) in omega arith
 
 loop2-again : tie.Need-loop2-again Inv-loop2 μ-loop2 Inv-loop μ-loop Inv-scan μ-scan
-loop2-again c = let f = falls-go _ _ _ _ _ _ (c .before .before .before .before .before .before .before .before .visit .ensures .falls) (c .before .p .given .1) in (
+loop2-again c = let f = falls-go _ _ _ _ _ _ (c .before .before .before .before .before .before .before .before .visit .ensures .falls) (c .before .k3 .given .1) in (
   c .before .before .before .before .before .before .before .before .before .before .before .before .before .loop2 .inv .0,
   record { marks = c .before .before .before .before .before .before .before .before .visit .kept .1 .0 ∙ c .before .before .before .before .before .before .before .before .before .before .before .before .before .loop2 .inv .1 .marks; values = c .before .before .before .before .before .before .before .before .visit .kept .1 .1 .0 ∙ c .before .before .before .before .before .before .before .before .before .before .before .before .before .loop2 .inv .1 .values; precisions = c .before .before .before .before .before .before .before .before .visit .kept .1 .1 .1 .0 ∙ c .before .before .before .before .before .before .before .before .before .before .before .before .before .loop2 .inv .1 .precisions; spent = f .2 },
-  turn-go _ _ _ _ _ _ _ _ _ _ _ _ _ _ _ _ _ _ _ (c .before .before .before .before .before .before .before .before .before .before .before .before .before .loop2 .inv .2) (c .before .before .before .before .before .before .before .before .visit .ensures) (c .before .p .given .1) (c .before .before .before .before .before .before .before .before .before .before .before .before .loop2-test .taken),
+  turn-go _ _ _ _ _ _ _ _ _ _ _ _ _ _ _ _ _ _ _ (c .before .before .before .before .before .before .before .before .before .before .before .before .before .loop2 .inv .2) (c .before .before .before .before .before .before .before .before .visit .ensures) (c .before .k3 .given .1) (c .before .before .before .before .before .before .before .before .before .before .before .before .loop2-test .taken),
 )
 
 add-pass : tie.Need-add-pass Inv-loop2 μ-loop2 Inv-loop μ-loop Inv-scan μ-scan
@@ -116,7 +116,7 @@ same-length-6 : tie.Need-same-length-6 Inv-loop2 μ-loop2 Inv-loop μ-loop Inv-s
 same-length-6 c = c .before .before .before .before .before .before .before .before .visit .kept .1 .1 .1 .0 ∙ (omega arith)
 
 returns-2 : tie.Need-returns-2 Inv-loop2 μ-loop2 Inv-loop μ-loop Inv-scan μ-scan
-returns-2 c = let y = turn-stop _ _ _ _ _ _ _ _ _ _ _ _ _ _ _ _ _ _ (c .before .before .before .before .before .before .before .before .before .before .before .before .before .loop2 .inv .2) (c .before .before .before .before .before .before .before .before .visit .ensures) (c .before .k .given .1) (c .before .before .before .before .before .before .before .before .before .before .before .before .loop2-test .taken) in
+returns-2 c = let y = turn-stop _ _ _ _ _ _ _ _ _ _ _ _ _ _ _ _ _ _ _ (c .before .before .before .before .before .before .before .before .before .before .before .before .before .loop2 .inv .2) (c .before .before .before .before .before .before .before .before .visit .ensures) (c .before .k .given .1) (c .before .before .before .before .before .before .before .before .before .before .before .before .loop2-test .taken) in
     let x = pass-stop _ _ _ _ _ _ (c .before .before .before .before .before .before .before .before .before .before .before .before .before .before .before .loop .inv .3) y (c .before .before .before .before .before .before .before .before .before .before .before .before .before .before .loop-test .taken) in
     let w = plane-stop _ _ _ _ _ (c .before .before .before .before .before .before .before .before .before .before .before .before .before .before .before .before .before .scan .inv .3) x (c .before .before .before .before .before .before .before .before .before .before .before .before .before .before .before .before .scan-test .taken) in
     let l = left-stop _ _ _ _ _ (c .before .before .before .before .before .before .before .before .before .before .before .before .before .before .before .before .before .scan .inv .4) x (c .before .before .before .before .before .before .before .before .before .before .before .before .before .before .before .before .scan-test .taken) in
@@ -132,11 +132,11 @@ same-length-9 : tie.Need-same-length-9 Inv-loop2 μ-loop2 Inv-loop μ-loop Inv-s
 same-length-9 c = c .before .before .before .before .before .before .before .before .visit .kept .1 .1 .1 .0 ∙ (omega arith)
 
 returns-3 : tie.Need-returns-3 Inv-loop2 μ-loop2 Inv-loop μ-loop Inv-scan μ-scan
-returns-3 c = let y = turn-bad _ _ _ _ _ _ _ _ _ _ _ _ _ _ _ _ _ _ (c .before .before .before .before .before .before .before .before .before .before .before .before .before .loop2 .inv .2) (c .before .before .before .before .before .before .before .before .visit .ensures) (c .before .k2 .given .1) (c .before .before .before .before .before .before .before .before .before .before .before .before .loop2-test .taken) in
+returns-3 c = let y = turn-bad _ _ _ _ _ _ _ _ _ _ _ _ _ _ _ _ _ _ _ (c .before .before .before .before .before .before .before .before .before .before .before .before .before .loop2 .inv .2) (c .before .before .before .before .before .before .before .before .visit .ensures) (c .before .k2 .given .1) (c .before .before .before .before .before .before .before .before .before .before .before .before .loop2-test .taken) in
     let x = pass-bad _ _ _ _ _ _ (c .before .before .before .before .before .before .before .before .before .before .before .before .before .before .before .loop .inv .3) y (c .before .before .before .before .before .before .before .before .before .before .before .before .before .before .loop-test .taken) in
     let w = plane-bad _ _ _ _ _ (c .before .before .before .before .before .before .before .before .before .before .before .before .before .before .before .before .before .scan .inv .3) x (c .before .before .before .before .before .before .before .before .before .before .before .before .before .before .before .before .scan-test .taken) in
     let l = left-bad _ _ _ _ _ (c .before .before .before .before .before .before .before .before .before .before .before .before .before .before .before .before .before .scan .inv .4) x (c .before .before .before .before .before .before .before .before .before .before .before .before .before .before .before .before .scan-test .taken) in
     rw w (record { count = refl; lefts = sym l; refuses = refl; marked = refl; valued = refl; known = refl; within = omega arith })
 
 pub scan-spec : {M : Type 1} → statement M
-scan-spec = tie.close (tie.spec Inv-loop2 μ-loop2 Inv-loop μ-loop Inv-scan μ-scan scan-holds sub-b loop-holds loop2-holds visit-requires enum-known-k enum-known-k-2 enum-known-p loop2-less loop2-again add-pass loop-less loop-again scan-less scan-again same-length same-length-2 same-length-3 returns same-length-4 same-length-5 same-length-6 returns-2 same-length-7 same-length-8 same-length-9 returns-3)
+scan-spec = tie.close (tie.spec Inv-loop2 μ-loop2 Inv-loop μ-loop Inv-scan μ-scan scan-holds sub-b loop-holds loop2-holds visit-requires enum-known-k enum-known-k-2 enum-known-k-3 loop2-less loop2-again add-pass loop-less loop-again scan-less scan-again same-length same-length-2 same-length-3 returns same-length-4 same-length-5 same-length-6 returns-2 same-length-7 same-length-8 same-length-9 returns-3)

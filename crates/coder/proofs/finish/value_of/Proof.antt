@@ -1,9 +1,9 @@
 use Rattle.coder.proofs.ValueLaws.{joined-is, joined-no}
 use borrow.Author.Needs.{needs}
-use Rattle.coder.proofs.reading.value_of.Statement.{statement}
-use Rattle.coder.proofs.reading.value_of.Tie as tie
-use Rattle.coder.proofs.reading.value_of.Reads as reads
-use Rattle.coder.proofs.reading.value_of.Lts as lts
+use Rattle.coder.proofs.finish.value_of.Statement.{statement}
+use Rattle.coder.proofs.finish.value_of.Tie as tie
+use Rattle.coder.proofs.finish.value_of.Reads as reads
+use Rattle.coder.proofs.finish.value_of.Lts as lts
 use Rattle.coef.proofs.join_of.Reads as join-of-reads
 
 join-of-requires : tie.Need-join-of-requires
