@@ -3,12 +3,17 @@ use Prim.Native.Nat.{ℕ, suc, _+_, _*_, _-_, _/_, _%_, _^_, _≤_, _<_}
 use mathlib.Core.Path.{_≡_, refl, sym, ap, subst, _∙_}
 use mathlib.Core.Bool.{Bool, true, false, _&&_, cond}
 use mathlib.Core.List.{List, []}
+use native.Mathlib.Decide.{decLt}
 use native.Mathlib.Omega.{arith}
 use borrow.Author.Tests.{eq-eqb, ne-eqb, le-leb, lt-leb}
 use lib.Dec.{leb, eqb}
 use lib.IntN.{ℤ, pos}
 use lib.ListN.{length, set, getD}
-use Rattle.bits.specs.Bits.{bit, bitAt}
+use Rattle.bits.specs.declared.Next.{Next}
+use Rattle.bits.specs.declared.Next.the-variants.{Bit, NoMore}
+use Rattle.bits.specs.Bits.{bitAt}
+use Rattle.view.specs.View.{viewed}
+use Rattle.view.proofs.Laws.{viewed-bit, viewed-within}
 use Rattle.coef.specs.Coef.{at}
 use Rattle.nls.specs.Scan.{Question, bitOf, signOf, inDesc, inGrand, Pass, pixels, sets, refining}
 use Rattle.nls.specs.Reading.{Known}
@@ -91,9 +96,24 @@ module _ (D P b used t : ℕ) where
 
 -- ---- visits
 
-pub bit-is : (body : List ℕ) (n : ℕ) (x : Bool) → x ≡ bit (getD body (n / 8) 0) (7 - n % 8) → x ≡ bitAt body n
-unfolding bitAt
-bit-is body n x e = e
+-- ---- what a read through the view tells, where no more bits are usable than there are
+
+module _ (body : List ℕ) (n usable : ℕ) {r : Next} (is : r ≡ viewed body n usable) where
+  pub told-bit : (x : Bool) → r ≡ Bit x → (n < usable) × (x ≡ bitAt body n)
+  told-bit x e =
+      let h = viewed-within body n usable x (sym is ∙ e) in
+      let z : Bit x ≡ Bit (bitAt body n) = sym e ∙ is ∙ viewed-bit body n usable h in
+      (omega (arith, h), cc)
+
+  pub told-none : usable ≤ 8 * length body → r ≡ NoMore → usable ≤ n
+  told-none h e = tell (decLt n usable)
+    where
+      tell : Dec (n < usable) → usable ≤ n
+      tell (yes l) =
+          let z : NoMore ≡ Bit (bitAt body n) = sym e ∙ is ∙ viewed-bit body n usable (omega (arith, h, l)) in
+          let o : _≡_ {A = ℕ} 0 1 = cc in
+          absurd (omega (arith, o))
+      tell (no l) = omega (arith, l)
 
 by-way : (s t : Seen (Sv Read)) (usable place n : ℕ) (r : Turn) (m : List ℕ) (v : List ℤ) (p : List ℕ) → s ≡ t → Does t usable place n r m v p → Does s usable place n r m v p
 by-way s t usable place n r m v p e d = subst (λ (x : Seen (Sv Read)). Does x usable place n r m v p) (sym e) d

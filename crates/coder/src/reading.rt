@@ -2,6 +2,7 @@
 // While it runs a known value is kept as a code: twice its magnitude, and 1 more where it is below 0.
 use crate::Reached;
 use crate::Turn;
+use bits::Next;
 ghost use mathlib.Core.Path.{_≡_};
 ghost use mathlib.Core.Bool.{_&&_, false};
 ghost use mathlib.Core.List.{List};
@@ -15,15 +16,6 @@ ghost use Rattle.nls.specs.Scan.{pixels, bitOf, inDesc, inGrand};
 ghost use Rattle.coder.specs.Scans.{planes, leftOf};
 ghost use Rattle.coder.specs.Visits.{oneSeen, testSeen, pixelsSeen, setsSeen, refiningSeen, visitSeen, scanOf, descSplit, grandSplit};
 ghost use Rattle.coder.specs.Reading.{newCode, moreCode, is, childClash, grandClash, lastClash, rootClash, descClash, reader, read, st, Does, Room, Sizes, Holds};
-
-// The bit with this number.
-fn bit_at(body: &[u8], n: usize) -> bool
-    requires { ⌜ n < 8 * length (now body) ⌝ }
-    ensures { λ r. ⌜ r ≡ bitAt (now (body .entry)) n ⌝ }
-{
-    let byte = body[n / 8];
-    bits::bit_in(byte, n)
-}
 
 // A coefficient that is found in plane b.
 fn found(values: &mut [i32], b: u32, place: usize, negative: bool)
@@ -154,25 +146,29 @@ fn coefficient(
     requires { ⌜ Room (now body) (now marks) (now values) (now precisions) all usable place n b ⌝ }
     ensures { λ r. ⌜ Does (oneSeen (reader (now (body .entry)) usable all 0 0) pixels b place (in_sets && childClash all place (now (marks .entry))) (now (marks .entry)) (read (now (values .entry)) (now (precisions .entry)) n)) usable place n r (now (marks .exit)) (now (values .exit)) (now (precisions .exit)) ⌝ }
 {
-    if usable <= n {
-        return Turn::Stop(n, place);
-    }
-    let k = n + 1;
-    if bit_at(body, n) {
-        if usable <= k {
-            return Turn::Stop(k, place);
+    match view::read(body, n, usable) {
+        Next::Bit(x) => {
+            let k = n + 1;
+            if x {
+                return match view::read(body, k, usable) {
+                    Next::Bit(negative) => {
+                        found(values, b, place, negative);
+                        precisions[place] = b as u8;
+                        marks[place] = 2;
+                        Turn::Go(k + 1, place + 1)
+                    }
+                    Next::NoMore => Turn::Stop(k, place),
+                };
+            }
+            if one_clash(marks, all, place, in_sets) {
+                return Turn::Bad(n, place);
+            }
+            precisions[place] = b as u8;
+            marks[place] = 1;
+            Turn::Go(k, place + 1)
         }
-        found(values, b, place, bit_at(body, k));
-        precisions[place] = b as u8;
-        marks[place] = 2;
-        return Turn::Go(k + 1, place + 1);
+        Next::NoMore => Turn::Stop(n, place),
     }
-    if one_clash(marks, all, place, in_sets) {
-        return Turn::Bad(n, place);
-    }
-    precisions[place] = b as u8;
-    marks[place] = 1;
-    Turn::Go(k, place + 1)
 }
 
 // A place of the pixel pass.
@@ -226,12 +222,14 @@ fn refine(
 {
     let mark = marks[place];
     if mark == 3 {
-        if usable <= n {
-            return Turn::Stop(n, place);
-        }
-        refined(values, b, place, bit_at(body, n));
-        precisions[place] = b as u8;
-        return Turn::Go(n + 1, place + 1);
+        return match view::read(body, n, usable) {
+            Next::Bit(x) => {
+                refined(values, b, place, x);
+                precisions[place] = b as u8;
+                Turn::Go(n + 1, place + 1)
+            }
+            Next::NoMore => Turn::Stop(n, place),
+        };
     }
     if 3 < mark {
         let next = place + crate::marks::skip(mark);
@@ -259,17 +257,19 @@ fn test_desc(
     requires { ⌜ (place < all) × (length (now marks) ≡ all) × (b < 24) × (n ≤ usable) × (usable ≤ 8 * length (now body)) × Sizes all coarsest top ⌝ }
     ensures { λ r. ⌜ ((v : List ℤ) (p : List ℕ) → Does (testSeen (reader (now (body .entry)) usable all coarsest top) b place (inDesc (place / 4) b) 4 (descClash coarsest top b n place (now (marks .entry))) (descSplit all place (now (marks .entry))) (now (marks .entry)) (read v p n)) usable place n r (now (marks .exit)) v p) ⌝ }
 {
-    if usable <= n {
-        return Turn::Stop(n, place);
+    match view::read(body, n, usable) {
+        Next::Bit(x) => {
+            if x {
+                crate::marks::split_desc(marks, all, place);
+                return Turn::Go(n + 1, place);
+            }
+            if desc_clash(marks, all, coarsest, top, n, b, place) {
+                return Turn::Bad(n, place);
+            }
+            Turn::Go(n + 1, place + 4)
+        }
+        Next::NoMore => Turn::Stop(n, place),
     }
-    if bit_at(body, n) {
-        crate::marks::split_desc(marks, all, place);
-        return Turn::Go(n + 1, place);
-    }
-    if desc_clash(marks, all, coarsest, top, n, b, place) {
-        return Turn::Bad(n, place);
-    }
-    Turn::Go(n + 1, place + 4)
 }
 
 // The test of a GRAND.
@@ -285,17 +285,19 @@ fn test_grand(
     requires { ⌜ (place < all) × (length (now marks) ≡ all) × (all ≤ 65536) × (16 ≤ all) × (n ≤ usable) × (usable ≤ 8 * length (now body)) ⌝ }
     ensures { λ r. ⌜ ((v : List ℤ) (p : List ℕ) → Does (testSeen (reader (now (body .entry)) usable all 0 0) b place (inGrand (place / 16) b) 16 (grandClash place (now (marks .entry))) (grandSplit all place (now (marks .entry))) (now (marks .entry)) (read v p n)) usable place n r (now (marks .exit)) v p) ⌝ }
 {
-    if usable <= n {
-        return Turn::Stop(n, place);
+    match view::read(body, n, usable) {
+        Next::Bit(x) => {
+            if x {
+                crate::marks::split_grand(marks, all, place);
+                return Turn::Go(n + 1, place);
+            }
+            if grand_clash(marks, all, place) {
+                return Turn::Bad(n, place);
+            }
+            Turn::Go(n + 1, place + 16)
+        }
+        Next::NoMore => Turn::Stop(n, place),
     }
-    if bit_at(body, n) {
-        crate::marks::split_grand(marks, all, place);
-        return Turn::Go(n + 1, place);
-    }
-    if grand_clash(marks, all, place) {
-        return Turn::Bad(n, place);
-    }
-    Turn::Go(n + 1, place + 16)
 }
 
 // A place of the set pass.

@@ -1,117 +1,102 @@
 use native.Mathlib.Omega.{arith}
 use lib.ListN.{getD}
 use Rattle.coder.proofs.MarkLaws.{skip-in}
-use Rattle.coder.proofs.ReadLaws.{refine-none, refine-own, refine-new, refine-skip, refine-small}
+use Rattle.coder.proofs.ReadLaws.{told-bit, told-none, refine-none, refine-own, refine-new, refine-skip, refine-small}
 use borrow.Author.Needs.{needs}
 use Rattle.coder.proofs.reading.refine.Statement.{statement}
 use Rattle.coder.proofs.reading.refine.Tie as tie
-use Rattle.coder.proofs.reading.refine.Reads as reads
-use Rattle.coder.proofs.reading.refine.Lts as lts
-use Rattle.coder.proofs.marks.skip.Reads as skip-reads
-use Rattle.coder.proofs.reading.bit_at.Reads as bit-at-reads
-use Rattle.coder.proofs.reading.refined.Reads as refined-reads
 
--- src/reading.rt:227:16
 slice-read-mark : tie.Need-slice-read-mark
 slice-read-mark c = search needs
 
--- src/reading.rt:230:13
-returns : tie.Need-returns
-returns c = refine-none _ _ _ _ _ _ _ _ _ _ _ (c .before .if1 .taken) (c .if2 .taken) (omega arith)
+read-requires : tie.Need-read-requires
+read-requires c κs = search needs
 
--- src/reading.rt:232:35
-bit-at-requires : tie.Need-bit-at-requires
-bit-at-requires c κs = search needs
+enum-known-x : tie.Need-enum-known-x
+enum-known-x c = search needs
 
--- src/reading.rt:232:9
 refined-requires : tie.Need-refined-requires
 refined-requires c κs = search needs
 
--- src/reading.rt:233:29
 cast-precisions : tie.Need-cast-precisions
 cast-precisions c = search needs
 
--- src/reading.rt:233:9
 slice-write-precisions : tie.Need-slice-write-precisions
 slice-write-precisions c = search needs
 
--- src/reading.rt:234:25
-add-t21 : tie.Need-add-t21
-add-t21 c = search needs
+add-t23 : tie.Need-add-t23
+add-t23 c = omega (arith, (told-bit (c .before .before .before .before .before .before .before .before .before .before .before .before .args .body .now) (c .before .before .before .before .before .before .before .before .before .before .before .before .args .n) (c .before .before .before .before .before .before .before .before .before .before .before .before .args .usable) (c .before .before .before .before .before .before .read .ensures) _ (c .before .before .before .before .x .given .1)) .0, c .before .before .before .before .before .before .before .before .before .before .before .before .fits .usable .fits)
 
--- src/reading.rt:234:32
-add-t22 : tie.Need-add-t22
-add-t22 c = search needs
+add-t24 : tie.Need-add-t24
+add-t24 c = search needs
 
--- src/reading.rt:234:9
+enum-told : tie.Need-enum-told
+enum-told c = search needs
+
 same-length : tie.Need-same-length
 same-length c = search needs
 
--- src/reading.rt:234:9
 same-length-2 : tie.Need-same-length-2
 same-length-2 c = search needs
 
--- src/reading.rt:234:9
-returns-2 : tie.Need-returns-2
-returns-2 c = refine-own _ _ _ _ _ _ _ _ _ _ _ _ _ (c .before .before .before .before .before .if1 .taken) (c .before .before .before .before .if2 .left) (c .before .before .bit-at .ensures) (c .before .refined .ensures)
+returns : tie.Need-returns
+returns c =
+    let b = told-bit (c .before .before .before .before .before .before .before .before .before .before .before .before .args .body .now) (c .before .before .before .before .before .before .before .before .before .before .before .before .args .n) (c .before .before .before .before .before .before .before .before .before .before .before .before .args .usable) (c .before .before .before .before .before .before .read .ensures) _ (c .before .before .before .before .x .given .1) in
+    refine-own _ _ _ _ _ _ _ _ _ _ _ _ _ (c .before .before .before .before .before .before .before .if1 .taken) (b .0) (b .1) (c .before .refined .ensures)
 
--- src/reading.rt:237:28
+returns-2 : tie.Need-returns-2
+returns-2 c = refine-none _ _ _ _ _ _ _ _ _ _ _ (c .before .before .before .if1 .taken) (told-none (c .before .before .before .before .before .before .before .before .args .body .now) (c .before .before .before .before .before .before .before .before .args .n) (c .before .before .before .before .before .before .before .before .args .usable) (c .before .before .read .ensures) (c .before .before .before .before .before .before .before .before .pre .held) (c .enum-told .given .1)) (omega arith)
+
 skip-requires : tie.Need-skip-requires
 skip-requires c κs = search needs
 
--- src/reading.rt:237:20
 add-next : tie.Need-add-next
 add-next c = omega (arith, skip-in (getD (c .before .before .before .before .before .before .before .args .marks .now) (c .before .before .before .before .before .before .before .args .place) 0), c .skip .ensures)
 
--- src/reading.rt:238:9
 returns-3 : tie.Need-returns-3
-returns-3 c = refine-skip _ _ _ _ _ _ _ _ _ _ _ _ (c .before .if3 .taken) (c .skip .ensures) (omega arith)
+returns-3 c = refine-skip _ _ _ _ _ _ _ _ _ _ _ _ (c .before .if2 .taken) (c .skip .ensures) (omega arith)
 
--- src/reading.rt:241:9
 slice-write-marks : tie.Need-slice-write-marks
 slice-write-marks c = search needs
 
--- src/reading.rt:242:28
-add-t25 : tie.Need-add-t25
-add-t25 c = search needs
+add-t27 : tie.Need-add-t27
+add-t27 c = search needs
 
--- src/reading.rt:242:9
 same-length-3 : tie.Need-same-length-3
 same-length-3 c = search needs
 
--- src/reading.rt:242:9
 returns-4 : tie.Need-returns-4
-returns-4 c = refine-new _ _ _ _ _ _ _ (c .before .before .before .before .before .before .before .args .marks .now) _ _ _ (c .before .before .if1 .left) (c .if4 .taken) (omega arith)
+returns-4 c = refine-new _ _ _ _ _ _ _ (c .before .before .before .before .before .before .before .args .marks .now) _ _ _ (c .before .before .if1 .left) (c .if3 .taken) (omega arith)
 
--- src/reading.rt:244:17
-add-t26 : tie.Need-add-t26
-add-t26 c = search needs
+add-t28 : tie.Need-add-t28
+add-t28 c = search needs
 
--- src/reading.rt:213:1
 returns-5 : tie.Need-returns-5
-returns-5 c = refine-small _ _ _ _ _ _ _ _ _ _ _ (c .before .before .if1 .left) (c .before .if3 .left) (c .if4 .left) (omega arith)
+returns-5 c = refine-small _ _ _ _ _ _ _ _ _ _ _ (c .before .before .if1 .left) (c .before .if2 .left) (c .if3 .left) (omega arith)
 
 pub refine-spec : {M : Type 1} → statement M
 refine-spec =
     tie.close
     (tie.spec
     slice-read-mark
-    returns
-    bit-at-requires
+    read-requires
+    enum-known-x
     refined-requires
     cast-precisions
     slice-write-precisions
-    add-t21
-    add-t22
+    add-t23
+    add-t24
+    enum-told
     same-length
     same-length-2
+    returns
     returns-2
     skip-requires
     add-next
     returns-3
     slice-write-marks
-    add-t25
+    add-t27
     same-length-3
     returns-4
-    add-t26
+    add-t28
     returns-5)
