@@ -5,6 +5,7 @@ use mathlib.Core.Bool.{Bool, false}
 use mathlib.Core.List.{List, []}
 use lib.IntN.{ℤ}
 use lib.ListN.{length, getD}
+use Rattle.sizes.specs.Sizes.{mostN, allOf}
 use Rattle.bits.specs.Bits.{bit, withBit}
 use Rattle.coef.specs.Coef.{at, magAt, negative}
 use Rattle.nls.specs.Scan.{Question, bitOf, signOf, inDesc, inGrand}
@@ -78,7 +79,7 @@ pub record Does (s : Seen (Sv Bytes)) (budget place n : ℕ) (r : Step) (m o : L
 pub record Room (A : List ℤ) (m o : List ℕ) (all budget place n : ℕ) : Type 0 where
   pub below : place < all
   pub size : length m ≡ all
-  pub near : all ≤ 65536
+  pub near : all ≤ allOf mostN
   pub inCoefs : all ≤ length A
   pub spent : n ≤ budget
   pub room : budget ≤ 8 * length o

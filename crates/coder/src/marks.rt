@@ -3,6 +3,7 @@ ghost use mathlib.Core.Path.{_≡_};
 ghost use Prim.Native.Nat.{ℕ, _+_, _*_, _/_, _%_, _<_, _≤_};
 ghost use lib.IntN.{pos};
 ghost use lib.ListN.{length, replicate, set};
+ghost use Rattle.sizes.specs.Sizes.{mostN, allOf};
 ghost use Rattle.nls.specs.Marks.{startMarks};
 ghost use Rattle.coder.specs.Visits.{skipOf, setSkipOf, pushSix, newDesc, descSplit, grandSplit};
 
@@ -65,7 +66,7 @@ fn store(marks: &mut [u8], place: usize, code: u8)
 
 // The places 4i, 16i and so on get their marks, only while the place is below I.
 fn push(marks: &mut [u8], all: usize, place: usize)
-    requires { ⌜ (length (now marks) ≡ all) × (all ≤ 65536) × (place < 131072) ⌝ }
+    requires { ⌜ (length (now marks) ≡ all) × (all ≤ allOf mostN) × (place < 2 * allOf mostN) ⌝ }
     ensures { λ _. ⌜ now (marks .exit) ≡ pushSix all place (now (marks .entry)) ⌝ }
 {
     let mut at = 4 * place;
@@ -80,7 +81,7 @@ fn push(marks: &mut [u8], all: usize, place: usize)
 
 // DESC is split: four coefficients by themselves, and the GRAND below them, if there is one.
 pub(crate) fn split_desc(marks: &mut [u8], all: usize, place: usize)
-    requires { ⌜ (length (now marks) ≡ all) × (all ≤ 65536) × (place < 65536) ⌝ }
+    requires { ⌜ (length (now marks) ≡ all) × (all ≤ allOf mostN) × (place < allOf mostN) ⌝ }
     ensures { λ _. ⌜ now (marks .exit) ≡ descSplit all place (now (marks .entry)) ⌝ }
 {
     store(marks, place, 4);
@@ -94,7 +95,7 @@ pub(crate) fn split_desc(marks: &mut [u8], all: usize, place: usize)
 
 // A DESC, pushed.
 fn new_desc(marks: &mut [u8], all: usize, place: usize)
-    requires { ⌜ (length (now marks) ≡ all) × (all ≤ 65536) × (place < 131072) ⌝ }
+    requires { ⌜ (length (now marks) ≡ all) × (all ≤ allOf mostN) × (place < 2 * allOf mostN) ⌝ }
     ensures { λ _. ⌜ now (marks .exit) ≡ newDesc all place (now (marks .entry)) ⌝ }
 {
     store(marks, place, 5);
@@ -103,7 +104,7 @@ fn new_desc(marks: &mut [u8], all: usize, place: usize)
 
 // GRAND is split: four DESC, each pushed.
 pub(crate) fn split_grand(marks: &mut [u8], all: usize, place: usize)
-    requires { ⌜ (length (now marks) ≡ all) × (all ≤ 65536) × (place < 65536) ⌝ }
+    requires { ⌜ (length (now marks) ≡ all) × (all ≤ allOf mostN) × (place < allOf mostN) ⌝ }
     ensures { λ _. ⌜ now (marks .exit) ≡ grandSplit all place (now (marks .entry)) ⌝ }
 {
     new_desc(marks, all, place);
@@ -114,7 +115,7 @@ pub(crate) fn split_grand(marks: &mut [u8], all: usize, place: usize)
 
 // The table before the first bit.
 pub(crate) fn start(marks: &mut [u8], all: usize, coarsest: usize)
-    requires { ⌜ (length (now marks) ≡ all) × (all ≤ 65536) × (4 ≤ coarsest) × (4 * coarsest ≤ all) × (coarsest % 4 ≡ 0) ⌝ }
+    requires { ⌜ (length (now marks) ≡ all) × (all ≤ allOf mostN) × (4 ≤ coarsest) × (4 * coarsest ≤ all) × (coarsest % 4 ≡ 0) ⌝ }
     ensures { λ _. ⌜ now (marks .exit) ≡ startMarks all coarsest ⌝ }
 {
     fill(marks, 0);

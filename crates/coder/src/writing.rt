@@ -5,6 +5,7 @@ ghost use mathlib.Core.Bool.{false};
 ghost use mathlib.Core.List.{[]};
 ghost use Prim.Native.Nat.{ℕ, _+_, _*_, _/_, _<_, _≤_};
 ghost use lib.ListN.{length, getD};
+ghost use Rattle.sizes.specs.Sizes.{mostN, allOf};
 ghost use Rattle.bits.specs.Bits.{bit, withBit};
 ghost use Rattle.coef.specs.Coef.{at, magAt, negative};
 ghost use Rattle.nls.specs.Scan.{pixels, inDesc, inGrand};
@@ -138,7 +139,7 @@ fn test_desc(
     b: u32,
     place: usize,
 ) -> Step
-    requires { ⌜ (place < all) × (length (now marks) ≡ all) × (all ≤ 65536) × (all ≤ length (now desc) * 4) × (n ≤ budget) × (budget ≤ 8 * length (now out)) ⌝ }
+    requires { ⌜ (place < all) × (length (now marks) ≡ all) × (all ≤ allOf mostN) × (all ≤ length (now desc) * 4) × (n ≤ budget) × (budget ≤ 8 * length (now out)) ⌝ }
     ensures { λ r. ⌜ Does (testSeen (writer [] (now (desc .entry)) [] budget) b place (inDesc (place / 4) b) 4 false (descSplit all place (now (marks .entry))) (now (marks .entry)) (bytes (now (out .entry)) n)) budget place n r (now (marks .exit)) (now (out .exit)) ⌝ }
 {
     if budget <= n {
@@ -165,7 +166,7 @@ fn test_grand(
     b: u32,
     place: usize,
 ) -> Step
-    requires { ⌜ (place < all) × (length (now marks) ≡ all) × (all ≤ 65536) × (all ≤ length (now grand) * 16) × (n ≤ budget) × (budget ≤ 8 * length (now out)) ⌝ }
+    requires { ⌜ (place < all) × (length (now marks) ≡ all) × (all ≤ allOf mostN) × (all ≤ length (now grand) * 16) × (n ≤ budget) × (budget ≤ 8 * length (now out)) ⌝ }
     ensures { λ r. ⌜ Does (testSeen (writer [] [] (now (grand .entry)) budget) b place (inGrand (place / 16) b) 16 false (grandSplit all place (now (marks .entry))) (now (marks .entry)) (bytes (now (out .entry)) n)) budget place n r (now (marks .exit)) (now (out .exit)) ⌝ }
 {
     if budget <= n {
@@ -248,7 +249,7 @@ pub(crate) fn scan(
     budget: usize,
     count: u32,
 ) -> usize
-    requires { ⌜ (length (now marks) ≡ all) × (all ≤ 65536) × (all ≤ length (now coefs)) × (budget ≤ 8 * length (now out)) × Tables (now desc) (now grand) all ⌝ }
+    requires { ⌜ (length (now marks) ≡ all) × (all ≤ allOf mostN) × (all ≤ length (now coefs)) × (budget ≤ 8 * length (now out)) × Tables (now desc) (now grand) all ⌝ }
     ensures { λ r. ⌜ Holds (planes (scanOf (writer (now (coefs .entry)) (now (desc .entry)) (now (grand .entry)) budget) all) count (st (now (marks .entry)) (now (out .entry)) 0)) r (now (marks .exit)) (now (out .exit)) ⌝ }
 {
     let mut n = 0;
