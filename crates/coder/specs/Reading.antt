@@ -9,7 +9,7 @@ use lib.IntN.{ℤ, pos}
 use lib.ListN.{length, getD, set}
 use mir.Syntax.{w32}
 use mir.Val.{ofZ, toZ}
-use Rattle.sizes.specs.Sizes.{limit}
+use Rattle.sizes.specs.Sizes.{limit, mostN, mostPlanes, allOf}
 use Rattle.bits.specs.Bits.{digit, bitAt}
 use Rattle.coef.specs.Coef.{at, magnitude, signed}
 use Rattle.nls.specs.Scan.{Question, bitOf, signOf, inDesc, inGrand, Pass, pixels, sets, refining}
@@ -130,17 +130,17 @@ pub record Room (body m : List ℕ) (v : List ℤ) (p : List ℕ) (all usable pl
   pub size : length m ≡ all
   pub inValues : length v ≡ all
   pub inPrecisions : length p ≡ all
-  pub near : all ≤ 65536
+  pub near : all ≤ allOf mostN
   pub spent : n ≤ usable
   pub held : usable ≤ 8 * length body
-  pub plane : b < 24
+  pub plane : b < mostPlanes
 
 -- the sizes, in range
 pub record Sizes (all coarsest top : ℕ) : Type 0 where
-  pub near : all ≤ 65536
+  pub near : all ≤ allOf mostN
   pub wide : 4 ≤ coarsest
   pub room : 4 * coarsest ≤ all
-  pub tops : top < 25
+  pub tops : top ≤ mostPlanes
 
 -- the count n, the planes left, the refusal, and the tables are those where the scan ended
 pub record Holds (ran : Ran (Sv Read)) (l : ℕ) (n left : ℕ) (bad : Bool) (m : List ℕ) (v : List ℤ) (p : List ℕ) : Type 0 where
@@ -150,4 +150,4 @@ pub record Holds (ran : Ran (Sv Read)) (l : ℕ) (n left : ℕ) (bad : Bool) (m 
   pub marked : m ≡ last ran .marks
   pub valued : v ≡ last ran .rest .known .bits
   pub known : p ≡ last ran .rest .known .planes
-  pub within : left < 25
+  pub within : left ≤ mostPlanes

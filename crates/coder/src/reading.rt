@@ -10,7 +10,7 @@ ghost use Prim.Native.Nat.{ℕ, _*_, _/_, _<_, _≤_};
 ghost use lib.Dec.{leb};
 ghost use lib.IntN.{ℤ};
 ghost use lib.ListN.{length, getD, set};
-ghost use Rattle.bits.specs.Bits.{bitAt};
+ghost use Rattle.sizes.specs.Sizes.{mostN, mostPlanes, allOf};
 ghost use Rattle.coef.specs.Coef.{at};
 ghost use Rattle.nls.specs.Scan.{pixels, bitOf, inDesc, inGrand};
 ghost use Rattle.coder.specs.Scans.{planes, leftOf};
@@ -19,7 +19,7 @@ ghost use Rattle.coder.specs.Reading.{newCode, moreCode, is, childClash,
 
 // A coefficient that is found in plane b.
 fn found(values: &mut [i32], b: u32, place: usize, negative: bool)
-    requires { ⌜ (place < length (now values)) × (b < 24) ⌝ }
+    requires { ⌜ (place < length (now values)) × (b < mostPlanes) ⌝ }
     ensures { λ _. ⌜ now (values .exit) ≡ set (now (values .entry)) place (newCode negative b) ⌝ }
 {
     values[place] = ((2u32 << b) + (negative as u32)) as i32;
@@ -27,7 +27,7 @@ fn found(values: &mut [i32], b: u32, place: usize, negative: bool)
 
 // One more known bit of a value.
 fn refined(values: &mut [i32], b: u32, place: usize, x: bool)
-    requires { ⌜ (place < length (now values)) × (b < 24) ⌝ }
+    requires { ⌜ (place < length (now values)) × (b < mostPlanes) ⌝ }
     ensures { λ _. ⌜ now (values .exit) ≡ set (now (values .entry)) place (moreCode x b (at (now (values .entry)) place)) ⌝ }
 {
     let old = values[place];
@@ -50,7 +50,7 @@ fn three(marks: &[u8], p: usize, q: usize, r: usize, code: u8) -> bool
 
 // Whether a child's 0 fits no array.
 fn child_clash(marks: &[u8], all: usize, place: usize) -> bool
-    requires { ⌜ (place < all) × (length (now marks) ≡ all) × (all ≤ 65536) ⌝ }
+    requires { ⌜ (place < all) × (length (now marks) ≡ all) × (all ≤ allOf mostN) ⌝ }
     ensures { λ r. ⌜ r ≡ childClash all place (now (marks .entry)) ⌝ }
 {
     if place % 4 != 3 {
@@ -88,7 +88,7 @@ fn last_clash(marks: &[u8], all: usize, place: usize) -> bool
 
 // Whether the 0 of the last root fits no array.
 fn root_clash(coarsest: usize, top: u32, n: usize, b: u32, place: usize) -> bool
-    requires { ⌜ (place < 65536) × (coarsest ≤ 65536) × (4 ≤ coarsest) × (b < 24) ⌝ }
+    requires { ⌜ (place < allOf mostN) × (coarsest ≤ allOf mostN) × (4 ≤ coarsest) × (b < mostPlanes) ⌝ }
     ensures { λ r. ⌜ r ≡ rootClash coarsest top b n place ⌝ }
 {
     if place + 4 != 4 * coarsest {
@@ -110,7 +110,7 @@ fn desc_clash(
     b: u32,
     place: usize,
 ) -> bool
-    requires { ⌜ (place < all) × (length (now marks) ≡ all) × (b < 24) × Sizes all coarsest top ⌝ }
+    requires { ⌜ (place < all) × (length (now marks) ≡ all) × (b < mostPlanes) × Sizes all coarsest top ⌝ }
     ensures { λ r. ⌜ r ≡ descClash coarsest top b n place (now (marks .entry)) ⌝ }
 {
     if 4 * coarsest <= place {
@@ -121,7 +121,7 @@ fn desc_clash(
 
 // Whether a coefficient's 0 fits no array: in the set pass it may not.
 fn one_clash(marks: &[u8], all: usize, place: usize, in_sets: bool) -> bool
-    requires { ⌜ (place < all) × (length (now marks) ≡ all) × (all ≤ 65536) ⌝ }
+    requires { ⌜ (place < all) × (length (now marks) ≡ all) × (all ≤ allOf mostN) ⌝ }
     ensures { λ r. ⌜ r ≡ (in_sets && childClash all place (now (marks .entry))) ⌝ }
 {
     if in_sets {
@@ -254,7 +254,7 @@ fn test_desc(
     b: u32,
     place: usize,
 ) -> Turn
-    requires { ⌜ (place < all) × (length (now marks) ≡ all) × (b < 24) × (n ≤ usable) × (usable ≤ 8 * length (now body)) × Sizes all coarsest top ⌝ }
+    requires { ⌜ (place < all) × (length (now marks) ≡ all) × (b < mostPlanes) × (n ≤ usable) × (usable ≤ 8 * length (now body)) × Sizes all coarsest top ⌝ }
     ensures { λ r. ⌜ ((v : List ℤ) (p : List ℕ) → Does (testSeen (reader (now (body .entry)) usable all coarsest top) b place (inDesc (place / 4) b) 4 (descClash coarsest top b n place (now (marks .entry))) (descSplit all place (now (marks .entry))) (now (marks .entry)) (read v p n)) usable place n r (now (marks .exit)) v p) ⌝ }
 {
     match view::read(body, n, usable) {
@@ -282,7 +282,7 @@ fn test_grand(
     b: u32,
     place: usize,
 ) -> Turn
-    requires { ⌜ (place < all) × (length (now marks) ≡ all) × (all ≤ 65536) × (16 ≤ all) × (n ≤ usable) × (usable ≤ 8 * length (now body)) ⌝ }
+    requires { ⌜ (place < all) × (length (now marks) ≡ all) × (all ≤ allOf mostN) × (16 ≤ all) × (n ≤ usable) × (usable ≤ 8 * length (now body)) ⌝ }
     ensures { λ r. ⌜ ((v : List ℤ) (p : List ℕ) → Does (testSeen (reader (now (body .entry)) usable all 0 0) b place (inGrand (place / 16) b) 16 (grandClash place (now (marks .entry))) (grandSplit all place (now (marks .entry))) (now (marks .entry)) (read v p n)) usable place n r (now (marks .exit)) v p) ⌝ }
 {
     match view::read(body, n, usable) {
