@@ -1,5 +1,5 @@
 -- What is known, as the scan keeps it: each value as a code, twice its magnitude and 1 more where it is below 0.
-use Prim.Native.Nat.{ℕ, zero, suc, _+_, _*_, _-_, _/_, _%_, _^_, _≤_, _<_}
+use Prim.Native.Nat.{ℕ, zero, suc, _+_, _*_, _/_, _%_, _^_, _≤_, _<_}
 use mathlib.Core.Path.{_≡_, refl, sym, ap, subst, _∙_}
 use mathlib.Core.Bool.{Bool, true, false}
 use mathlib.Core.List.{List, [], _∷_}
@@ -19,7 +19,7 @@ use Rattle.bits.proofs.Laws.{digit-le}
 use Rattle.coef.specs.Coef.{magnitude, negative, signed}
 use Rattle.coef.specs.Coef as coef
 use Rattle.coef.proofs.Laws.{magnitude-signed, negative-signed}
-use Rattle.nls.specs.Scan.{Question, bitOf, signOf, inDesc, inGrand, Pass, pixels, sets, refining, State, Look, over, silent, asks, look, lookRefining}
+use Rattle.nls.specs.Scan.{Question, bitOf, signOf, inDesc, inGrand, Pass, pixels, sets, refining, asks, look, lookRefining}
 use Rattle.nls.specs.Reading.{Known, noted, learn}
 use Rattle.nls.proofs.Known.{Sound, lower-round}
 use Rattle.coder.specs.Reading.{newCode, moreCode, plainOf, keep}
@@ -68,14 +68,13 @@ code-found : (a : Bool) (b : ℕ) → newCode a b ≡ coded (signed a (2 ^ b))
 code-found true b = rw (magnitude-signed true (2 ^ b), negative-signed (2 ^ b) (pow-pos b))
 code-found false b = refl
 
--- one more bit below a code's word that ends there
+-- one more bit of a magnitude that has no bit there nor below: in the code it is one bit higher, and the OR is a sum
 code-sum : (z : ℤ) (d : ℕ) → coded (signed (negative z) (magnitude z + d)) ≡ pos (2 * (magnitude z + d) + digit (negative z))
 code-sum (pos n) d = refl
 code-sum (negsuc n) d = rw (magnitude-signed true (suc n + d), negative-signed (suc n + d) (omega arith))
 
 or-bit : (m s b : ℕ) → m % 2 ^ (b + 1) ≡ 0 → s ≤ 1 → bitOr (2 * m + s) (1 * 2 ^ (b + 1)) ≡ 2 * (m + 1 * 2 ^ b) + s
 or-bit m s b e h =
-    let k : ℕ = b + 1 in
     let q : ℕ = m / 2 ^ (b + 1) in
     let two : 2 ^ (b + 1) ≡ 2 * 2 ^ b = omega (arith, ap (λ (n : ℕ). 2 ^ n) {x = b + 1} {y = suc b} (omega arith), pow-suc 2 b) in
     let four : 2 ^ suc (b + 1) ≡ 2 * 2 ^ (b + 1) = omega (arith, pow-suc 2 (b + 1)) in

@@ -1,4 +1,4 @@
--- Values as the code makes them: signs, shifts, and what a read or a store of an i32 does.
+-- Values and codes as the machine makes them: signs, shifts, and what a read or a store of an i32 does.
 use Prim.Native.Nat.{ℕ, _+_, _*_, _%_, _^_, _≤_, _<_}
 use mathlib.Core.Path.{_≡_, refl, sym, ap, _∙_}
 use mathlib.Core.Bool.{Bool, true, false, cond}

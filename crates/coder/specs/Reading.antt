@@ -1,4 +1,4 @@
--- Words of the decoder's inner contracts, which no promise to a caller uses: the body answers, and what is known of each coefficient is kept.
+-- Words of the decoder's inner contracts, which no promise to a caller uses: the body answers, and a code of what is known of each coefficient is kept.
 use Prim.Native.Nat.{ℕ, suc, _+_, _*_, _-_, _/_, _%_, _^_, _≤_, _<_}
 use mathlib.Core.Path.{_≡_}
 use mathlib.Core.Bool.{Bool, true, false, _&&_, _||_, cond}
@@ -27,7 +27,7 @@ pub record Read : Type 0 where
 abbrev pub read : List ℤ → List ℕ → ℕ → Read
 read v p n = record { known = record { bits = v; planes = p }; n = n }
 
--- A value as the code makes it of a sign and a magnitude. In every scan the magnitude is within the limit.
+-- A value as the final pass makes it of a sign and a magnitude, which there is within the limit.
 abbrev pub joined : Bool → ℕ → ℤ
 joined below size = cond (leb size limit) (signed below size) (pos 0)
 

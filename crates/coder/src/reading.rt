@@ -7,7 +7,6 @@ ghost use mathlib.Core.Path.{_≡_};
 ghost use mathlib.Core.Bool.{_&&_, false};
 ghost use mathlib.Core.List.{List};
 ghost use Prim.Native.Nat.{ℕ, _*_, _/_, _<_, _≤_};
-ghost use lib.Dec.{leb};
 ghost use lib.IntN.{ℤ};
 ghost use lib.ListN.{length, getD, set};
 ghost use Rattle.sizes.specs.Sizes.{mostN, mostPlanes, allOf};
@@ -17,7 +16,7 @@ ghost use Rattle.coder.specs.Scans.{planes, leftOf};
 ghost use Rattle.coder.specs.Visits.{oneSeen, testSeen, pixelsSeen, setsSeen, refiningSeen, visitSeen, scanOf, descSplit, grandSplit};
 ghost use Rattle.coder.specs.Reading.{newCode, moreCode, is, childClash, grandClash, lastClash, rootClash, descClash, reader, read, st, Does, Room, Sizes, Holds};
 
-// A coefficient that is found in plane b.
+// A coefficient that is found in plane b, as a code.
 fn found(values: &mut [i32], b: u32, place: usize, negative: bool)
     requires { ⌜ (place < length (now values)) × (b < mostPlanes) ⌝ }
     ensures { λ _. ⌜ now (values .exit) ≡ set (now (values .entry)) place (newCode negative b) ⌝ }
@@ -25,7 +24,7 @@ fn found(values: &mut [i32], b: u32, place: usize, negative: bool)
     values[place] = ((2u32 << b) + (negative as u32)) as i32;
 }
 
-// One more known bit of a value.
+// Bit b of a magnitude, put into its code. Its place there was 0 before.
 fn refined(values: &mut [i32], b: u32, place: usize, x: bool)
     requires { ⌜ (place < length (now values)) × (b < mostPlanes) ⌝ }
     ensures { λ _. ⌜ now (values .exit) ≡ set (now (values .entry)) place (moreCode x b (at (now (values .entry)) place)) ⌝ }

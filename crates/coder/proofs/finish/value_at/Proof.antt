@@ -14,38 +14,30 @@ use Rattle.coder.proofs.finish.value_at.Reads as reads
 use Rattle.coder.proofs.finish.value_at.Lts as lts
 use Rattle.coder.proofs.finish.value_of.Reads as value-of-reads
 
--- src/finish.rt:32:9
 fits : {z : ℤ} → mag z < 2 ^ 31 → SFits w32 z
 fits h = record { sfits = h }
 
 returns : tie.Need-returns
 returns c = value-none (c .before .args .code) (c .before .args .k) (c .if1 .taken)
 
--- src/finish.rt:35:9
 value-of-requires : tie.Need-value-of-requires
 value-of-requires c κs = search needs
 
--- src/finish.rt:35:9
 returns-2 : tie.Need-returns-2
 returns-2 c = toZ-ofZ (fits (c .value-of .ok)) ∙ c .value-of .ensures ∙ value-all (c .before .before .before .args .code) (c .before .before .before .args .k) (c .before .before .if1 .left) (c .before .before .before .pre .1) (c .before .if2 .taken)
 
--- src/finish.rt:37:46
 sub-value-of : tie.Need-sub-value-of
 sub-value-of c = search needs
 
--- src/finish.rt:37:37
 shl-value-of : tie.Need-shl-value-of
 shl-value-of c = search needs
 
--- src/finish.rt:37:29
 add-value-of : tie.Need-add-value-of
 add-value-of c = record { fits = omega (arith, half-in (c .before .before .args .code) (c .before .before .args .k) (c .before .if1 .left) (c .before .before .pre .1) (c .if2 .left), shifted (c .before .before .args .k) (c .before .before .pre .0)) }
 
--- src/finish.rt:37:5
 value-of-requires-2 : tie.Need-value-of-requires-2
 value-of-requires-2 c κs = search needs
 
--- src/finish.rt:26:1
 returns-3 : tie.Need-returns-3
 returns-3 c = toZ-ofZ (fits (c .value-of2 .ok)) ∙ c .value-of2 .ensures ∙ rw (shifted (c .before .before .before .args .k) (c .before .before .before .pre .0)) (value-half (c .before .before .before .args .code) (c .before .before .before .args .k) (c .before .before .if1 .left) (c .before .before .before .pre .1) (c .before .if2 .left))
 

@@ -5,35 +5,27 @@ use Rattle.coder.proofs.reading.found.Tie as tie
 use Rattle.coder.proofs.reading.found.Reads as reads
 use Rattle.coder.proofs.reading.found.Lts as lts
 
--- src/reading.rt:33:23
 shl-values : tie.Need-shl-values
 shl-values c = search needs
 
--- src/reading.rt:33:37
 cast-values : tie.Need-cast-values
 cast-values c = search needs
 
--- src/reading.rt:33:22
 add-values : tie.Need-add-values
 add-values c = found-fits (c .args .negative) (c .args .b) (c .pre .1)
 
--- src/reading.rt:33:21
 cast-values-2 : tie.Need-cast-values-2
 cast-values-2 c = found-signed (c .args .negative) (c .args .b) (c .pre .1)
 
--- src/reading.rt:33:5
 mul-t9 : tie.Need-mul-t9
 mul-t9 c = search needs
 
--- src/reading.rt:33:5
 slice-set-from-values : tie.Need-slice-set-from-values
 slice-set-from-values c = search needs
 
--- src/reading.rt:29:1
 same-length : tie.Need-same-length
 same-length c = search needs
 
--- src/reading.rt:29:1
 returns : tie.Need-returns
 returns c = found-is (c .args .negative) (c .args .b) (c .pre .1) (c .args .values .now) (c .args .place)
 

@@ -5,43 +5,33 @@ use Rattle.coder.proofs.reading.refined.Tie as tie
 use Rattle.coder.proofs.reading.refined.Reads as reads
 use Rattle.coder.proofs.reading.refined.Lts as lts
 
--- src/reading.rt:41:15
 mul-old : tie.Need-mul-old
 mul-old c = search needs
 
--- src/reading.rt:41:15
 slice-copy-out-old : tie.Need-slice-copy-out-old
 slice-copy-out-old c = search needs
 
--- src/reading.rt:42:30
 cast-values : tie.Need-cast-values
 cast-values c = search needs
 
--- src/reading.rt:42:44
 add-values : tie.Need-add-values
 add-values c = search needs
 
--- src/reading.rt:42:29
 shl-values : tie.Need-shl-values
 shl-values c = search needs
 
--- src/reading.rt:42:28
 cast-values-2 : tie.Need-cast-values-2
 cast-values-2 c = more-signed (c .before .args .x) (c .before .args .b) (c .before .pre .1)
 
--- src/reading.rt:42:5
 mul-t6 : tie.Need-mul-t6
 mul-t6 c = search needs
 
--- src/reading.rt:42:5
 slice-set-from-values : tie.Need-slice-set-from-values
 slice-set-from-values c = search needs
 
--- src/reading.rt:37:1
 same-length : tie.Need-same-length
 same-length c = search needs
 
--- src/reading.rt:37:1
 returns : tie.Need-returns
 returns c = more-is (c .before .args .x) (c .before .args .b) (c .before .pre .1) (c .before .args .values .now) (c .before .args .place)
 
