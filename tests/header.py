@@ -5,7 +5,8 @@
 
 Compared: the exported functions, their order, the name, width, sign and order of each parameter, the result; the answer's fields
 with the source's struct, with the order in which they are put and with the definition `entries`; the refusals' numbers; the limits
-and the sizes to lend; and that each public call of the base is exported or is named in docs/DECISIONS.md.
+and the sizes to lend; the declarations of examples/rust with the header; and that each public call of the base is exported or is
+named in docs/DECISIONS.md.
 Exit status 1 where something differs.
 """
 import os
@@ -136,6 +137,29 @@ def sizes(header):
         same(f"TXP_MOST_FILE({n})", macro(header, "TXP_MOST_FILE", n), limits["HEADER_SIZE"] + macro(header, "TXP_MOST_BODY", n))
 
 
+def in_rust(param):
+    """The parameter of examples/rust that a parameter of the header is."""
+    kinds = {c: r for r, c in NUMBERS.items()} | {"txp_answer": "Answer"}
+    const, kind, star, name = re.fullmatch(r"(const )?(\w+) (\*)?(\w+)", param).groups()
+    return f"{name}: {'*const ' if const else '*mut ' if star else ''}{kinds[kind]}"
+
+
+def rust(header):
+    text = source("examples", "rust", "txp.rs")
+    struct = re.search(r"pub struct Answer \{(.*?)\}", text, re.S)[1]
+    same("the answer's fields, in Rust", re.findall(r"(\w+) (\w+);", re.search(r"struct txp_answer \{(.*?)\}", header, re.S)[1]),
+         [(NUMBERS.get(k, k), n) for n, k in re.findall(r"pub (\w+): (\w+)", struct)])
+    declared = {name: (result, params) for name, result, params in c_functions(header)}
+    ours = re.findall(r"pub fn (txp_\w+)\((.*?)\) -> (\w+);", text, re.S)
+    for name, params, result in ours:
+        if name not in declared:
+            wrong.append(f"{name} is declared in Rust alone")
+            continue
+        same(f"{name}'s result, in Rust", declared[name][0], NUMBERS.get(result, result))
+        same(f"{name}'s parameters, in Rust", [in_rust(p) for p in declared[name][1]], [p.strip() for p in params.split(",") if p.strip()])
+    return len(ours)
+
+
 def base():
     """Each public call of the base is made in the library's source or is named in docs/DECISIONS.md."""
     crates = re.search(r"^ctxp: (.*)$", read("crates.txt"), re.M)[1].split()
@@ -159,11 +183,11 @@ def main():
     text = read("include", "txp.h")
     header = re.sub(r"[ \t]*/\*.*?\*/", "", text, flags=re.S)
     length = fields(header)
-    counts = functions(header, length), length, refusals(header), base()
+    counts = functions(header, length), length, refusals(header), rust(header), base()
     sizes(header)
     for line in wrong:
         print(line)
-    print("txp.h: %d functions, %d fields, %d refusals; %d calls of the base; %d differences" % (*counts, len(wrong)))
+    print("txp.h: %d functions, %d fields, %d refusals; %d declarations in Rust; %d calls of the base; %d differences" % (*counts, len(wrong)))
     return 1 if wrong else 0
 
 
