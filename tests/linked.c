@@ -10,6 +10,8 @@
 
 enum { GUARD = 64, MOST_SHOWN = 10 }; /* entries around a lent buffer; differing lines of a kind that are shown */
 
+_Static_assert(sizeof(txp_answer) == 15 * sizeof(uint32_t), "the answer is lent as 15 numbers");
+
 /* ---- the cases */
 
 typedef struct {

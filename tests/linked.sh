@@ -5,6 +5,7 @@
 set -eu
 cases=$(realpath "${1:-$(dirname "$0")/../crates/second/stdin}")
 cd "$(dirname "$0")/.."
-rt staticlib ctxp > target/staticlib.log || { tail -20 target/staticlib.log; exit 1; }
+mkdir -p target
+rt staticlib ctxp > target/staticlib.log 2>&1 || { tail -20 target/staticlib.log; exit 1; }
 ${CC:-cc} -std=c11 -O2 -Wall -Wextra -pedantic -Iinclude tests/linked.c target/staticlib/libctxp.a -o target/linked
 ${RUN:-} target/linked < "$cases"
