@@ -1,0 +1,203 @@
+-- The contract of each exported function decides its outcome: the result, and what is lent to be written, the answer among it.
+-- The lent answer is the last parameter of each.
+use mathlib.Core.Path.{_≡_, refl, sym, ap, _∙_}
+use mathlib.Core.Bool.{Bool}
+use mathlib.Core.List.{List}
+use Prim.Native.Nat.{ℕ}
+use lib.IntN.{ℤ}
+use lib.Ieee.{Float}
+use lib.ListN.{length}
+use denote.Ref.{now}
+use Rattle.refusals.specs.Checks.{firstOf}
+use Rattle.refusals.specs.declared.Outcome.{Outcome}
+use Rattle.refusals.specs.declared.Outcome.the-variants.{Done, Refused}
+use Rattle.refusals.proofs.Decided.{OneOutcome}
+use Rattle.sizes.specs.Sizes.{Sized}
+use Rattle.nls.specs.Judging.{Verdict}
+use Rattle.nls.proofs.Verdicts.{judged-only}
+use Rattle.coder.specs.Body.{Tables, tables, usableBits}
+use Rattle.coder.proofs.Decided.{decodes-one}
+use Rattle.txp.specs.declared.Header.{Header}
+use Rattle.txp.specs.declared.DecodeAnswer.{DecodeAnswer}
+use Rattle.txp.specs.Header.{headerOf}
+use Rattle.txp.specs.File as file
+use Rattle.txp.specs.Calls.{decodeChecks, decodeAnswer, DecodedFile, DecodesTo, Decodes}
+use Rattle.txp.proofs.CallLaws.{in-range}
+use Rattle.ctxp.specs.declared.answers.Answer.{Answer}
+use Rattle.ctxp.specs.Answers.{Answers, decoded, read}
+use Rattle.ctxp.specs.Lent.{FileDecoded, BodyDecoded}
+use Rattle.ctxp.proofs.txp_decode.Reads as decode
+use Rattle.ctxp.proofs.txp_decode_body.Reads as decode-body
+use Rattle.ctxp.proofs.txp_encode.Reads as encode
+use Rattle.ctxp.proofs.txp_worst_body.Reads as worst-body
+use Rattle.ctxp.proofs.txp_encode_body.Reads as encode-body
+use Rattle.ctxp.proofs.txp_summaries.Reads as summaries
+use Rattle.ctxp.proofs.txp_figures.Reads as figures
+use Rattle.ctxp.proofs.txp_to_linear.Reads as to-linear
+use Rattle.ctxp.proofs.txp_to_raster.Reads as to-raster
+use Rattle.ctxp.proofs.txp_linear_place.Reads as linear-place
+use Rattle.ctxp.proofs.txp_raster_place.Reads as raster-place
+use Rattle.ctxp.proofs.txp_planes.Reads as planes
+use Rattle.ctxp.proofs.txp_is_negative.Reads as is-negative
+use Rattle.ctxp.proofs.txp_magnitude.Reads as magnitude
+use Rattle.ctxp.proofs.txp_part.Reads as part
+use Rattle.ctxp.proofs.txp_join.Reads as join
+use Rattle.ctxp.proofs.txp_float.Reads as float
+use Rattle.ctxp.proofs.txp_bit.Reads as bit
+use Rattle.ctxp.proofs.txp_read_bit.Reads as read-bit
+use Rattle.ctxp.proofs.txp_put_bit.Reads as put-bit
+use Rattle.ctxp.proofs.txp_side_fits.Reads as side-fits
+use Rattle.ctxp.proofs.txp_levels_fit.Reads as levels-fit
+use Rattle.ctxp.proofs.txp_all.Reads as all
+use Rattle.ctxp.proofs.txp_coarsest.Reads as coarsest
+
+-- results and lent answers that say the same are equal
+pub one-answer : {a a' : Answer} {r r' : ℕ} {held held' : List ℕ} → a ≡ a' → Answers r held a → Answers r' held' a' → (r ≡ r') × (held ≡ held')
+one-answer e p q = (p .0 ∙ ap (λ (x : Answer). x .refusal) e ∙ sym (q .0), p .1 ∙ rw e (sym (q .1)))
+
+pub encode-decided : OneOutcome {Lent = List ℕ × List ℕ × List ℕ × List ℕ × List ℕ} encode.Learnt
+    (λ k s. (now (s .1 .1 .1 .1 .1 .1 .1 .1 .0), now (s .1 .1 .1 .0), now (s .1 .1 .1 .1 .0), now (s .1 .1 .1 .1 .1 .0), now (s .1 .1 .1 .1 .1 .1 .0)))
+encode-decided k args r r' s s' p q =
+    let one = one-answer refl (p .0) (q .0) in
+    let lent1 : now (s .1 .1 .1 .0) ≡ now (s' .1 .1 .1 .0) = p .1 .0 ∙ sym (q .1 .0) in
+    let lent2 : now (s .1 .1 .1 .1 .0) ≡ now (s' .1 .1 .1 .1 .0) = p .1 .1 .0 ∙ sym (q .1 .1 .0) in
+    let lent3 : now (s .1 .1 .1 .1 .1 .0) ≡ now (s' .1 .1 .1 .1 .1 .0) = p .1 .1 .1 .0 ∙ sym (q .1 .1 .1 .0) in
+    let lent4 : now (s .1 .1 .1 .1 .1 .1 .0) ≡ now (s' .1 .1 .1 .1 .1 .1 .0) = p .1 .1 .1 .1 ∙ sym (q .1 .1 .1 .1) in
+    (one .0, λ i. (one .1 i, lent1 i, lent2 i, lent3 i, lent4 i))
+
+pub worst-body-decided : OneOutcome {Lent = List ℕ} worst-body.Learnt (λ k s. now (s .1 .1 .1 .0))
+worst-body-decided k args r r' s s' p q = one-answer refl p q
+
+pub encode-body-decided : OneOutcome {Lent = List ℕ × List ℕ × List ℕ × List ℕ × List ℕ} encode-body.Learnt
+    (λ k s. (now (s .1 .1 .1 .1 .1 .1 .1 .1 .1 .0), now (s .1 .1 .1 .0), now (s .1 .1 .1 .1 .0), now (s .1 .1 .1 .1 .1 .0), now (s .1 .1 .1 .1 .1 .1 .0)))
+encode-body-decided k args r r' s s' p q =
+    let one = one-answer refl (p .0) (q .0) in
+    let lent1 : now (s .1 .1 .1 .0) ≡ now (s' .1 .1 .1 .0) = p .1 .0 ∙ sym (q .1 .0) in
+    let lent2 : now (s .1 .1 .1 .1 .0) ≡ now (s' .1 .1 .1 .1 .0) = p .1 .1 .0 ∙ sym (q .1 .1 .0) in
+    let lent3 : now (s .1 .1 .1 .1 .1 .0) ≡ now (s' .1 .1 .1 .1 .1 .0) = p .1 .1 .1 .0 ∙ sym (q .1 .1 .1 .0) in
+    let lent4 : now (s .1 .1 .1 .1 .1 .1 .0) ≡ now (s' .1 .1 .1 .1 .1 .1 .0) = p .1 .1 .1 .1 ∙ sym (q .1 .1 .1 .1) in
+    (one .0, λ i. (one .1 i, lent1 i, lent2 i, lent3 i, lent4 i))
+
+pub summaries-decided : OneOutcome {Lent = List ℕ × List ℕ × List ℕ} summaries.Learnt
+    (λ k s. (now (s .1 .1 .1 .1 .1 .0), now (s .1 .1 .1 .0), now (s .1 .1 .1 .1 .0)))
+summaries-decided k args r r' s s' p q =
+    let one = one-answer refl (p .0) (q .0) in
+    let lent1 : now (s .1 .1 .1 .0) ≡ now (s' .1 .1 .1 .0) = p .1 .0 ∙ sym (q .1 .0) in
+    let lent2 : now (s .1 .1 .1 .1 .0) ≡ now (s' .1 .1 .1 .1 .0) = p .1 .1 ∙ sym (q .1 .1) in
+    (one .0, λ i. (one .1 i, lent1 i, lent2 i))
+
+pub figures-decided : OneOutcome {Lent = List ℕ × List ℕ × List ℕ} figures.Learnt
+    (λ k s. (now (s .1 .1 .1 .1 .1 .1 .0), now (s .1 .1 .1 .1 .0), now (s .1 .1 .1 .1 .1 .0)))
+figures-decided k args r r' s s' p q =
+    let one = one-answer refl (p .0) (q .0) in
+    let lent1 : now (s .1 .1 .1 .1 .0) ≡ now (s' .1 .1 .1 .1 .0) = p .1 .0 ∙ sym (q .1 .0) in
+    let lent2 : now (s .1 .1 .1 .1 .1 .0) ≡ now (s' .1 .1 .1 .1 .1 .0) = p .1 .1 ∙ sym (q .1 .1) in
+    (one .0, λ i. (one .1 i, lent1 i, lent2 i))
+
+pub to-linear-decided : OneOutcome {Lent = List ℕ × List ℤ} to-linear.Learnt
+    (λ k s. (now (s .1 .1 .1 .0), now (s .1 .1 .0)))
+to-linear-decided k args r r' s s' p q =
+    let one = one-answer refl (p .0) (q .0) in
+    let lent1 : now (s .1 .1 .0) ≡ now (s' .1 .1 .0) = p .1 ∙ sym (q .1) in
+    (one .0, λ i. (one .1 i, lent1 i))
+
+pub to-raster-decided : OneOutcome {Lent = List ℕ × List ℤ} to-raster.Learnt
+    (λ k s. (now (s .1 .1 .1 .0), now (s .1 .1 .0)))
+to-raster-decided k args r r' s s' p q =
+    let one = one-answer refl (p .0) (q .0) in
+    let lent1 : now (s .1 .1 .0) ≡ now (s' .1 .1 .0) = p .1 ∙ sym (q .1) in
+    (one .0, λ i. (one .1 i, lent1 i))
+
+pub linear-place-decided : OneOutcome {Lent = List ℕ} linear-place.Learnt (λ k s. now (s .1 .1 .0))
+linear-place-decided k args r r' s s' p q = one-answer refl p q
+
+pub raster-place-decided : OneOutcome {Lent = List ℕ} raster-place.Learnt (λ k s. now (s .1 .1 .0))
+raster-place-decided k args r r' s s' p q = one-answer refl p q
+
+pub planes-decided : OneOutcome {Lent = List ℕ} planes.Learnt (λ k s. now (s .1 .0))
+planes-decided k args r r' s s' p q = one-answer refl p q
+
+pub is-negative-decided : OneOutcome {Lent = List ℕ} is-negative.Learnt (λ k s. now (s .1 .0))
+is-negative-decided k args r r' s s' p q = one-answer refl p q
+
+pub magnitude-decided : OneOutcome {Lent = List ℕ} magnitude.Learnt (λ k s. now (s .1 .0))
+magnitude-decided k args r r' s s' p q = one-answer refl p q
+
+pub part-decided : OneOutcome {Lent = List ℕ} part.Learnt (λ k s. now (s .1 .0))
+part-decided k args r r' s s' p q = one-answer refl p q
+
+pub join-decided : OneOutcome {Lent = List ℕ × ℤ} join.Learnt
+    (λ k s. (now (s .1 .1 .1 .0), now (s .1 .1 .0)))
+join-decided k args r r' s s' p q =
+    let one = one-answer refl (p .0) (q .0) in
+    let lent1 : now (s .1 .1 .0) ≡ now (s' .1 .1 .0) = p .1 ∙ sym (q .1) in
+    (one .0, λ i. (one .1 i, lent1 i))
+
+pub float-decided : OneOutcome {Lent = List ℕ × Float} float.Learnt
+    (λ k s. (now (s .1 .1 .0), now (s .1 .0)))
+float-decided k args r r' s s' p q =
+    let one = one-answer refl (p .0) (q .0) in
+    let lent1 : now (s .1 .0) ≡ now (s' .1 .0) = p .1 ∙ sym (q .1) in
+    (one .0, λ i. (one .1 i, lent1 i))
+
+pub bit-decided : OneOutcome {Lent = List ℕ} bit.Learnt (λ k s. now (s .1 .1 .0))
+bit-decided k args r r' s s' p q = one-answer refl p q
+
+pub read-bit-decided : OneOutcome {Lent = List ℕ} read-bit.Learnt (λ k s. now (s .1 .1 .1 .0))
+read-bit-decided k args r r' s s' p q = one-answer refl p q
+
+pub put-bit-decided : OneOutcome {Lent = List ℕ × List ℕ} put-bit.Learnt
+    (λ k s. (now (s .1 .1 .1 .0), now (s .0)))
+put-bit-decided k args r r' s s' p q =
+    let one = one-answer refl (p .0) (q .0) in
+    let lent1 : now (s .0) ≡ now (s' .0) = p .1 ∙ sym (q .1) in
+    (one .0, λ i. (one .1 i, lent1 i))
+
+pub side-fits-decided : OneOutcome {Lent = List ℕ} side-fits.Learnt (λ k s. now (s .1 .0))
+side-fits-decided k args r r' s s' p q = one-answer refl p q
+
+pub levels-fit-decided : OneOutcome {Lent = List ℕ} levels-fit.Learnt (λ k s. now (s .1 .1 .0))
+levels-fit-decided k args r r' s s' p q = one-answer refl p q
+
+pub all-decided : OneOutcome {Lent = List ℕ} all.Learnt (λ k s. now (s .1 .0))
+all-decided k args r r' s s' p q = one-answer refl p q
+
+pub coarsest-decided : OneOutcome {Lent = List ℕ} coarsest.Learnt (λ k s. now (s .1 .1 .0))
+coarsest-decided k args r r' s s' p q = one-answer refl p q
+
+-- decoding: there is one verdict on the usable bits
+module _ (h : Header) (u : List Bool) (held : Tables) (r r' : DecodeAnswer) (left left' : Tables) where
+  one-verdict : Sized (h .n) (h .l) → DecodedFile h u held r left → DecodedFile h u held r' left' → (r ≡ r') × (left ≡ left')
+  one-verdict z p q =
+      let v : p .verdict ≡ q .verdict = judged-only (h .n) (h .l) z (h .p) u (p .verdict) (q .verdict) (p .judged) (q .judged) in
+      (p .answered ∙ ap (λ (x : Verdict). decodeAnswer h u x) v ∙ sym (q .answered), p .filled ∙ rw v (sym (q .filled)))
+
+  one-outcome : (o : Outcome) → (o ≡ Done → Sized (h .n) (h .l)) → DecodesTo o h u held r left → DecodesTo o h u held r' left' → (r ≡ r') × (left ≡ left')
+  one-outcome Done z p q = one-verdict (z refl) p q
+  one-outcome (Refused why) z p q = (p .0 ∙ sym (q .0), p .1 ∙ sym (q .1))
+
+file-one : (bytes : List ℕ) (held : Tables) (r r' : ℕ) (a a' : List ℕ) (left left' : Tables) → FileDecoded bytes held r a left → FileDecoded bytes held r' a' left'
+    → (r ≡ r') × (a ≡ a') × (left ≡ left')
+file-one bytes held r r' a a' left left' p q =
+    let one = one-outcome (headerOf bytes) (file.usableBits bytes) held (p .said) (q .said) left left'
+    (firstOf (decodeChecks bytes (length (held .values)) (length (held .precisions)) (length (held .marks))))
+    (in-range bytes (length (held .values)) (length (held .precisions)) (length (held .marks))) (p .decodes) (q .decodes) in
+    let said = one-answer (ap decoded (one .0)) (p .answers) (q .answers) in
+    (said .0, said .1, one .1)
+
+body-one : (N L P usable : ℕ) (bytes : List ℕ) (held : Tables) (r r' : ℕ) (a a' : List ℕ) (left left' : Tables)
+    → BodyDecoded N L P usable bytes held r a left → BodyDecoded N L P usable bytes held r' a' left' → (r ≡ r') × (a ≡ a') × (left ≡ left')
+body-one N L P usable bytes held r r' a a' left left' p q =
+    let one = decodes-one N L P (length (held .values)) (length (held .precisions)) (length (held .marks)) (usableBits usable bytes) held (p .said) (q .said) left left' (p .decodes) (q .decodes) in
+    let said = one-answer (ap read (one .0)) (p .answers) (q .answers) in
+    (said .0, said .1, one .1)
+
+pub decode-decided : OneOutcome {Lent = List ℕ × Tables} decode.Learnt (λ k s. (now (s .1 .1 .1 .1 .0), tables (now (s .1 .0)) (now (s .1 .1 .0)) (now (s .1 .1 .1 .0))))
+decode-decided k args r r' s s' p q =
+    let one = file-one (now (args .0)) (tables (now (args .1 .0)) (now (args .1 .1 .0)) (now (args .1 .1 .1 .0))) r r' (now (s .1 .1 .1 .1 .0)) (now (s' .1 .1 .1 .1 .0)) (tables (now (s .1 .0)) (now (s .1 .1 .0)) (now (s .1 .1 .1 .0))) (tables (now (s' .1 .0)) (now (s' .1 .1 .0)) (now (s' .1 .1 .1 .0))) p q in
+    (one .0, λ i. (one .1 i, one .2 i))
+
+pub decode-body-decided : OneOutcome {Lent = List ℕ × Tables} decode-body.Learnt (λ k s. (now (s .1 .1 .1 .1 .1 .1 .1 .1 .0), tables (now (s .1 .1 .1 .1 .1 .0)) (now (s .1 .1 .1 .1 .1 .1 .0)) (now (s .1 .1 .1 .1 .1 .1 .1 .0))))
+decode-body-decided k args r r' s s' p q =
+    let one = body-one (args .0) (args .1 .0) (args .1 .1 .0) (args .1 .1 .1 .1 .0) (now (args .1 .1 .1 .0)) (tables (now (args .1 .1 .1 .1 .1 .0)) (now (args .1 .1 .1 .1 .1 .1 .0)) (now (args .1 .1 .1 .1 .1 .1 .1 .0))) r r' (now (s .1 .1 .1 .1 .1 .1 .1 .1 .0)) (now (s' .1 .1 .1 .1 .1 .1 .1 .1 .0)) (tables (now (s .1 .1 .1 .1 .1 .0)) (now (s .1 .1 .1 .1 .1 .1 .0)) (now (s .1 .1 .1 .1 .1 .1 .1 .0))) (tables (now (s' .1 .1 .1 .1 .1 .0)) (now (s' .1 .1 .1 .1 .1 .1 .0)) (now (s' .1 .1 .1 .1 .1 .1 .1 .0))) p q in
+    (one .0, λ i. (one .1 i, one .2 i))

@@ -1,0 +1,27 @@
+use mathlib.Core.Path.{sym, ap, _∙_}
+use borrow.Author.Needs.{needs}
+use Rattle.ctxp.specs.Answers.{outcome}
+use Rattle.ctxp.proofs.answers.of_outcome.Statement.{statement}
+use Rattle.ctxp.proofs.answers.of_outcome.Tie as tie
+
+enum-told : tie.Need-enum-told
+enum-told c = search needs
+
+nothing-requires : tie.Need-nothing-requires
+nothing-requires c κs = search needs
+
+enum-known-o : tie.Need-enum-known-o
+enum-known-o c = search needs
+
+refused-requires : tie.Need-refused-requires
+refused-requires c κs = search needs
+
+returns : tie.Need-returns
+returns c = search needs
+
+returns-2 : tie.Need-returns-2
+returns-2 c = c .refused .ensures ∙ sym (ap outcome (c .before .before .o .given .1))
+
+pub of-outcome-spec : {M : Type 1} → statement M
+of-outcome-spec =
+    tie.close (tie.spec enum-told nothing-requires enum-known-o refused-requires returns returns-2)

@@ -1,0 +1,350 @@
+// The calls of the base for programs in C: `include/txp.h` declares them.
+// Each gives back the number of the refusal, 0 where it was done, and puts every other number into the lent answer.
+mod answers;
+
+use answers::put;
+ghost use mathlib.Core.Path.{_≡_};
+ghost use mathlib.Core.Bool.{_&&_, cond};
+ghost use lib.ListN.{length};
+ghost use Rattle.refusals.specs.Checks.{firstOf, lentAfter};
+ghost use Rattle.sizes.specs.Sizes.{sideFits, levelsFit, allOf, coarsestOf};
+ghost use Rattle.bits.specs.Bits.{bit, digit, packed, withBit};
+ghost use Rattle.view.specs.View.{viewed};
+ghost use Rattle.places.specs.Order as order;
+ghost use Rattle.places.specs.Answers.{placeChecks, reorderChecks, rasterIf, linearIf};
+ghost use Rattle.coef.specs.Coef as coefficient;
+ghost use Rattle.tree.specs.Summaries.{summaryChecks, descTable, grandTable};
+ghost use Rattle.figures.specs.Figures.{figuresOf, figuresChecks, answered};
+ghost use Rattle.coder.specs.Body as body;
+ghost use Rattle.coder.specs.Body.{sentBits, sentMarks, tables};
+ghost use Rattle.txp.specs.File.{fileOf};
+ghost use Rattle.txp.specs.Calls.{encodeChecks, encodeAnswer};
+ghost use Rattle.ctxp.specs.Answers.{value, planes, outcome, encoded, worst, written, figured, linearly, rasterly, parted, joined, floated, next, Answers, nothing};
+ghost use Rattle.ctxp.specs.Lent.{asBool, signedOf, joinedIn, floatIn, FileDecoded, BodyDecoded};
+
+// ---- the file
+
+// Writes the file of a linear array of coefficients.
+#[no_mangle]
+pub extern "C" fn txp_encode(
+    n: u32,
+    l: u32,
+    coefs: &[i32],
+    desc: &mut [u32],
+    grand: &mut [u32],
+    marks: &mut [u8],
+    out: &mut [u8],
+    budget: u32,
+    answer: &mut [u32; 15],
+) -> u32
+    ensures answer { λ r. ⌜ Answers r (now (answer .exit)) (encoded (encodeAnswer n l (now (coefs .entry)) budget (firstOf (encodeChecks n l (now (coefs .entry)) (length (now (desc .entry))) (length (now (grand .entry))) (length (now (marks .entry))) (length (now (out .entry))) budget)))) ⌝ }
+    ensures descs { λ r. ⌜ now (desc .exit) ≡ lentAfter (firstOf (encodeChecks n l (now (coefs .entry)) (length (now (desc .entry))) (length (now (grand .entry))) (length (now (marks .entry))) (length (now (out .entry))) budget)) (descTable n l (now (coefs .entry))) (now (desc .entry)) ⌝ }
+    ensures grands { λ r. ⌜ now (grand .exit) ≡ lentAfter (firstOf (encodeChecks n l (now (coefs .entry)) (length (now (desc .entry))) (length (now (grand .entry))) (length (now (marks .entry))) (length (now (out .entry))) budget)) (grandTable n l (now (coefs .entry))) (now (grand .entry)) ⌝ }
+    ensures marked { λ r. ⌜ now (marks .exit) ≡ lentAfter (firstOf (encodeChecks n l (now (coefs .entry)) (length (now (desc .entry))) (length (now (grand .entry))) (length (now (marks .entry))) (length (now (out .entry))) budget)) (sentMarks n l (now (coefs .entry)) budget) (now (marks .entry)) ⌝ }
+    ensures written { λ r. ⌜ now (out .exit) ≡ lentAfter (firstOf (encodeChecks n l (now (coefs .entry)) (length (now (desc .entry))) (length (now (grand .entry))) (length (now (marks .entry))) (length (now (out .entry))) budget)) (fileOf n l (now (coefs .entry)) budget) (now (out .entry)) ⌝ }
+{
+    let done = txp::encode(n, l, coefs, desc, grand, marks, out, budget);
+    put(answer, answers::of_encoded(done))
+}
+
+// Reads a file, whole or cut.
+#[no_mangle]
+pub extern "C" fn txp_decode(
+    file: &[u8],
+    values: &mut [i32],
+    precisions: &mut [u8],
+    marks: &mut [u8],
+    answer: &mut [u32; 15],
+) -> u32
+    ensures { λ r. ⌜ FileDecoded (now (file .entry)) (tables (now (values .entry)) (now (precisions .entry)) (now (marks .entry))) r (now (answer .exit)) (tables (now (values .exit)) (now (precisions .exit)) (now (marks .exit))) ⌝ }
+{
+    let done = txp::decode(file, values, precisions, marks);
+    put(answer, answers::of_decoded(done))
+}
+
+// ---- the body
+
+// The most bits that a body of this N, L and P can have.
+#[no_mangle]
+pub extern "C" fn txp_worst_body(n: u32, l: u32, p: u32, answer: &mut [u32; 15]) -> u32
+    ensures { λ r. ⌜ Answers r (now (answer .exit)) (worst (body.worstAnswer n l p (firstOf (body.worstChecks n l p)))) ⌝ }
+{
+    let done = coder::worst_body(n, l, p);
+    put(answer, answers::of_worst(done))
+}
+
+// Writes the body of a linear array of coefficients from `offset` on.
+#[no_mangle]
+pub extern "C" fn txp_encode_body(
+    n: u32,
+    l: u32,
+    coefs: &[i32],
+    desc: &mut [u32],
+    grand: &mut [u32],
+    marks: &mut [u8],
+    out: &mut [u8],
+    offset: usize,
+    budget: u32,
+    answer: &mut [u32; 15],
+) -> u32
+    ensures answer { λ r. ⌜ Answers r (now (answer .exit)) (written (body.encodeAnswer n l (now (coefs .entry)) budget (firstOf (body.encodeChecks n l (now (coefs .entry)) (length (now (desc .entry))) (length (now (grand .entry))) (length (now (marks .entry))) (length (now (out .entry))) offset budget)))) ⌝ }
+    ensures descs { λ r. ⌜ now (desc .exit) ≡ lentAfter (firstOf (body.encodeChecks n l (now (coefs .entry)) (length (now (desc .entry))) (length (now (grand .entry))) (length (now (marks .entry))) (length (now (out .entry))) offset budget)) (descTable n l (now (coefs .entry))) (now (desc .entry)) ⌝ }
+    ensures grands { λ r. ⌜ now (grand .exit) ≡ lentAfter (firstOf (body.encodeChecks n l (now (coefs .entry)) (length (now (desc .entry))) (length (now (grand .entry))) (length (now (marks .entry))) (length (now (out .entry))) offset budget)) (grandTable n l (now (coefs .entry))) (now (grand .entry)) ⌝ }
+    ensures marked { λ r. ⌜ now (marks .exit) ≡ lentAfter (firstOf (body.encodeChecks n l (now (coefs .entry)) (length (now (desc .entry))) (length (now (grand .entry))) (length (now (marks .entry))) (length (now (out .entry))) offset budget)) (sentMarks n l (now (coefs .entry)) budget) (now (marks .entry)) ⌝ }
+    ensures written { λ r. ⌜ now (out .exit) ≡ body.outputAfter (firstOf (body.encodeChecks n l (now (coefs .entry)) (length (now (desc .entry))) (length (now (grand .entry))) (length (now (marks .entry))) (length (now (out .entry))) offset budget)) offset (packed (sentBits n l (now (coefs .entry)) budget)) (now (out .entry)) ⌝ }
+{
+    let done = coder::encode(n, l, coefs, desc, grand, marks, out, offset, budget);
+    put(answer, answers::of_written(done))
+}
+
+// Reads the first `usable` bits of a body, or all that it has.
+#[no_mangle]
+pub extern "C" fn txp_decode_body(
+    n: u32,
+    l: u32,
+    p: u32,
+    body: &[u8],
+    usable: u32,
+    values: &mut [i32],
+    precisions: &mut [u8],
+    marks: &mut [u8],
+    answer: &mut [u32; 15],
+) -> u32
+    ensures { λ r. ⌜ BodyDecoded n l p usable (now (body .entry)) (tables (now (values .entry)) (now (precisions .entry)) (now (marks .entry))) r (now (answer .exit)) (tables (now (values .exit)) (now (precisions .exit)) (now (marks .exit))) ⌝ }
+{
+    let done = coder::decode(n, l, p, body, usable, values, precisions, marks);
+    put(answer, answers::of_read(done))
+}
+
+// ---- summaries and figures
+
+// Fills DESC and GRAND.
+#[no_mangle]
+pub extern "C" fn txp_summaries(
+    n: u32,
+    l: u32,
+    coefs: &[i32],
+    desc: &mut [u32],
+    grand: &mut [u32],
+    answer: &mut [u32; 15],
+) -> u32
+    ensures answer { λ r. ⌜ Answers r (now (answer .exit)) (outcome (firstOf (summaryChecks n l (now (coefs .entry)) (length (now (desc .entry))) (length (now (grand .entry)))))) ⌝ }
+    ensures descs { λ r. ⌜ now (desc .exit) ≡ lentAfter (firstOf (summaryChecks n l (now (coefs .entry)) (length (now (desc .entry))) (length (now (grand .entry))))) (descTable n l (now (coefs .entry))) (now (desc .entry)) ⌝ }
+    ensures grands { λ r. ⌜ now (grand .exit) ≡ lentAfter (firstOf (summaryChecks n l (now (coefs .entry)) (length (now (desc .entry))) (length (now (grand .entry))))) (grandTable n l (now (coefs .entry))) (now (grand .entry)) ⌝ }
+{
+    let done = tree::summaries(n, l, coefs, desc, grand);
+    put(answer, answers::of_outcome(done))
+}
+
+// The figures of one plane. Fills DESC and GRAND on the way.
+#[no_mangle]
+pub extern "C" fn txp_figures(
+    n: u32,
+    l: u32,
+    values: &[i32],
+    plane: u32,
+    desc: &mut [u32],
+    grand: &mut [u32],
+    answer: &mut [u32; 15],
+) -> u32
+    ensures answer { λ r. ⌜ Answers r (now (answer .exit)) (figured (answered (firstOf (figuresChecks n l (now (values .entry)) (length (now (desc .entry))) (length (now (grand .entry))) plane)) (figuresOf n l (now (values .entry)) plane))) ⌝ }
+    ensures descs { λ r. ⌜ now (desc .exit) ≡ lentAfter (firstOf (figuresChecks n l (now (values .entry)) (length (now (desc .entry))) (length (now (grand .entry))) plane)) (descTable n l (now (values .entry))) (now (desc .entry)) ⌝ }
+    ensures grands { λ r. ⌜ now (grand .exit) ≡ lentAfter (firstOf (figuresChecks n l (now (values .entry)) (length (now (desc .entry))) (length (now (grand .entry))) plane)) (grandTable n l (now (values .entry))) (now (grand .entry)) ⌝ }
+{
+    let done = figures::figures_of(n, l, values, plane, desc, grand);
+    put(answer, answers::of_figures(done))
+}
+
+// ---- places
+
+// A whole raster array in linear order.
+#[no_mangle]
+pub extern "C" fn txp_to_linear(n: u32, from: &[i32], to: &mut [i32], answer: &mut [u32; 15]) -> u32
+    ensures answer { λ r. ⌜ Answers r (now (answer .exit)) (outcome (firstOf (reorderChecks n (length (now (from .entry))) (length (now (to .entry)))))) ⌝ }
+    ensures reordered { λ r. ⌜ now (to .exit) ≡ lentAfter (firstOf (reorderChecks n (length (now (from .entry))) (length (now (to .entry))))) (order.linearly n (now (from .entry))) (now (to .entry)) ⌝ }
+{
+    let done = places::reorder_to_linear(n, from, to);
+    put(answer, answers::of_outcome(done))
+}
+
+// A whole linear array in raster order.
+#[no_mangle]
+pub extern "C" fn txp_to_raster(n: u32, from: &[i32], to: &mut [i32], answer: &mut [u32; 15]) -> u32
+    ensures answer { λ r. ⌜ Answers r (now (answer .exit)) (outcome (firstOf (reorderChecks n (length (now (from .entry))) (length (now (to .entry)))))) ⌝ }
+    ensures reordered { λ r. ⌜ now (to .exit) ≡ lentAfter (firstOf (reorderChecks n (length (now (from .entry))) (length (now (to .entry))))) (order.rasterly n (now (from .entry))) (now (to .entry)) ⌝ }
+{
+    let done = places::reorder_to_raster(n, from, to);
+    put(answer, answers::of_outcome(done))
+}
+
+// The linear place of a raster place.
+#[no_mangle]
+pub extern "C" fn txp_linear_place(n: u32, place: u32, answer: &mut [u32; 15]) -> u32
+    ensures { λ r. ⌜ Answers r (now (answer .exit)) (linearly (linearIf (firstOf (placeChecks n place)) (order.toLinear n place))) ⌝ }
+{
+    match places::raster_at(n, place) {
+        places::RasterAnswer::Place(p) => {
+            let done = places::to_linear(n, p);
+            put(answer, answers::of_linear(done))
+        }
+        places::RasterAnswer::Refused(why) => put(answer, answers::refused(why)),
+    }
+}
+
+// The raster place of a linear place.
+#[no_mangle]
+pub extern "C" fn txp_raster_place(n: u32, place: u32, answer: &mut [u32; 15]) -> u32
+    ensures { λ r. ⌜ Answers r (now (answer .exit)) (rasterly (rasterIf (firstOf (placeChecks n place)) (order.toRaster n place))) ⌝ }
+{
+    match places::linear_at(n, place) {
+        places::LinearAnswer::Place(q) => {
+            let done = places::to_raster(n, q);
+            put(answer, answers::of_raster(done))
+        }
+        places::LinearAnswer::Refused(why) => put(answer, answers::refused(why)),
+    }
+}
+
+// ---- coefficients
+
+// The planes of an array.
+#[no_mangle]
+pub extern "C" fn txp_planes(coefs: &[i32], answer: &mut [u32; 15]) -> u32
+    ensures { λ r. ⌜ Answers r (now (answer .exit)) (planes (coefficient.planesOf (now (coefs .entry)))) ⌝ }
+{
+    let done = coef::planes(coefs);
+    put(answer, answers::of_planes(done))
+}
+
+// Whether x is below 0: 1 or 0.
+#[no_mangle]
+pub extern "C" fn txp_is_negative(x: i32, answer: &mut [u32; 15]) -> u32
+    ensures { λ r. ⌜ Answers r (now (answer .exit)) (value (digit (coefficient.negative x))) ⌝ }
+{
+    let done = coef::is_negative(x);
+    put(answer, answers::of_bool(done))
+}
+
+// The magnitude of any number.
+#[no_mangle]
+pub extern "C" fn txp_magnitude(x: i32, answer: &mut [u32; 15]) -> u32
+    ensures { λ r. ⌜ Answers r (now (answer .exit)) (value (coefficient.magnitude x)) ⌝ }
+{
+    let done = coef::magnitude(x);
+    put(answer, answers::value(done))
+}
+
+// Sign and magnitude of a coefficient.
+#[no_mangle]
+pub extern "C" fn txp_part(x: i32, answer: &mut [u32; 15]) -> u32
+    ensures { λ r. ⌜ Answers r (now (answer .exit)) (parted (coefficient.partedOf x)) ⌝ }
+{
+    let done = coef::part_of(x);
+    put(answer, answers::of_parted(done))
+}
+
+// The coefficient with this sign and magnitude. Any `negative` but 0 says that it is below 0.
+#[no_mangle]
+pub extern "C" fn txp_join(
+    negative: u32,
+    magnitude: u32,
+    to: &mut i32,
+    answer: &mut [u32; 15],
+) -> u32
+    ensures answer { λ r. ⌜ Answers r (now (answer .exit)) (joined (coefficient.joinedOf (signedOf negative magnitude))) ⌝ }
+    ensures joined { λ r. ⌜ now (to .exit) ≡ joinedIn (coefficient.joinedOf (signedOf negative magnitude)) (now (to .entry)) ⌝ }
+{
+    match coef::join_of(coef::Signed {
+        negative: negative != 0,
+        magnitude,
+    }) {
+        coef::Joined::Is(x) => {
+            *to = x;
+            put(answer, answers::nothing())
+        }
+        coef::Joined::TooLarge => put(answer, answers::too_large()),
+    }
+}
+
+// A coefficient as a float, which is exactly that whole number.
+#[no_mangle]
+pub extern "C" fn txp_float(x: i32, to: &mut f32, answer: &mut [u32; 15]) -> u32
+    ensures answer { λ r. ⌜ Answers r (now (answer .exit)) (floated (coefficient.floatOf x)) ⌝ }
+    ensures floated { λ r. ⌜ now (to .exit) ≡ floatIn (coefficient.floatOf x) (now (to .entry)) ⌝ }
+{
+    match coef::float_of(x) {
+        coef::Float::Is(v) => {
+            *to = v;
+            put(answer, answers::nothing())
+        }
+        coef::Float::Refused(why) => put(answer, answers::refused(why)),
+    }
+}
+
+// ---- bits
+
+// Bit b of x: 1 or 0.
+#[no_mangle]
+pub extern "C" fn txp_bit(x: u32, b: u32, answer: &mut [u32; 15]) -> u32
+    ensures { λ r. ⌜ Answers r (now (answer .exit)) (value (digit (bit x b))) ⌝ }
+{
+    let done = bits::bit_of(x, b);
+    put(answer, answers::of_bool(done))
+}
+
+// The bit with number `at` of those below `end`, if there is one.
+#[no_mangle]
+pub extern "C" fn txp_read_bit(body: &[u8], at: usize, end: usize, answer: &mut [u32; 15]) -> u32
+    ensures { λ r. ⌜ Answers r (now (answer .exit)) (next (viewed (now (body .entry)) at end)) ⌝ }
+{
+    let done = view::read(body, at, end);
+    put(answer, answers::of_next(done))
+}
+
+// Puts a bit at number `at` and clears what lies below it in its byte. Any `x` but 0 is a 1.
+#[no_mangle]
+pub extern "C" fn txp_put_bit(body: &mut [u8], at: usize, x: u32, answer: &mut [u32; 15]) -> u32
+    ensures answer { λ r. ⌜ Answers r (now (answer .exit)) nothing ⌝ }
+    ensures written { λ r. ⌜ now (body .exit) ≡ withBit (now (body .entry)) at (asBool x) ⌝ }
+{
+    bits::put(body, at, x != 0);
+    put(answer, answers::nothing())
+}
+
+// ---- sizes
+
+// Whether N is in range: 1 or 0.
+#[no_mangle]
+pub extern "C" fn txp_side_fits(n: u32, answer: &mut [u32; 15]) -> u32
+    ensures { λ r. ⌜ Answers r (now (answer .exit)) (value (digit (sideFits n))) ⌝ }
+{
+    let done = sizes::side_fits(n);
+    put(answer, answers::of_bool(done))
+}
+
+// Whether L is in range for this N: 1 or 0.
+#[no_mangle]
+pub extern "C" fn txp_levels_fit(n: u32, l: u32, answer: &mut [u32; 15]) -> u32
+    ensures { λ r. ⌜ Answers r (now (answer .exit)) (value (digit (levelsFit n l))) ⌝ }
+{
+    let done = sizes::levels_fit(n, l);
+    put(answer, answers::of_bool(done))
+}
+
+// I, the number of coefficients; 0 for an N out of range.
+#[no_mangle]
+pub extern "C" fn txp_all(n: u32, answer: &mut [u32; 15]) -> u32
+    ensures { λ r. ⌜ Answers r (now (answer .exit)) (value (cond (sideFits n) (allOf n) 0)) ⌝ }
+{
+    let done = sizes::all_of(n);
+    put(answer, answers::value(done as u32))
+}
+
+// D, the size of the coarsest band; 0 for sizes out of range.
+#[no_mangle]
+pub extern "C" fn txp_coarsest(n: u32, l: u32, answer: &mut [u32; 15]) -> u32
+    ensures { λ r. ⌜ Answers r (now (answer .exit)) (value (cond (sideFits n && levelsFit n l) (coarsestOf n l) 0)) ⌝ }
+{
+    let done = sizes::coarsest_of(n, l);
+    put(answer, answers::value(done as u32))
+}

@@ -1,0 +1,85 @@
+/* Encodes a small picture, decodes it whole and cut, and shows what a damaged file is answered. README.md has the commands. */
+#include <stdio.h>
+#include <stdlib.h>
+
+#include "txp.h"
+
+enum { N = 3, L = 2, SIDE = 8, ALL = SIDE * SIDE };
+
+/* Prints a refusal and ends the program. */
+static void stop(const char *call, const txp_answer *answer)
+{
+    printf("%s: refusal %u at place %u\n", call, (unsigned)answer->refusal, (unsigned)answer->place);
+    exit(1);
+}
+
+/* The first row of the picture, each value as the float that an audio engine takes. */
+static void print_row(const int32_t *linear)
+{
+    int32_t raster[ALL];
+    txp_answer answer;
+    if (txp_to_raster(N, linear, ALL, raster, ALL, &answer) != TXP_DONE) {
+        stop("txp_to_raster", &answer);
+    }
+    for (int col = 0; col < SIDE; col++) {
+        float value;
+        if (txp_float(raster[col], &value, &answer) != TXP_DONE) {
+            stop("txp_float", &answer);
+        }
+        printf(" %g", (double)value);
+    }
+    printf("\n");
+}
+
+/* Decodes the first bytes of a file, and prints how near the values are. */
+static void show(const uint8_t *file, size_t bytes)
+{
+    int32_t values[ALL];
+    uint8_t precisions[ALL], marks[ALL];
+    txp_answer answer;
+    printf("%3zu bytes: ", bytes);
+    if (txp_decode(file, bytes, values, ALL, precisions, ALL, marks, ALL, &answer) != TXP_DONE) {
+        printf("refusal %u at place %u\n", (unsigned)answer.refusal, (unsigned)answer.place);
+        return;
+    }
+    printf("%u of %u bits, %u of %u planes, worst error %u; row 0:", (unsigned)answer.bits, (unsigned)answer.declared,
+           (unsigned)answer.finished, (unsigned)answer.planes, (unsigned)answer.error);
+    print_row(values);
+}
+
+int main(void)
+{
+    int32_t raster[ALL], linear[ALL];
+    uint32_t desc[TXP_DESC(N)], grand[TXP_GRAND(N)];
+    uint8_t marks[ALL], file[TXP_MOST_FILE(N)];
+    txp_answer answer;
+
+    /* A ramp along the rows and down the columns, the larger the nearer to the first corner. */
+    for (int row = 0; row < SIDE; row++) {
+        for (int col = 0; col < SIDE; col++) {
+            int32_t size = 1000 / (1 + row * row + col * col);
+            raster[row * SIDE + col] = (row + col) % 3 == 2 ? -size : size;
+        }
+    }
+    if (txp_to_linear(N, raster, ALL, linear, ALL, &answer) != TXP_DONE) {
+        stop("txp_to_linear", &answer);
+    }
+    if (txp_encode(N, L, linear, ALL, desc, TXP_DESC(N), grand, TXP_GRAND(N), marks, ALL, file, sizeof file, UINT32_MAX,
+                   &answer) != TXP_DONE) {
+        stop("txp_encode", &answer);
+    }
+    const size_t bytes = answer.bytes;
+    printf("file: %zu bytes, %u bits, P = %u\n", bytes, (unsigned)answer.bits, (unsigned)answer.planes);
+
+    for (size_t cut = TXP_HEADER_SIZE; cut < bytes; cut += 16) {
+        show(file, cut);
+    }
+    show(file, bytes);
+
+    file[TXP_HEADER_SIZE + 2] = 0; /* a damaged body, */
+    show(file, bytes);
+    file[4] = 2; /* another version, */
+    show(file, bytes);
+    show(file, 11); /* and a file that is shorter than its header */
+    return 0;
+}

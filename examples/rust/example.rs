@@ -1,0 +1,68 @@
+//! Encodes a small picture, decodes it whole and cut, and shows what a damaged file is answered. README.md has the commands.
+mod txp;
+
+use txp::Refusal;
+
+const N: u32 = 3;
+const L: u32 = 2;
+const SIDE: usize = 8;
+const ALL: usize = SIDE * SIDE;
+
+/// The first row of the picture, each value as the float that an audio engine takes.
+fn row(linear: &[i32]) -> Result<String, Refusal> {
+    let mut raster = [0; ALL];
+    txp::to_raster(N, linear, &mut raster)?;
+    let mut text = String::new();
+    for &x in &raster[..SIDE] {
+        text += &format!(" {}", txp::float(x)?);
+    }
+    Ok(text)
+}
+
+/// What the first bytes of a file give.
+fn shown(file: &[u8]) -> Result<String, Refusal> {
+    let mut values = [0; ALL];
+    let d = txp::decode(file, &mut values, &mut [0; ALL], &mut [0; ALL])?;
+    let row = row(&values)?;
+    Ok(format!("{} of {} bits, {} of {} planes, worst error {}; row 0:{row}", d.bits, d.declared, d.finished, d.planes, d.error))
+}
+
+fn show(file: &[u8]) {
+    match shown(file) {
+        Ok(text) => println!("{:3} bytes: {text}", file.len()),
+        Err(no) => println!("{:3} bytes: refusal {} at place {}", file.len(), no.number, no.place),
+    }
+}
+
+/// The picture: the larger the nearer to the first corner. Its file, and how much of it is used.
+fn written(file: &mut [u8]) -> Result<usize, Refusal> {
+    let mut raster = [0; ALL];
+    for row in 0..SIDE {
+        for col in 0..SIDE {
+            let size = 1000 / (1 + row * row + col * col) as i32;
+            raster[row * SIDE + col] = if (row + col) % 3 == 2 { -size } else { size };
+        }
+    }
+    let mut linear = [0; ALL];
+    txp::to_linear(N, &raster, &mut linear)?;
+    let mut desc = [0; txp::desc(N)];
+    let mut grand = [0; txp::grand(N)];
+    let e = txp::encode(N, L, &linear, &mut desc, &mut grand, &mut [0; ALL], file, u32::MAX)?;
+    println!("file: {} bytes, {} bits, P = {}", e.bytes, e.bits, e.planes);
+    Ok(e.bytes as usize)
+}
+
+fn main() -> Result<(), Refusal> {
+    let mut file = [0; txp::most_file(N)];
+    let bytes = written(&mut file)?;
+    for cut in (txp::HEADER_SIZE..bytes).step_by(16) {
+        show(&file[..cut]);
+    }
+    show(&file[..bytes]);
+    file[txp::HEADER_SIZE + 2] = 0; // a damaged body,
+    show(&file[..bytes]);
+    file[4] = 2; // another version,
+    show(&file[..bytes]);
+    show(&file[..11]); // and a file that is shorter than its header
+    Ok(())
+}

@@ -1,0 +1,208 @@
+/* TXP: a square of wavelet coefficients as a texture stream that may be cut after any bit.
+ *
+ * Every call
+ * - gives back the number of the refusal, 0 (TXP_DONE) where it was done;
+ * - fills *answer: the refusal and its place, and the numbers that the call speaks of. All other fields are 0, and after a refusal
+ *   all but the first two are;
+ * - keeps nothing between calls, takes no memory, and works on what the caller lends.
+ *
+ * What a caller must lend.
+ * - A buffer is a pointer and, in the next parameter, the number of its entries (not of its bytes). A longer one than is needed is
+ *   taken, and a shorter one is refused; entries past those that a call owns are never touched.
+ * - A pointer is not NULL and is aligned for its type, also where the length is 0: then any object's address will do, nothing is
+ *   read or written through it.
+ * - No buffer that a call writes to, and no answer, may overlap another buffer of the same call.
+ * - Calls on different buffers may run at the same time.
+ *
+ * Arrays are square, of side 2^N, and hold I = 4^N coefficients in linear order: row and column bits interleaved, the row bit
+ * above. txp_to_linear and txp_to_raster change the order. L is the number of levels.
+ *
+ * The functions are those of crates/ctxp, where their contracts stand. tests/header.py compares this file with that source.
+ */
+#ifndef TXP_H
+#define TXP_H
+
+#include <stddef.h>
+#include <stdint.h>
+
+#ifdef __cplusplus
+extern "C" {
+#endif
+
+/* Limits. */
+#define TXP_LEAST_N 2           /* N is 2 to 8 */
+#define TXP_MOST_N 8
+#define TXP_LIMIT 16777215      /* the largest magnitude of a coefficient */
+#define TXP_MOST_PLANES 24      /* P is 0 to 24 */
+#define TXP_HEADER_SIZE 12      /* bytes of a file before its body */
+
+/* What to lend for an array of side 2^N, N from 2 to 8: numbers of entries. */
+#define TXP_ENTRIES(n) ((size_t)1 << (2 * (n)))      /* I: coefficients, values, precisions, marks */
+#define TXP_DESC(n) ((size_t)1 << (2 * (n) - 2))     /* I/4 */
+#define TXP_GRAND(n) ((size_t)1 << (2 * (n) - 4))    /* I/16 */
+
+/* Bytes that hold any body of this N, and any file; a body of P planes may need less: txp_worst_body. */
+#define TXP_MOST_BODY(n) ((((size_t)25 << (2 * (n))) + TXP_DESC(n) + TXP_GRAND(n) + 7) / 8)
+#define TXP_MOST_FILE(n) (TXP_HEADER_SIZE + TXP_MOST_BODY(n))
+
+/* The numbers for no. */
+enum txp_refusal {
+    TXP_DONE = 0,
+    TXP_SIDE = 1,           /* N out of range */
+    TXP_LEVELS = 2,         /* L out of range: it is 1 to N-1 */
+    TXP_LENGTH = 3,         /* the input's length is not I, or a single place is not below I */
+    TXP_COEFFICIENT = 4,    /* a coefficient over the limit; place: the first such */
+    TXP_LENT = 5,           /* a lent table or array is too short */
+    TXP_OUTPUT = 6,         /* the output is too short for the budget and for the worst body */
+    TXP_LETTERS = 7,        /* under 12 bytes, or wrong letters */
+    TXP_VERSION = 8,        /* version not 1 */
+    TXP_PLANES = 9,         /* P over 24, or a plane that is not below 24 */
+    TXP_SURPLUS = 10,       /* more body bytes than the declared bits need */
+    TXP_PADDING = 11,       /* all body bytes present, padding not 0 */
+    TXP_CONTRADICTION = 12, /* no array fits the bits; place: the first bit at which none does */
+    TXP_BEYOND = 13         /* usable bits left after the last plane; place: the first of them */
+};
+
+/* What a call answers. */
+typedef struct txp_answer {
+    uint32_t refusal;  /* the number for no, which is the call's result too */
+    uint32_t place;    /* the place reported with it */
+    uint32_t n;        /* N of a file */
+    uint32_t l;        /* L of a file */
+    uint32_t planes;   /* P */
+    uint32_t declared; /* the declared bits of a file */
+    uint32_t bits;     /* bits: written, used, of a plane, of the worst body; 1 where one was read */
+    uint32_t bytes;    /* the bytes of a file that was written */
+    uint32_t finished; /* planes finished */
+    uint32_t error;    /* the worst error of a value */
+    uint32_t parts;    /* parts that stand after a plane */
+    uint32_t splits;   /* sets split in a plane */
+    uint32_t found;    /* coefficients found in a plane */
+    uint32_t negative; /* 1 for a coefficient below 0 */
+    uint32_t value;    /* the number of a call that answers one number */
+} txp_answer;
+
+/* ---- the file */
+
+/* Writes the file of a linear array, with at most `budget` bits in its body.
+ * coefs: I coefficients. desc: TXP_DESC(n) or more; grand: TXP_GRAND(n); marks: TXP_ENTRIES(n).
+ * out: 12 bytes and those for the smaller of the budget and the worst body of the array's own P; TXP_MOST_FILE(n) always will do.
+ * Refusals 1, 2, 3, 4 (place: the first coefficient over the limit), 5, 6; nothing that is lent is touched.
+ * Done: desc and grand hold the summaries, marks where the scan stopped, out the file. Answer: planes, bits, bytes. */
+uint32_t txp_encode(uint32_t n, uint32_t l, const int32_t *coefs, size_t coefs_len, uint32_t *desc, size_t desc_len,
+                    uint32_t *grand, size_t grand_len, uint8_t *marks, size_t marks_len, uint8_t *out, size_t out_len,
+                    uint32_t budget, txp_answer *answer);
+
+/* Reads a file, whole or cut: a file that is short of its declared bytes is a cut one.
+ * values, precisions, marks: TXP_ENTRIES(n) or more each, for the N that byte 5 of the file says; TXP_ENTRIES(8) always will do.
+ * Refusals 7, 8, 1, 2, 9, 10, 11, 5: nothing that is lent is touched.
+ * Refusals 12, 13 (place: a bit of the body): the first I entries of the three are 0.
+ * Done: values hold the coefficients as near as the bits allow, precisions each one's lowest known bit, marks where the scan stopped.
+ * Answer: n, l, planes, declared, bits (used), finished, error. */
+uint32_t txp_decode(const uint8_t *file, size_t file_len, int32_t *values, size_t values_len, uint8_t *precisions,
+                    size_t precisions_len, uint8_t *marks, size_t marks_len, txp_answer *answer);
+
+/* ---- the body */
+
+/* The most bits that a body of this N, L and P can have. Refusals 1, 2, 9. Answer: bits. */
+uint32_t txp_worst_body(uint32_t n, uint32_t l, uint32_t p, txp_answer *answer);
+
+/* Writes the body of a linear array from byte `offset` of out on, at most `budget` bits of it.
+ * coefs, desc, grand, marks: as for txp_encode. out: `offset` bytes, which stay as they are, and those for the smaller of the
+ * budget and the worst body of the array's own P. Refusals 1, 2, 3, 4, 5, 6; nothing that is lent is touched.
+ * Done: the tables as for txp_encode; out the body from `offset` on. Answer: planes, bits. */
+uint32_t txp_encode_body(uint32_t n, uint32_t l, const int32_t *coefs, size_t coefs_len, uint32_t *desc, size_t desc_len,
+                         uint32_t *grand, size_t grand_len, uint8_t *marks, size_t marks_len, uint8_t *out, size_t out_len,
+                         size_t offset, uint32_t budget, txp_answer *answer);
+
+/* Reads the first `usable` bits of a body of P planes, or all that it has.
+ * values, precisions, marks: TXP_ENTRIES(n) or more each. Refusals 1, 2, 9, 5: nothing that is lent is touched.
+ * Refusals 12, 13: the first I entries of the three are 0. Done: as for txp_decode. Answer: bits (used), finished, error. */
+uint32_t txp_decode_body(uint32_t n, uint32_t l, uint32_t p, const uint8_t *body, size_t body_len, uint32_t usable,
+                         int32_t *values, size_t values_len, uint8_t *precisions, size_t precisions_len, uint8_t *marks,
+                         size_t marks_len, txp_answer *answer);
+
+/* ---- summaries and figures */
+
+/* Fills DESC and GRAND. coefs: I coefficients in linear order. desc: TXP_DESC(n) or more; grand: TXP_GRAND(n).
+ * Refusals 1, 2, 3, 4, 5; nothing that is lent is touched. Done: the bitwise ORs of the magnitudes over the descendants of each
+ * place, and over those without the children. Answer: nothing. */
+uint32_t txp_summaries(uint32_t n, uint32_t l, const int32_t *coefs, size_t coefs_len, uint32_t *desc, size_t desc_len,
+                       uint32_t *grand, size_t grand_len, txp_answer *answer);
+
+/* The figures of one plane, 0 to 23, from the values alone. values, desc, grand: as for txp_summaries.
+ * Refusals 1, 2, 3, 4, 5, 9; nothing that is lent is touched. Done: desc and grand as after txp_summaries.
+ * Answer: parts, splits, bits, found. */
+uint32_t txp_figures(uint32_t n, uint32_t l, const int32_t *values, size_t values_len, uint32_t plane, uint32_t *desc,
+                     size_t desc_len, uint32_t *grand, size_t grand_len, txp_answer *answer);
+
+/* ---- places */
+
+/* A whole raster array in linear order. from: I coefficients; to: TXP_ENTRIES(n) or more. Refusals 1, 3, 5; nothing that is lent
+ * is touched. Done: the first I entries of to. Answer: nothing. */
+uint32_t txp_to_linear(uint32_t n, const int32_t *from, size_t from_len, int32_t *to, size_t to_len, txp_answer *answer);
+
+/* A whole linear array in raster order. As txp_to_linear. */
+uint32_t txp_to_raster(uint32_t n, const int32_t *from, size_t from_len, int32_t *to, size_t to_len, txp_answer *answer);
+
+/* The linear place of a raster place. Refusals 1, 3. Answer: value. */
+uint32_t txp_linear_place(uint32_t n, uint32_t place, txp_answer *answer);
+
+/* The raster place of a linear place. Refusals 1, 3. Answer: value. */
+uint32_t txp_raster_place(uint32_t n, uint32_t place, txp_answer *answer);
+
+/* ---- coefficients */
+
+/* P, the planes of an array of any length and any numbers: the least P with every magnitude below 2^P. No refusal.
+ * Answer: planes. */
+uint32_t txp_planes(const int32_t *coefs, size_t coefs_len, txp_answer *answer);
+
+/* Whether x is below 0. No refusal. Answer: value, 1 or 0. */
+uint32_t txp_is_negative(int32_t x, txp_answer *answer);
+
+/* The magnitude of any number. No refusal. Answer: value. */
+uint32_t txp_magnitude(int32_t x, txp_answer *answer);
+
+/* Sign and magnitude of a coefficient. Refusal 4 at place 0. Answer: negative, value (the magnitude). */
+uint32_t txp_part(int32_t x, txp_answer *answer);
+
+/* The coefficient with this sign and magnitude; any `negative` but 0 says that it is below 0. to: one number.
+ * Refusal 4 at place 0: *to is not touched. Done: *to is the coefficient. Answer: nothing. */
+uint32_t txp_join(uint32_t negative, uint32_t magnitude, int32_t *to, txp_answer *answer);
+
+/* A coefficient as a float, which is exactly that whole number; 0 gives plus zero. to: one float.
+ * Refusal 4 at place 0: *to is not touched. Done: *to is the float. Answer: nothing. */
+uint32_t txp_float(int32_t x, float *to, txp_answer *answer);
+
+/* ---- bits: in a body, the highest bit of each byte comes first */
+
+/* Bit b of x, 0 for a b of 32 or more. No refusal. Answer: value, 1 or 0. */
+uint32_t txp_bit(uint32_t x, uint32_t b, txp_answer *answer);
+
+/* The bit with number `at` of those of a body that are below `end`. No refusal.
+ * Answer: bits is 1 and value the bit; where there are no more, both are 0. */
+uint32_t txp_read_bit(const uint8_t *body, size_t body_len, size_t at, size_t end, txp_answer *answer);
+
+/* Puts a bit at number `at` and clears what lies below it in its byte; past the end it does nothing. Any x but 0 is a 1.
+ * No refusal. Answer: nothing. */
+uint32_t txp_put_bit(uint8_t *body, size_t body_len, size_t at, uint32_t x, txp_answer *answer);
+
+/* ---- sizes */
+
+/* Whether N is in range. No refusal. Answer: value, 1 or 0. */
+uint32_t txp_side_fits(uint32_t n, txp_answer *answer);
+
+/* Whether L is in range for this N. No refusal. Answer: value, 1 or 0. */
+uint32_t txp_levels_fit(uint32_t n, uint32_t l, txp_answer *answer);
+
+/* I, the number of coefficients; 0 for an N out of range. No refusal. Answer: value. */
+uint32_t txp_all(uint32_t n, txp_answer *answer);
+
+/* D, the size of the coarsest band; 0 for sizes out of range. No refusal. Answer: value. */
+uint32_t txp_coarsest(uint32_t n, uint32_t l, txp_answer *answer);
+
+#ifdef __cplusplus
+}
+#endif
+
+#endif
