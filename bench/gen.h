@@ -1,0 +1,34 @@
+// Test data: a small generator, and Laplacian-like coefficients.
+#ifndef GEN_H
+#define GEN_H
+#include <stdint.h>
+#include <stdlib.h>
+static uint64_t gen_state = 0x9e3779b97f4a7c15u;
+static inline uint32_t gen_u32(void) { // xorshift64*
+    gen_state ^= gen_state >> 12, gen_state ^= gen_state << 25, gen_state ^= gen_state >> 27;
+    return (uint32_t)(gen_state * 0x2545f4914f6cdd1du >> 32);
+}
+// No libm, so that the data is the same everywhere (compile with -ffp-contract=off) and a static link needs nothing.
+static inline double gen_ln(double x) {
+    int k = 0;
+    while (x < 1) x *= 2, k--;
+    while (x >= 2) x /= 2, k++;
+    double t = (x - 1) / (x + 1), p = t, sum = 0;
+    for (int n = 1; n < 40; n += 2, p *= t * t) sum += p / n;
+    return 2 * sum + k * 0.69314718055994531;
+}
+static inline double gen_unit(void) { return (gen_u32() + 0.5) / 4294967296.0; }
+// Laplacian-like, wider in coarser bands by `ratio` a level; magnitudes cut at `most`.
+static inline void gen_laplace(int32_t *c, unsigned N, unsigned L, double finest, double ratio, int32_t most) {
+    uint32_t I = 1u << 2 * N, D = 1u << 2 * (N - L);
+    for (uint32_t i = 0; i < I; i++) {
+        unsigned level = 0; // 0 finest
+        for (uint32_t e = I / 4; e > i && e >= D; e /= 4) level++;
+        double scale = finest;
+        while (level-- > 0) scale *= ratio;
+        double x = -scale * gen_ln(gen_unit());
+        int32_t m = x > most ? most : (int32_t)x;
+        c[i] = gen_u32() & 1 ? -m : m;
+    }
+}
+#endif

@@ -1,0 +1,28 @@
+// The coders of the benchmark, in C11: the body of a texture stream. Arrays are in linear order; the caller lends every table.
+#ifndef NLS_H
+#define NLS_H
+#include <stddef.h>
+#include <stdint.h>
+
+enum { NLS_LIMIT = 16777215, NLS_MAX_N = 10 };
+enum { NONE, MIP, MNP, MSP, MCP, MD, MG, MN2 }; // MNk is k + 5
+
+typedef struct {
+    uint32_t no, place;  // refusal (0: none) and its place or bit
+    uint32_t bits;       // bits written or used
+    uint32_t planes;     // P
+    uint32_t finished;   // planes finished
+    uint32_t worst;      // worst error, 2^k - 1 (decoder)
+} nls_result;
+
+// A coder is a pair of these. body has room for min(budget, worst body) bits; no byte past the bits written is touched.
+typedef nls_result nls_encoder(const int32_t *coef, unsigned N, unsigned L, uint32_t budget, uint32_t *desc,
+                               uint32_t *grand, uint8_t *marks, uint8_t *body);
+typedef nls_result nls_decoder(const uint8_t *body, uint32_t bits, unsigned N, unsigned L, unsigned P, int32_t *values,
+                               uint8_t *prec, uint8_t *marks);
+nls_encoder nls_plain_encode, nls_fast_encode;
+nls_decoder nls_plain_decode, nls_fast_decode;
+
+// OR of magnitudes over DESC and GRAND; returns the OR of all magnitudes.
+uint32_t nls_summaries(const int32_t *coef, unsigned N, unsigned L, uint32_t *desc, uint32_t *grand);
+#endif
