@@ -5,7 +5,7 @@ use crate::text::wide;
 use txp::DecodeAnswer;
 use txp::Decoded;
 
-// The tables of N = 8, with entries past them.
+// The entries of a table.
 const ALL: usize = 65600;
 
 // Whether the figures are those of a case, from its fifth number on: N, L, P, declared bits, used bits, planes finished, worst error.
@@ -139,24 +139,16 @@ fn same(
     crate::bytes::same(marks, marks_after)
 }
 
-// Gives every entry of every table what it holds before a call.
-fn prepare(values: &mut [i32], precisions: &mut [u8], marks: &mut [u8]) {
-    crate::ints::prepare(values);
-    crate::bytes::prepare(precisions);
-    crate::bytes::prepare(marks);
-}
-
 // A decode case.
 pub fn decode(line: &[u8]) -> Verdict {
-    let mut values_after = [0i32; ALL];
-    let mut precisions_after = [0u8; ALL];
-    let mut marks_after = [0u8; ALL];
-    prepare(&mut values_after, &mut precisions_after, &mut marks_after);
+    let mut values_after = crate::ints::prepared();
+    let mut precisions_after = crate::bytes::prepared();
+    let mut marks_after = crate::bytes::prepared();
     let mut values = values_after;
     let mut precisions = precisions_after;
     let mut marks = marks_after;
     let mut w = [0u32; 12];
-    let mut file = [0u8; ALL];
+    let mut file = crate::bytes::prepared();
     let from = crate::text::fields(line, 1, &mut w);
     let lists = read(
         line,

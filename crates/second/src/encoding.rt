@@ -4,12 +4,10 @@ use crate::text::Listed;
 use crate::text::wide;
 use txp::EncodeAnswer;
 
-// The tables of N = 8, with entries past them.
+// The entries of a table, and of one of summaries.
 const ALL: usize = 65600;
 
 const QUARTER: usize = 16448;
-
-const SIXTEENTH: usize = 4160;
 
 // Whether an answer has the figures of a case, from its seventh number on: number, place, planes, bits, bytes.
 fn answers(answer: EncodeAnswer, w: &[u32; 12]) -> bool {
@@ -46,7 +44,7 @@ fn lent_fits(w: &[u32; 12]) -> bool {
     if QUARTER <= wide(w[3]) {
         return false;
     }
-    if SIXTEENTH <= wide(w[4]) {
+    if QUARTER <= wide(w[4]) {
         return false;
     }
     if ALL <= wide(w[5]) {
@@ -141,32 +139,18 @@ fn same(
     crate::bytes::same(out, out_after)
 }
 
-// Gives every entry of every table what it holds before a call.
-fn prepare(desc: &mut [u32], grand: &mut [u32], marks: &mut [u8], out: &mut [u8]) {
-    crate::words::prepare(desc);
-    crate::words::prepare(grand);
-    crate::bytes::prepare(marks);
-    crate::bytes::prepare(out);
-}
-
 // An encode case.
 pub fn encode(line: &[u8]) -> Verdict {
-    let mut desc_after = [0u32; QUARTER];
-    let mut grand_after = [0u32; SIXTEENTH];
-    let mut marks_after = [0u8; ALL];
-    let mut out_after = [0u8; ALL];
-    prepare(
-        &mut desc_after,
-        &mut grand_after,
-        &mut marks_after,
-        &mut out_after,
-    );
+    let mut desc_after = crate::words::prepared();
+    let mut grand_after = crate::words::prepared();
+    let mut marks_after = crate::bytes::prepared();
+    let mut out_after = crate::bytes::prepared();
     let mut desc = desc_after;
     let mut grand = grand_after;
     let mut marks = marks_after;
     let mut out = out_after;
     let mut w = [0u32; 12];
-    let mut coefs = [0i32; ALL];
+    let mut coefs = crate::ints::prepared();
     let from = crate::text::fields(line, 1, &mut w);
     let lists = read(
         line,

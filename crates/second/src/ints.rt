@@ -1,7 +1,9 @@
 // Tables of numbers with a sign.
 use crate::text::Item;
 use crate::text::Listed;
+ghost use mathlib.Core.Path.{_≡_};
 ghost use Prim.Native.Nat.{_≤_};
+ghost use lib.ListN.{length};
 
 // What the entry at a place holds before a call: no coefficient, and not the same at each place.
 fn before(i: usize) -> i32 {
@@ -15,6 +17,15 @@ pub fn prepare(table: &mut [i32]) {
         table[i] = before(i);
         i += 1;
     }
+}
+
+// The array of N = 8, and entries past it, as they are before a call. The contract gives the length, which lending the array as a slice needs.
+pub fn prepared() -> [i32; 65600]
+    ensures { λ r. ⌜ 65600 ≡ length r ⌝ }
+{
+    let mut table = [0i32; 65600];
+    prepare(&mut table);
+    table
 }
 
 // Whether two tables hold the same.

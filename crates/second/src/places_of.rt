@@ -5,7 +5,7 @@ use places::LinearAnswer;
 use places::RasterAnswer;
 use refusals::Outcome;
 
-// The array of N = 8, with entries past it.
+// The entries of an array.
 const ALL: usize = 65600;
 
 // Whether a linear place is as expected.
@@ -103,11 +103,10 @@ fn call(w: &[u32; 5], from: &[i32], count: usize, to: &mut [i32]) -> bool {
 
 // A whole array: way, N, the length lent; number, place.
 pub fn order(line: &[u8]) -> Verdict {
-    let mut after = [0i32; ALL];
-    crate::ints::prepare(&mut after);
+    let mut after = crate::ints::prepared();
     let mut to = after;
     let mut w = [0u32; 5];
-    let mut from = [0i32; ALL];
+    let mut from = crate::ints::prepared();
     let at = crate::text::fields(line, 1, &mut w);
     let input = crate::ints::list(line, at, &mut from);
     let output = crate::ints::list(line, input.at, &mut after);
