@@ -167,7 +167,7 @@ def encode_cases(seed):
             yield 'ezw', 3, L, budget, ezw, None
     for N, L in shapes(6):
         for P in range(25):
-            for n in range({2: 6, 3: 5, 4: 2, 5: 1}.get(N, 1 - (L + P) % 2)):
+            for n in range({2: 6, 3: 5, 4: 2}.get(N, 1)):
                 A = one_array(rng, N, P)
                 length = len(encode(N, L, A, NO_BUDGET)[1])
                 if n + P % 2 == 0:
