@@ -35,7 +35,7 @@ pub fn taken(number: u32, place: u32) -> bool {
     place == 0
 }
 
-// A worst body: N, L, P; number, place, bits.
+// A worst body: N, L, P; refusal, place, bits.
 pub fn worst(line: &[u8]) -> Verdict {
     let mut w = [0u32; 6];
     if crate::text::fields(line, 1, &mut w) != line.len() {
@@ -84,7 +84,7 @@ fn is_float(answer: Float, number: u32, place: u32, pattern: u32) -> bool {
     }
 }
 
-// A coefficient as a float: whether it is below 0, its magnitude; number, place, bit pattern.
+// A coefficient as a float: whether it is below 0, its magnitude; refusal, place, bit pattern.
 pub fn float(line: &[u8]) -> Verdict {
     let mut w = [0u32; 5];
     if crate::text::fields(line, 1, &mut w) != line.len() {

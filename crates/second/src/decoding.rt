@@ -8,7 +8,9 @@ use txp::Decoded;
 // The entries of a table.
 const ALL: usize = 65600;
 
-// Whether the figures are those of a case, from its fifth number on: N, L, P, declared bits, used bits, planes finished, worst error.
+// The numbers of a case: the lengths lent of values, precisions and marks; refusal, place; N, L, P, declared bits, used bits, planes finished, worst error.
+
+// Whether the figures are those of a case, behind its place.
 fn figures(d: Decoded, w: &[u32; 12]) -> bool {
     if d.n != w[5] {
         return false;

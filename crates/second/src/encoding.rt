@@ -9,7 +9,9 @@ const ALL: usize = 65600;
 
 const QUARTER: usize = 16448;
 
-// Whether an answer has the figures of a case, from its seventh number on: number, place, planes, bits, bytes.
+// The numbers of a case: N, L, budget; the lengths lent of desc, grand, marks and out; refusal, place, planes, bits, bytes.
+
+// Whether an answer has the figures of a case. All figures of a refusal are 0.
 fn answers(answer: EncodeAnswer, w: &[u32; 12]) -> bool {
     match answer {
         EncodeAnswer::Done(e) => {

@@ -60,7 +60,7 @@ fn raster_of(n: u32, at: u32) -> RasterAnswer {
     }
 }
 
-// A single place: N, the place; number, place, linear, raster.
+// A single place: N, its number; refusal, place, linear, raster.
 pub fn place(line: &[u8]) -> Verdict {
     let mut w = [0u32; 6];
     if crate::text::fields(line, 1, &mut w) != line.len() {
@@ -101,7 +101,7 @@ fn call(w: &[u32; 5], from: &[i32], count: usize, to: &mut [i32]) -> bool {
     answers(outcome, w[3], w[4])
 }
 
-// A whole array: way, N, the length lent; number, place.
+// A whole array: way, N, the length lent; refusal, place.
 pub fn order(line: &[u8]) -> Verdict {
     let mut after = crate::ints::prepared();
     let mut to = after;

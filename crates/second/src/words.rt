@@ -19,7 +19,7 @@ pub fn prepare(table: &mut [u32]) {
     }
 }
 
-// The summaries of N = 8, and entries past it, as they are before a call. The contract gives the length, which lending the array as a slice needs.
+// The summaries of N = 8, and entries past them, as they are before a call. The contract gives the length, which lending the array as a slice needs.
 pub fn prepared() -> [u32; 16448]
     ensures { λ r. ⌜ 16448 ≡ length r ⌝ }
 {
