@@ -20,7 +20,8 @@ The format of the cases:
   to the length. An empty list is 0 alone.
 - A list of bytes is its length and, if that is not 0, one field of two
   hexadecimal digits a byte, in small letters.
-- Arrays and tables are in linear order. Bits and places count from 0.
+- Arrays and tables are in linear order, but for the raster side of O. Bits and
+  places count from 0.
 
     E N L BUDGET DESC GRAND MARKS OUT  REFUSAL PLACE PLANES BITS BYTES
       coefficients desc grand marks out

@@ -2,18 +2,13 @@ use Rattle.second.proofs.Floats.{is-number}
 use borrow.Author.Needs.{needs}
 use Rattle.second.proofs.cases.pattern_of.Statement.{statement}
 use Rattle.second.proofs.cases.pattern_of.Tie as tie
-use Rattle.second.proofs.cases.pattern_of.Reads as reads
-use Rattle.second.proofs.cases.pattern_of.Lts as lts
 
--- src/cases.rt:64:16
 float-to-bits-result : tie.Need-float-to-bits-result
 float-to-bits-result c = is-number (c .before .args .x) (c .if1 .taken)
 
--- src/cases.rt:64:9
 returns : tie.Need-returns
 returns c = search needs
 
--- src/cases.rt:62:1
 returns-2 : tie.Need-returns-2
 returns-2 c = search needs
 

@@ -4,69 +4,49 @@ use native.Mathlib.Omega.{arith}
 use borrow.Author.Needs.{needs}
 use Rattle.second.proofs.places_of.call.Statement.{statement}
 use Rattle.second.proofs.places_of.call.Tie as tie
-use Rattle.second.proofs.places_of.call.Reads as reads
-use Rattle.second.proofs.places_of.call.Lts as lts
-use Rattle.second.proofs.places_of.answers.Reads as answers-reads
-use Rattle.second.proofs.places_of.reorder.Reads as reorder-reads
-use Rattle.second.proofs.text.wide.Reads as wide-reads
 
--- src/places_of.rt:93:21
 element-copy-out-wide : tie.Need-element-copy-out-wide
 element-copy-out-wide c = search needs
 
--- src/places_of.rt:93:9
 wide-requires : tie.Need-wide-requires
 wide-requires c κs = search needs
 
--- src/places_of.rt:95:9
 returns : tie.Need-returns
 returns c = search needs
 
--- src/places_of.rt:98:9
 returns-2 : tie.Need-returns-2
 returns-2 c = search needs
 
--- src/places_of.rt:100:27
 element-copy-out-reorder : tie.Need-element-copy-out-reorder
 element-copy-out-reorder c = search needs
 
--- src/places_of.rt:100:33
 element-copy-out-reorder-2 : tie.Need-element-copy-out-reorder-2
 element-copy-out-reorder-2 c = search needs
 
--- src/places_of.rt:100:39
 slice-aggregate-reorder : tie.Need-slice-aggregate-reorder
 slice-aggregate-reorder c = sym (length-take-le _ (c .before .before .before .before .before .before .before .args .from .now) (omega arith))
 
--- src/places_of.rt:100:55
 slice-relend-prefix-reorder : tie.Need-slice-relend-prefix-reorder
 slice-relend-prefix-reorder c = search needs
 
--- src/places_of.rt:100:55
 slice-aggregate-reorder-2 : tie.Need-slice-aggregate-reorder-2
 slice-aggregate-reorder-2 c = sym (length-take-le _ (c .before .before .before .before .before .before .before .before .args .to .now) (omega arith))
 
--- src/places_of.rt:100:9
 reorder-requires : tie.Need-reorder-requires
 reorder-requires c κs = search needs
 
--- src/places_of.rt:101:22
 element-copy-out-answers : tie.Need-element-copy-out-answers
 element-copy-out-answers c = search needs
 
--- src/places_of.rt:101:28
 element-copy-out-answers-2 : tie.Need-element-copy-out-answers-2
 element-copy-out-answers-2 c = search needs
 
--- src/places_of.rt:101:5
 answers-requires : tie.Need-answers-requires
 answers-requires c κs = search needs
 
--- src/places_of.rt:92:1
 same-length : tie.Need-same-length
 same-length c = search needs
 
--- src/places_of.rt:92:1
 returns-3 : tie.Need-returns-3
 returns-3 c = search needs
 
