@@ -2,13 +2,65 @@
 
     python3 tests/second.py vectors DIR SEED
 
-DIR/encode.txt and DIR/decode.txt hold the cases, DIR/worst.txt the worst
-bodies, and DIR/txp some of the files as NUMBER-KIND.txp with what txpshow
-prints for them as NUMBER-KIND.out.
+DIR/stdin holds the cases, DIR/stdout what the program `second` prints where
+all of them agree, and DIR/txp some of the files as NUMBER-KIND.txp with what
+txpshow prints for them as NUMBER-KIND.out. The gate keeps the first two as
+crates/second/stdin and crates/second/stdout.
+
+The format of the cases:
+
+- One case a line. Each line ends with a newline. Fields have one space between
+  them, and none before or after. Numbers are decimal, without leading zeros; a
+  minus sign stands before a negative one.
+- A line that begins with # is a remark. It names the cases after it.
+- The first field of any other line is the kind, one letter. A fixed count of
+  numbers from 0 to 2^32-1 follows, then the kind's lists.
+- A list is its length, then its items. An item is a number, or NUMBER*COUNT
+  for COUNT equal numbers; COUNT is at least 2. The counts of the items add up
+  to the length. An empty list is 0 alone.
+- A list of bytes is its length and, if that is not 0, one field of two
+  hexadecimal digits a byte, in small letters.
+- Arrays and tables are in linear order, but for the raster side of O. Bits and
+  places count from 0.
+
+    E N L BUDGET DESC GRAND MARKS OUT  REFUSAL PLACE PLANES BITS BYTES
+      coefficients desc grand marks out
+        txp::encode. DESC to OUT are the lengths lent, OUT in bytes; BYTES is
+        the length of the file. coefficients is the input, a list from -2^31 to
+        2^31-1; out is a list of bytes.
+    D VALUES PRECISIONS MARKS  REFUSAL PLACE N L P DECLARED USED FINISHED ERROR
+      file values precisions marks
+        txp::decode. VALUES to MARKS are the lengths lent; FINISHED is the
+        number of planes finished, ERROR the worst error. file is the input, a
+        list of bytes.
+    W N L P  REFUSAL PLACE BITS
+        coder::worst_body.
+    P N AT  REFUSAL PLACE LINEAR RASTER
+        One place: LINEAR is the linear place of the raster place AT, RASTER
+        the raster place of the linear place AT.
+    O WAY N LENT  REFUSAL PLACE
+      from to
+        A whole array in the other order: places::reorder_to_linear if WAY is
+        0, places::reorder_to_raster if it is 1. LENT is the length of the
+        output.
+    F NEGATIVE SIZE  REFUSAL PLACE FLOAT
+        coef::float_of. NEGATIVE is 1 for a number below 0 and else 0, SIZE its
+        magnitude, FLOAT the bit pattern of the 32-bit float.
+
+REFUSAL is the number for no and PLACE the place reported, both 0 if there is
+none; all other figures of a refusal are 0. The lists desc, grand, marks, out,
+values, precisions, marks and to are what the first entries of a lent table
+hold after the call. All other entries hold what they held before: after a
+refusal the list is empty, but for 12 and 13, after which it is I zeros.
+
+The remarks 12a to 12d are the contradictions: all of plane P-1 is 0; four
+children of a split set without a GRAND are 0; a GRAND is 0 whose DESC was split
+and whose children are 0; the four sets of a split GRAND are 0.
 """
 
 import os
 import random
+import struct
 from itertools import groupby
 
 import second
@@ -16,104 +68,70 @@ from arrays import STYLES, random_array, random_bits
 from second import Decoder, Refused, encode, write_file
 from selftest import EZW, NO_BUDGET, SAMPLE, clash_kind
 
-LISTS = '''\
-# A case is a group of lines, each a name and its fields with one space between
-# them; an empty line ends it. A line that begins with # is a remark.
-# A list is a row of items: a number, or NUMBER*COUNT for COUNT equal numbers. A
-# list of no numbers is the name alone.
-# Bytes are hexadecimal digits without spaces; - stands for no bytes. Arrays
-# and tables are in linear order. Bits and places count from 0.
-'''
-
-ENCODE_FORMAT = '''\
-# Encode cases.
-#
-''' + LISTS + '''#
-# case NUMBER KIND
-# input N L BUDGET
-# coefficients LIST
-# lent DESC GRAND MARKS OUTPUT      lengths lent, the output's in bytes
-# result P BITS                     planes and bits written, or
-# refused NUMBER PLACE              and then the case ends
-# file BYTES                        the bytes written
-# desc LIST                         the I/4 summaries
-# grand LIST                        the I/16 summaries
-# marks LIST                        the marks as the scan left them
-
-'''
-
-DECODE_FORMAT = '''\
-# Decode cases.
-#
-''' + LISTS + '''#
-# case NUMBER KIND
-# file BYTES
-# lent VALUES PRECISIONS MARKS      lengths lent
-# result N L P DECLARED USED FINISHED ERROR, or
-# refused NUMBER PLACE              and then the case ends
-# values LIST
-# precisions LIST
-# marks LIST
-#
-# FINISHED is the number of planes finished, ERROR the worst error. The kinds
-# 12a to 12d are the contradictions: all of plane P-1 is 0; four children of a
-# split set without a GRAND are 0; a GRAND is 0 whose DESC was split and whose
-# children are 0; the four sets of a split GRAND are 0. Refusals 12 and 13 set
-# the first I entries of all three tables to 0, the others touch none.
-
-'''
-
-WORST_FORMAT = '''\
-# Worst bodies: N L P BITS on each line.
-
-'''
+# The kinds of case, and what the program's text calls them.
+KINDS = (('E', 'encode'), ('D', 'decode'), ('W', 'worst'), ('P', 'place'),
+         ('O', 'order'), ('F', 'float'))
 
 
-def items(numbers):
-    """A list as the vectors write it."""
-    runs = ((number, len(list(run))) for number, run in groupby(numbers))
-    return ' '.join(str(number) if count == 1 else '%d*%d' % (number, count)
-                    for number, count in runs)
+def listed(numbers):
+    """The fields of a list."""
+    fields = [str(len(numbers))]
+    for number, run in groupby(numbers):
+        count = len(list(run))
+        fields.append(str(number) if count == 1
+                      else '%d*%d' % (number, count))
+    return fields
 
 
-def row(name, *fields):
-    """One line."""
-    words = [name] + [str(field) for field in fields]
-    return ' '.join(words).rstrip() + '\n'
+def listed_bytes(data):
+    """The fields of a list of bytes."""
+    return [str(len(data)), data.hex()] if data else ['0']
 
 
-def encode_case(N, L, budget, A, lent=None):
-    """The lines of an encode case after its first."""
+def line(kind, numbers, *lists):
+    """One case."""
+    fields = [kind] + [str(number) for number in numbers]
+    for items in lists:
+        fields += (listed_bytes if isinstance(items, bytes) else listed)(items)
+    return ' '.join(fields) + '\n'
+
+
+def encode_line(N, L, budget, A, lent=None):
+    """The line of an encode case."""
     if lent is None:
         P = second.plane_count(A)
         lent = (4 ** N // 4, 4 ** N // 16, 4 ** N,
                 second.output_bytes(N, L, P, budget))
     answer = second.encode_file(N, L, A, budget, lent)
-    text = (row('input', N, L, budget) + row('coefficients', items(A))
-            + row('lent', *lent))
+    numbers = (N, L, budget) + lent
     if isinstance(answer, Refused):
-        return text + row('refused', *answer)
-    return (text + row('result', answer.P, len(answer.bits))
-            + row('file', answer.file.hex()) + row('desc', items(answer.desc))
-            + row('grand', items(answer.grand))
-            + row('marks', items(answer.marks)))
+        return line('E', numbers + answer + (0, 0, 0), A, [], [], [], b'')
+    return line('E', numbers + (0, 0, answer.P, len(answer.bits),
+                                len(answer.file)),
+                A, answer.desc, answer.grand, answer.marks, answer.file)
 
 
-def decode_case(data, lent=None):
-    """The lines of a decode case after its first."""
+def lent_for(data):
+    """The length of the tables lent for a file, if the case names none: I, and
+    16 where the file has no N that says so."""
+    if len(data) >= second.HEADER_BYTES and 2 <= data[5] <= 8:
+        return 4 ** data[5]
+    return 16
+
+
+def decode_line(data, lent=None):
+    """The line of a decode case."""
     if lent is None:
-        header = second.read_file(data)
-        lent = (0 if isinstance(header, Refused) else 4 ** header.N,) * 3
+        lent = (lent_for(data),) * 3
     answer = second.decode_file(data, lent)
-    text = row('file', data.hex() or '-') + row('lent', *lent)
     if isinstance(answer, Refused):
-        return text + row('refused', *answer)
+        cleared = [0] * 4 ** data[5] if answer.number in (12, 13) else []
+        return line('D', lent + answer + (0,) * 7, data,
+                    cleared, cleared, cleared)
     (N, L, P, declared, _), decoded = answer
-    return (text + row('result', N, L, P, declared, decoded.used,
-                       decoded.finished, decoded.error)
-            + row('values', items(decoded.values))
-            + row('precisions', items(decoded.precisions))
-            + row('marks', items(decoded.marks)))
+    return line('D', lent + (0, 0, N, L, P, declared, decoded.used,
+                             decoded.finished, decoded.error),
+                data, decoded.values, decoded.precisions, decoded.marks)
 
 
 def shapes(largest):
@@ -150,7 +168,7 @@ def encode_cases(seed):
             yield 'ezw', 3, L, budget, ezw, None
     for N, L in shapes(6):
         for P in range(25):
-            for n in range({2: 6, 3: 5, 4: 2, 5: 1}.get(N, 1 - (L + P) % 2)):
+            for n in range({2: 6, 3: 5, 4: 2}.get(N, 1)):
                 A = one_array(rng, N, P)
                 length = len(encode(N, L, A, NO_BUDGET)[1])
                 if n + P % 2 == 0:
@@ -371,6 +389,105 @@ def show_cases():
         yield 'large', b'TXP\0\2' + bytes((N, 1, 0)) + bytes(4)
 
 
+def worst_cases():
+    """(kind, line) of each worst body."""
+    for N, L in shapes(8):
+        for P in range(25):
+            bits = second.worst_body(N, L, P)
+            yield 'taken', line('W', (N, L, P, 0, 0, bits))
+    # "1 to 6 in that order", and 9 for P as in decoding: 1, 2, 9
+    for N, L, P in ((0, 1, 1), (1, 0, 25), (9, 1, 3), (2 ** 32 - 1, 1, 1),
+                    (2, 0, 25), (2, 2, 3), (8, 8, 99), (3, 2 ** 32 - 1, 0),
+                    (2, 1, 25), (8, 7, 25), (5, 2, 2 ** 32 - 1)):
+        refused = second.check_sizes(N, L) or Refused(9, 0)
+        yield 'refused', line('W', (N, L, P) + refused + (0,))
+
+
+def place_cases(seed):
+    """(kind, line) of each single place."""
+    rng = random.Random('%d place' % seed)
+    for N in range(2, 9):
+        I = 4 ** N
+        raster = second.to_raster(N, range(I))
+        linear = second.to_linear(N, range(I))
+        # raster[p] is the linear place of p, linear[q] the raster place of q
+        chosen = range(I) if N == 2 else sorted(
+            {0, 1, 2 ** N - 1, 2 ** N, I // 2, I - 2 ** N, I - 1}
+            | {rng.randrange(I) for _ in range(20)})
+        for at in chosen:
+            yield 'N %d' % N, line('P', (N, at, 0, 0, raster[at], linear[at]))
+        for at in (I, I + 1, 2 ** 31, 2 ** 32 - 1):
+            yield 'refused3', line('P', (N, at, 3, 0, 0, 0))
+    for N in (0, 1, 9, 255, 2 ** 32 - 1):
+        for at in (0, 2 ** 32 - 1):
+            yield 'refused1', line('P', (N, at, 1, 0, 0, 0))
+
+
+def order_cases(seed):
+    """(kind, line) of each whole array in the other order."""
+    rng = random.Random('%d order' % seed)
+    orders = (second.to_linear, second.to_raster)
+    for N in range(2, 9):
+        I = 4 ** N
+        arrays = [list(range(I))] if N <= 6 else []
+        arrays += [random_array(rng, N, rng.randint(1, 24), 'sparse')
+                   if N < 7 else random_array(rng, N, 24, 'single')
+                   for _ in range(3)]
+        for A in arrays:
+            for way, order in enumerate(orders):
+                lent = I + rng.choice((0, 0, 1, 7))
+                yield 'N %d' % N, line('O', (way, N, lent, 0, 0), A,
+                                       order(N, A))
+    limits = [-2 ** 31, 2 ** 31 - 1, 16_777_216, 0] * 4
+    for way, order in enumerate(orders):
+        yield 'limits', line('O', (way, 2, 16, 0, 0), limits, order(2, limits))
+        for N, count, lent, number in (
+                (1, 4, 4, 1), (9, 16, 16, 1), (2 ** 32 - 1, 16, 0, 1),
+                (2, 15, 15, 3), (2, 17, 17, 3), (3, 16, 0, 3), (2, 0, 16, 3),
+                (2, 16, 15, 5), (3, 64, 63, 5), (4, 256, 0, 5)):
+            yield 'refused', line('O', (way, N, lent, number, 0),
+                                  list(range(count)), [])
+
+
+def float_cases(seed):
+    """(kind, line) of each coefficient handed out as a float."""
+    rng = random.Random('%d float' % seed)
+    limit = second.COEFFICIENT_LIMIT
+    taken = {1 << k for k in range(24)} | {(1 << k) - 1 for k in range(25)}
+    taken |= {limit - 1, limit - 2} | {rng.randint(0, limit)
+                                       for _ in range(50)}
+    for size in sorted(taken):
+        for value in sorted({size, -size}):
+            pattern, = struct.unpack('>I', struct.pack('>f', value))
+            yield 'taken', line('F', (int(value < 0), size, 0, 0, pattern))
+    for size in (limit + 1, limit + 2, 2 ** 25, 2 ** 31 - 1, 2 ** 31):
+        for negative in (0, 1):
+            if size < 2 ** 31 or negative:
+                yield 'refused4', line('F', (negative, size, 4, 0, 0))
+
+
+def remarked(cases):
+    """The lines of (kind, line) cases, each group of one kind after a remark,
+    and the number of remarks."""
+    lines, remarks, last = [], 0, None
+    for kind, text in cases:
+        if kind != last:
+            lines.append('# %s %s\n' % (text[0], kind))
+            remarks += 1
+            last = kind
+        lines.append(text)
+    return lines, remarks
+
+
+def expected(lines, remarks):
+    """What the program prints if every case agrees."""
+    text = ''
+    for letter, name in KINDS:
+        count = sum(one[0] == letter for one in lines)
+        text += '%s %d agree %d\n' % (name, count, count)
+    return text + 'remarks %d\nmalformed 0\n' % remarks
+
+
 def write(directory, seed):
     """Write all vectors."""
     files = os.path.join(directory, 'txp')
@@ -387,25 +504,19 @@ def write(directory, seed):
         with open(name + '.out', 'w') as file:
             file.write(second.show(data))
 
-    text = [ENCODE_FORMAT]
-    for number, (kind, *case) in enumerate(encode_cases(seed)):
-        text.append(row('case', number, kind) + encode_case(*case) + '\n')
-    write_text('encode.txt', ''.join(text))
-    encodes = len(text) - 1
-
-    text = [DECODE_FORMAT]
-    for number, (kind, data, lent) in enumerate(decode_cases(seed)):
-        text.append(row('case', number, kind) + decode_case(data, lent) + '\n')
+    cases = [(kind, encode_line(*case)) for kind, *case in encode_cases(seed)]
+    decodes = list(decode_cases(seed))
+    for number, (kind, data, lent) in enumerate(decodes):
+        cases.append((kind, decode_line(data, lent)))
         if lent is None and number % (5 if len(data) < 250 else 40) == 0:
             write_show(number, kind, data)
-    write_text('decode.txt', ''.join(text))
-    decodes = len(text) - 1
-
-    for number, (kind, data) in enumerate(show_cases(), decodes):
+    for number, (kind, data) in enumerate(show_cases(), len(decodes)):
         write_show(number, kind, data)
-
-    write_text('worst.txt', WORST_FORMAT + ''.join(
-        '%d %d %d %d\n' % (N, L, P, second.worst_body(N, L, P))
-        for N, L in shapes(8) for P in range(25)))
-    print('%d encode cases, %d decode cases, %d files'
-          % (encodes, decodes, len(os.listdir(files)) // 2))
+    for more in (worst_cases(), place_cases(seed), order_cases(seed),
+                 float_cases(seed)):
+        cases += more
+    lines, remarks = remarked(cases)
+    write_text('stdin', ''.join(lines))
+    write_text('stdout', expected(lines, remarks))
+    print(expected(lines, remarks), end='')
+    print('files %d' % (len(os.listdir(files)) // 2))

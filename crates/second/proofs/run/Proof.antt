@@ -1,0 +1,67 @@
+use Prim.Native.Nat.{_+_, _-_, _≤_}
+use mathlib.Core.Path.{_≡_}
+use lib.ListN.{length}
+use borrow.Author.Needs.{needs}
+use Rattle.second.proofs.run.Statement.{statement}
+use Rattle.second.proofs.run.Tie as tie
+
+abbrev Inv-loop : tie.InvT-loop
+Inv-loop text counts₀ at₀ number₀ counts at number = (at ≤ length text + 1) × (number ≤ at) × (length counts ≡ length counts₀)
+
+abbrev μ-loop : tie.MeasureT-loop
+μ-loop text counts₀ at₀ number₀ counts at number = (length text + 1) - at
+
+loop-holds : tie.Need-loop-holds Inv-loop μ-loop
+loop-holds c = search needs
+
+line-end-requires : tie.Need-line-end-requires Inv-loop μ-loop
+line-end-requires c κs = search needs
+
+add-number : tie.Need-add-number Inv-loop μ-loop
+add-number c = search needs
+
+sub-one : tie.Need-sub-one Inv-loop μ-loop
+sub-one c = search needs
+
+part-one-start : tie.Need-part-one-start Inv-loop μ-loop
+part-one-start c = search needs
+
+part-one-end : tie.Need-part-one-end Inv-loop μ-loop
+part-one-end c = search needs
+
+one-requires : tie.Need-one-requires Inv-loop μ-loop
+one-requires c κs = search needs
+
+add-at : tie.Need-add-at Inv-loop μ-loop
+add-at c = search needs
+
+loop-less : tie.Need-loop-less Inv-loop μ-loop
+loop-less c = search needs
+
+loop-again : tie.Need-loop-again Inv-loop μ-loop
+loop-again c = search needs
+
+same-length : tie.Need-same-length Inv-loop μ-loop
+same-length c = search needs
+
+returns : tie.Need-returns Inv-loop μ-loop
+returns c = search needs
+
+pub run-spec : {M : Type 1} → statement M
+run-spec =
+    tie.close
+    (tie.spec
+    Inv-loop
+    μ-loop
+    loop-holds
+    line-end-requires
+    add-number
+    sub-one
+    part-one-start
+    part-one-end
+    one-requires
+    add-at
+    loop-less
+    loop-again
+    same-length
+    returns)
