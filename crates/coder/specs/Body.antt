@@ -1,4 +1,4 @@
--- The calls on a body: what they answer, and what is lent to them holds afterwards (document 01, "Numbers for no").
+-- The calls on a body: what they answer, and what the tables lent to them hold afterwards (document 01, "Numbers for no"). What they check is in crate `room`.
 use Prim.Native.Nat.{ℕ, _+_}
 use mathlib.Core.Path.{_≡_}
 use mathlib.Core.Bool.{Bool}
