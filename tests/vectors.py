@@ -34,7 +34,7 @@ The format of the cases:
         number of planes finished, ERROR the worst error. file is the input, a
         list of bytes.
     W N L P  REFUSAL PLACE BITS
-        coder::worst_body.
+        room::worst_body.
     P N AT  REFUSAL PLACE LINEAR RASTER
         One place: LINEAR is the linear place of the raster place AT, RASTER
         the raster place of the linear place AT.

@@ -25,15 +25,16 @@ use Rattle.nls.specs.Reading.{midpoint, valueBy, highBits, precisionAt, valuesB
 use Rattle.nls.specs.Judging.{Begins, Fits, Contradicts, IsBeyond, Verdict, taken, contradiction, beyond, Judged}
 use Rattle.nls.proofs.Demands as demands
 use Rattle.nls.proofs.Verdicts.{judged-only}
-use Rattle.coder.specs.Body.{encodeChecks, sentBits, encodeAnswer, encodeEnd, sentMarks, outputAfter, decodeChecks, usableBits, decodeAnswer, Tables, tables, ownTables, over, Decoded, DecodesTo}
-use Rattle.coder.specs.Calls.{EncodeReady}
+use Rattle.room.specs.Room.{encodeChecks, decodeChecks, usableBits}
+use Rattle.room.specs.Ready.{EncodeReady}
+use Rattle.room.proofs.Laws.{encode-ready, decode-well}
+use Rattle.coder.specs.Body.{sentBits, encodeAnswer, encodeEnd, sentMarks, outputAfter, decodeAnswer, Tables, tables, ownTables, over, Decoded, DecodesTo}
 use Rattle.coder.specs.declared.body.Written.{Written}
 use Rattle.coder.specs.declared.body.EncodeAnswer.{EncodeAnswer}
 use Rattle.coder.specs.declared.body.EncodeAnswer.the-variants as encode
 use Rattle.coder.specs.declared.body.ReadTo.{ReadTo}
 use Rattle.coder.specs.declared.body.DecodeAnswer.{DecodeAnswer}
 use Rattle.coder.specs.declared.body.DecodeAnswer.the-variants as decode
-use Rattle.coder.proofs.CheckLaws.{encode-ready, decode-well}
 use Rattle.coder.proofs.EncodeLaws.{planes-so}
 
 -- ---- a call of `decode` whose checks hold

@@ -8,20 +8,17 @@ use lib.ListN.{length}
 use Rattle.refusals.specs.Checks.{firstOf}
 use Rattle.refusals.specs.declared.Outcome.{Outcome}
 use Rattle.refusals.specs.declared.Outcome.the-variants as outcome
-use Rattle.refusals.proofs.Decided.{OneAnswer, OneOutcome}
+use Rattle.refusals.proofs.Decided.{OneOutcome}
 use Rattle.sizes.specs.Sizes.{Sized, allOf}
 use Rattle.sizes.proofs.Laws.{sized}
 use Rattle.nls.specs.Judging.{Verdict}
 use Rattle.nls.proofs.Verdicts.{judged-only}
-use Rattle.coder.specs.Body.{decodeChecks, usableBits, decodeAnswer, Tables, tables, ownTables, over, Decoded, DecodesTo}
+use Rattle.room.specs.Room.{decodeChecks, usableBits}
+use Rattle.room.proofs.Laws.{decode-ready}
+use Rattle.coder.specs.Body.{decodeAnswer, Tables, tables, ownTables, over, Decoded, DecodesTo}
 use Rattle.coder.specs.declared.body.DecodeAnswer.{DecodeAnswer}
-use Rattle.coder.proofs.CheckLaws.{decode-ready}
-use Rattle.coder.proofs.body.worst_body.Reads as worst-body
 use Rattle.coder.proofs.body.encode.Reads as encode
 use Rattle.coder.proofs.body.decode.Reads as decode
-
-pub worst-body-decided : OneAnswer worst-body.Learnt
-worst-body-decided k args r r' s s' p q = p ∙ sym q
 
 -- the fourth to the seventh parameter are DESC, GRAND, the marks and the output
 pub encode-decided : OneOutcome {Lent = List ℕ × List ℕ × List ℕ × List ℕ} encode.Learnt

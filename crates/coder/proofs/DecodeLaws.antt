@@ -23,10 +23,11 @@ use Rattle.nls.specs.Judging.{Verdict, taken, contradiction, beyond, Judged}
 use Rattle.nls.proofs.Known.{left-most}
 use Rattle.nls.proofs.Values.{midpoint-between, value-range}
 use Rattle.nls.proofs.Verdicts.{verdict, verdict-judged}
+use Rattle.room.specs.Room.{usableBits}
 use Rattle.coder.specs.Scans.{Ran, last, isBad, planes, leftOf}
 use Rattle.coder.specs.Visits.{Sv, scanOf}
 use Rattle.coder.specs.Reading.{Read, plainOf, reader, st, Holds}
-use Rattle.coder.specs.Body.{usableBits, Tables, tables, zeros, ownTables, over, Decoded}
+use Rattle.coder.specs.Body.{Tables, tables, zeros, ownTables, over, Decoded}
 use Rattle.coder.specs.Calls.{ReadReady}
 use Rattle.coder.specs.declared.body.DecodeAnswer.{DecodeAnswer}
 use Rattle.coder.specs.declared.body.DecodeAnswer.the-variants.{Done, Refused}

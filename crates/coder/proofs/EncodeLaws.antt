@@ -20,11 +20,11 @@ use Rattle.tree.specs.Summaries.{descOr, grandOr, descTable, grandTable, summar
 use Rattle.tree.proofs.Checks.{all-well}
 use Rattle.nls.specs.Marks.{startMarks}
 use Rattle.nls.specs.Stream.{stream, worstBody}
+use Rattle.room.specs.Ready.{EncodeReady}
 use Rattle.coder.specs.Scans.{Ran, last, planes}
 use Rattle.coder.specs.Visits.{Sv, scanOf}
 use Rattle.coder.specs.Writing.{Bytes, writer, st, Tables, Holds}
 use Rattle.coder.specs.Body.{sentBits, sentMarks}
-use Rattle.coder.specs.Calls.{EncodeReady}
 use Rattle.coder.proofs.Sent.{Says, sends}
 
 -- a table that begins with another's entries

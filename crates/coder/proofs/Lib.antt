@@ -12,7 +12,6 @@ pub mod ValueLaws
 pub mod ReadTurns
 pub mod Coded
 pub mod Received
-pub mod CheckLaws
 pub mod FinishLaws
 pub mod EncodeLaws
 pub mod DecodeLaws

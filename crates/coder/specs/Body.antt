@@ -1,48 +1,24 @@
--- The calls on a body: what they check, what they answer, and what is lent to them holds afterwards (document 01, "Numbers for no").
-use Prim.Native.Nat.{ℕ, _+_, _*_, _/_, min}
+-- The calls on a body: what they answer, and what the tables lent to them hold afterwards (document 01, "Numbers for no"). What they check is in crate `room`.
+use Prim.Native.Nat.{ℕ, _+_}
 use mathlib.Core.Path.{_≡_}
-use mathlib.Core.Bool.{Bool, _&&_}
-use mathlib.Core.List.{List, [], _∷_, _++_}
-use lib.Dec.{leb}
+use mathlib.Core.Bool.{Bool}
+use mathlib.Core.List.{List, _++_}
 use lib.IntN.{ℤ, pos}
 use lib.ListN.{length, take, drop, replicate}
-use Rattle.refusals.specs.Checks.{Check, need}
-use Rattle.refusals.specs.declared.Refusal.the-variants.{Side, Levels, Lent, Output, Planes, Contradiction, Beyond}
+use Rattle.refusals.specs.declared.Refusal.the-variants.{Contradiction, Beyond}
 use Rattle.refusals.specs.declared.Outcome.{Outcome}
 use Rattle.refusals.specs.declared.Outcome.the-variants as outcome
-use Rattle.sizes.specs.Sizes.{allOf, sideFits, levelsFit, mostPlanes}
-use Rattle.bits.specs.Bits.{bitsOf, bytesFor}
+use Rattle.sizes.specs.Sizes.{allOf}
 use Rattle.coef.specs.Coef.{planesOf}
-use Rattle.tree.specs.Summaries.{summaryChecks}
-use Rattle.nls.specs.Stream.{stream, after, worstBody}
+use Rattle.nls.specs.Stream.{stream, after}
 use Rattle.nls.specs.Reading.{midpoint, valuesBy, precisions, planesFinished, worstError}
 use Rattle.nls.specs.Judging.{Verdict, taken, contradiction, beyond, Judged}
-use Rattle.coder.specs.declared.body.WorstAnswer.{WorstAnswer}
-use Rattle.coder.specs.declared.body.WorstAnswer.the-variants as worst
 use Rattle.coder.specs.declared.body.EncodeAnswer.{EncodeAnswer}
 use Rattle.coder.specs.declared.body.EncodeAnswer.the-variants as encode
 use Rattle.coder.specs.declared.body.DecodeAnswer.{DecodeAnswer}
 use Rattle.coder.specs.declared.body.DecodeAnswer.the-variants as decode
 
--- ---- the worst body
-
-abbrev pub worstChecks : ℕ → ℕ → ℕ → List Check
-worstChecks N L P = need (sideFits N) Side ∷ need (levelsFit N L) Levels ∷ need (leb P mostPlanes) Planes ∷ []
-
-abbrev pub worstAnswer : ℕ → ℕ → ℕ → Outcome → WorstAnswer
-worstAnswer N L P outcome.Done = worst.Bits (worstBody N L P)
-worstAnswer N L P (outcome.Refused why) = worst.Refused why
-
 -- ---- encoding
-
--- "Encoding checks 1 to 6 in that order.": those of the summaries, then the marks and the output.
--- `descs`, `grands`, `marks` and `out` are the lengths of what is lent; the body begins at `offset`.
-abbrev pub roomChecks : ℕ → ℕ → List ℤ → ℕ → ℕ → ℕ → ℕ → List Check
-roomChecks N L A marks out offset budget =
-    need (leb (allOf N) marks) Lent ∷ need (leb (offset + bytesFor (min budget (worstBody N L (planesOf A)))) out) Output ∷ []
-
-abbrev pub encodeChecks : ℕ → ℕ → List ℤ → ℕ → ℕ → ℕ → ℕ → ℕ → ℕ → List Check
-encodeChecks N L A descs grands marks out offset budget = summaryChecks N L A descs grands ++ roomChecks N L A marks out offset budget
 
 -- "The number of bits written is the smaller of the budget and the whole stream's length": the first of the stream
 abbrev pub sentBits : ℕ → ℕ → List ℤ → ℕ → List Bool
@@ -66,15 +42,6 @@ outputAfter outcome.Done offset own held = take offset held ++ (own ++ drop (off
 outputAfter (outcome.Refused why) offset own held = held
 
 -- ---- decoding
-
--- of decoding's checks those of a body: 1, 2, 9, 5, by the lengths of what is lent
-abbrev pub decodeChecks : ℕ → ℕ → ℕ → ℕ → ℕ → ℕ → List Check
-decodeChecks N L P values precisions marks =
-    worstChecks N L P ++ (need (leb (allOf N) values && (leb (allOf N) precisions && leb (allOf N) marks)) Lent ∷ [])
-
--- "usable bits are the smaller of declared and 8 times the bytes present"
-abbrev pub usableBits : ℕ → List ℕ → List Bool
-usableBits usable body = bitsOf (min usable (8 * length body)) body
 
 -- "The answer also gives bits used (all usable bits ..), planes finished and the worst error 2^k - 1"
 abbrev pub decodeAnswer : ℕ → ℕ → ℕ → List Bool → Verdict → DecodeAnswer

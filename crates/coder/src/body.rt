@@ -11,14 +11,10 @@ ghost use Rattle.sizes.specs.Sizes.{allOf};
 ghost use Rattle.bits.specs.Bits.{bitsOf, bytesFor, packed};
 ghost use Rattle.coef.specs.Coef.{planesOf};
 ghost use Rattle.tree.specs.Summaries.{descTable, grandTable};
-ghost use Rattle.coder.specs.Body.{worstChecks, worstAnswer, encodeChecks, encodeAnswer, encodeEnd, sentBits, sentMarks, outputAfter, decodeChecks, usableBits, tables, Decoded, DecodesTo};
-ghost use Rattle.coder.specs.Calls.{EncodeReady, ReadReady};
-
-// What `worst_body` answers.
-pub enum WorstAnswer {
-    Bits(u32),
-    Refused(Refusal),
-}
+ghost use Rattle.room.specs.Room.{encodeChecks, decodeChecks, usableBits};
+ghost use Rattle.room.specs.Ready.{EncodeReady};
+ghost use Rattle.coder.specs.Body.{encodeAnswer, encodeEnd, sentBits, sentMarks, outputAfter, tables, Decoded, DecodesTo};
+ghost use Rattle.coder.specs.Calls.{ReadReady};
 
 // The planes of the array, and the bits written.
 pub struct Written {
@@ -45,16 +41,6 @@ pub enum DecodeAnswer {
     Refused(Refusal),
 }
 
-// The most bits that a body of this N, L and P can have.
-pub fn worst_body(n: u32, l: u32, p: u32) -> WorstAnswer
-    ensures { λ r. ⌜ r ≡ worstAnswer n l p (firstOf (worstChecks n l p)) ⌝ }
-{
-    match crate::checks::check_worst(n, l, p) {
-        Outcome::Done => WorstAnswer::Bits(crate::checks::worst_of(n, l, p)),
-        Outcome::Refused(why) => WorstAnswer::Refused(why),
-    }
-}
-
 // Writes the body of an array whose checks hold: fills the summaries and the I marks, and puts the bits from the first byte on.
 fn write(
     n: u32,
@@ -77,7 +63,7 @@ fn write(
     let all = sizes::all_of(n);
     crate::marks::start(marks, all, sizes::coarsest_of(n, l));
     let planes = coef::planes(coefs);
-    let most = crate::checks::smaller(budget, crate::checks::worst_of(n, l, planes));
+    let most = room::most_bits(n, l, planes, budget);
     let bits = crate::writing::scan(
         coefs,
         &desc[..],
@@ -88,9 +74,10 @@ fn write(
         most as usize,
         planes,
     );
+    let count = bits as u32;
     Written {
         planes,
-        bits: bits as u32,
+        bits: count,
     }
 }
 
@@ -113,7 +100,7 @@ pub fn encode(
     ensures marked { λ r. ⌜ now (marks .exit) ≡ lentAfter (encodeEnd r) (sentMarks n l (now (coefs .entry)) budget) (now (marks .entry)) ⌝ }
     ensures written { λ r. ⌜ now (out .exit) ≡ outputAfter (encodeEnd r) offset (packed (sentBits n l (now (coefs .entry)) budget)) (now (out .entry)) ⌝ }
 {
-    match crate::checks::check_encode(
+    match room::check_encode(
         n,
         l,
         coefs,
@@ -213,10 +200,10 @@ pub fn decode(
 ) -> DecodeAnswer
     ensures { λ r. ⌜ DecodesTo (firstOf (decodeChecks n l p (length (now (values .entry))) (length (now (precisions .entry))) (length (now (marks .entry))))) n l p (usableBits usable (now (body .entry))) (tables (now (values .entry)) (now (precisions .entry)) (now (marks .entry))) r (tables (now (values .exit)) (now (precisions .exit)) (now (marks .exit))) ⌝ }
 {
-    match crate::checks::check_decode(n, l, p, values.len(), precisions.len(), marks.len()) {
+    match room::check_decode(n, l, p, values.len(), precisions.len(), marks.len()) {
         Outcome::Done => {
             let all = sizes::all_of(n);
-            let most = crate::checks::usable_of(usable, body.len());
+            let most = room::usable_of(usable, body.len());
             read(
                 n,
                 l,

@@ -44,7 +44,7 @@ pub(crate) fn finish(values: &mut [i32], precisions: &mut [u8], left: u32)
     ensures { λ _. ⌜ now (precisions .exit) ≡ table (length (now (precisions .entry))) (λ i. min (getD (now (precisions .entry)) i 0) left) ⌝ }
 {
     for i in 0..values.len() {
-        let k = crate::checks::smaller(precisions[i] as u32, left);
+        let k = sizes::smaller(precisions[i] as u32, left);
         let code = values[i];
         let v = value_at(code as u32, k);
         values[i] = v;

@@ -1,6 +1,5 @@
 // The coders of a body.
 mod body;
-mod checks;
 mod finish;
 mod marks;
 mod reading;
@@ -9,11 +8,9 @@ mod writing;
 pub use body::DecodeAnswer;
 pub use body::EncodeAnswer;
 pub use body::ReadTo;
-pub use body::WorstAnswer;
 pub use body::Written;
 pub use body::decode;
 pub use body::encode;
-pub use body::worst_body;
 
 // What a visit of the encoder leaves to do: nothing, for want of a bit, or to go on. In both the number of bits put, then the place: where it stopped, or where to go on.
 pub enum Step {

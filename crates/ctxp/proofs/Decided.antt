@@ -15,7 +15,8 @@ use Rattle.refusals.proofs.Decided.{OneOutcome}
 use Rattle.sizes.specs.Sizes.{Sized}
 use Rattle.nls.specs.Judging.{Verdict}
 use Rattle.nls.proofs.Verdicts.{judged-only}
-use Rattle.coder.specs.Body.{Tables, tables, usableBits}
+use Rattle.room.specs.Room.{usableBits}
+use Rattle.coder.specs.Body.{Tables, tables}
 use Rattle.coder.proofs.Decided.{decodes-one}
 use Rattle.txp.specs.declared.Header.{Header}
 use Rattle.txp.specs.declared.DecodeAnswer.{DecodeAnswer}

@@ -23,8 +23,8 @@ use Rattle.coef.specs.declared.Float.{Float}
 use Rattle.coef.specs.declared.Float.the-variants as floats
 use Rattle.figures.specs.declared.FiguresAnswer.{FiguresAnswer}
 use Rattle.figures.specs.declared.FiguresAnswer.the-variants as figures
-use Rattle.coder.specs.declared.body.WorstAnswer.{WorstAnswer}
-use Rattle.coder.specs.declared.body.WorstAnswer.the-variants as worsts
+use Rattle.room.specs.declared.WorstAnswer.{WorstAnswer}
+use Rattle.room.specs.declared.WorstAnswer.the-variants as worsts
 use Rattle.coder.specs.declared.body.EncodeAnswer as body
 use Rattle.coder.specs.declared.body.EncodeAnswer.the-variants as writtens
 use Rattle.coder.specs.declared.body.DecodeAnswer as cut

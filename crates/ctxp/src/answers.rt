@@ -145,16 +145,16 @@ pub(crate) fn of_decoded(d: txp::DecodeAnswer) -> Answer
     }
 }
 
-pub(crate) fn of_worst(w: coder::WorstAnswer) -> Answer
+pub(crate) fn of_worst(w: room::WorstAnswer) -> Answer
     ensures { λ r. ⌜ r ≡ worst w ⌝ }
 {
     match w {
-        coder::WorstAnswer::Bits(bits) => {
+        room::WorstAnswer::Bits(bits) => {
             let mut a = nothing();
             a.bits = bits;
             a
         }
-        coder::WorstAnswer::Refused(why) => refused(why),
+        room::WorstAnswer::Refused(why) => refused(why),
     }
 }
 

@@ -15,6 +15,7 @@ ghost use Rattle.places.specs.Answers.{placeChecks, reorderChecks, rasterIf, li
 ghost use Rattle.coef.specs.Coef as coefficient;
 ghost use Rattle.tree.specs.Summaries.{summaryChecks, descTable, grandTable};
 ghost use Rattle.figures.specs.Figures.{figuresOf, figuresChecks, answered};
+ghost use Rattle.room.specs.Room as room;
 ghost use Rattle.coder.specs.Body as body;
 ghost use Rattle.coder.specs.Body.{sentBits, sentMarks, tables};
 ghost use Rattle.txp.specs.File.{fileOf};
@@ -67,9 +68,9 @@ pub extern "C" fn txp_decode(
 // The most bits that a body of this N, L and P can have.
 #[no_mangle]
 pub extern "C" fn txp_worst_body(n: u32, l: u32, p: u32, answer: &mut [u32; 15]) -> u32
-    ensures { λ r. ⌜ Answers r (now (answer .exit)) (worst (body.worstAnswer n l p (firstOf (body.worstChecks n l p)))) ⌝ }
+    ensures { λ r. ⌜ Answers r (now (answer .exit)) (worst (room.worstAnswer n l p (firstOf (room.worstChecks n l p)))) ⌝ }
 {
-    let done = coder::worst_body(n, l, p);
+    let done = room::worst_body(n, l, p);
     put(answer, answers::of_worst(done))
 }
 
@@ -87,11 +88,11 @@ pub extern "C" fn txp_encode_body(
     budget: u32,
     answer: &mut [u32; 15],
 ) -> u32
-    ensures answer { λ r. ⌜ Answers r (now (answer .exit)) (written (body.encodeAnswer n l (now (coefs .entry)) budget (firstOf (body.encodeChecks n l (now (coefs .entry)) (length (now (desc .entry))) (length (now (grand .entry))) (length (now (marks .entry))) (length (now (out .entry))) offset budget)))) ⌝ }
-    ensures descs { λ r. ⌜ now (desc .exit) ≡ lentAfter (firstOf (body.encodeChecks n l (now (coefs .entry)) (length (now (desc .entry))) (length (now (grand .entry))) (length (now (marks .entry))) (length (now (out .entry))) offset budget)) (descTable n l (now (coefs .entry))) (now (desc .entry)) ⌝ }
-    ensures grands { λ r. ⌜ now (grand .exit) ≡ lentAfter (firstOf (body.encodeChecks n l (now (coefs .entry)) (length (now (desc .entry))) (length (now (grand .entry))) (length (now (marks .entry))) (length (now (out .entry))) offset budget)) (grandTable n l (now (coefs .entry))) (now (grand .entry)) ⌝ }
-    ensures marked { λ r. ⌜ now (marks .exit) ≡ lentAfter (firstOf (body.encodeChecks n l (now (coefs .entry)) (length (now (desc .entry))) (length (now (grand .entry))) (length (now (marks .entry))) (length (now (out .entry))) offset budget)) (sentMarks n l (now (coefs .entry)) budget) (now (marks .entry)) ⌝ }
-    ensures written { λ r. ⌜ now (out .exit) ≡ body.outputAfter (firstOf (body.encodeChecks n l (now (coefs .entry)) (length (now (desc .entry))) (length (now (grand .entry))) (length (now (marks .entry))) (length (now (out .entry))) offset budget)) offset (packed (sentBits n l (now (coefs .entry)) budget)) (now (out .entry)) ⌝ }
+    ensures answer { λ r. ⌜ Answers r (now (answer .exit)) (written (body.encodeAnswer n l (now (coefs .entry)) budget (firstOf (room.encodeChecks n l (now (coefs .entry)) (length (now (desc .entry))) (length (now (grand .entry))) (length (now (marks .entry))) (length (now (out .entry))) offset budget)))) ⌝ }
+    ensures descs { λ r. ⌜ now (desc .exit) ≡ lentAfter (firstOf (room.encodeChecks n l (now (coefs .entry)) (length (now (desc .entry))) (length (now (grand .entry))) (length (now (marks .entry))) (length (now (out .entry))) offset budget)) (descTable n l (now (coefs .entry))) (now (desc .entry)) ⌝ }
+    ensures grands { λ r. ⌜ now (grand .exit) ≡ lentAfter (firstOf (room.encodeChecks n l (now (coefs .entry)) (length (now (desc .entry))) (length (now (grand .entry))) (length (now (marks .entry))) (length (now (out .entry))) offset budget)) (grandTable n l (now (coefs .entry))) (now (grand .entry)) ⌝ }
+    ensures marked { λ r. ⌜ now (marks .exit) ≡ lentAfter (firstOf (room.encodeChecks n l (now (coefs .entry)) (length (now (desc .entry))) (length (now (grand .entry))) (length (now (marks .entry))) (length (now (out .entry))) offset budget)) (sentMarks n l (now (coefs .entry)) budget) (now (marks .entry)) ⌝ }
+    ensures written { λ r. ⌜ now (out .exit) ≡ body.outputAfter (firstOf (room.encodeChecks n l (now (coefs .entry)) (length (now (desc .entry))) (length (now (grand .entry))) (length (now (marks .entry))) (length (now (out .entry))) offset budget)) offset (packed (sentBits n l (now (coefs .entry)) budget)) (now (out .entry)) ⌝ }
 {
     let done = coder::encode(n, l, coefs, desc, grand, marks, out, offset, budget);
     put(answer, answers::of_written(done))

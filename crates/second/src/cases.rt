@@ -1,7 +1,7 @@
 // The cases of each kind: a line is read, the call is made on tables that hold a known pattern, and the answer and every entry are compared.
-use coder::WorstAnswer;
 use coef::Float;
 use refusals::Refusal;
+use room::WorstAnswer;
 
 // What became of a line.
 pub enum Verdict {
@@ -41,7 +41,7 @@ pub fn worst(line: &[u8]) -> Verdict {
     if crate::text::fields(line, 1, &mut w) != line.len() {
         return Verdict::Malformed;
     }
-    let answer = coder::worst_body(w[0], w[1], w[2]);
+    let answer = room::worst_body(w[0], w[1], w[2]);
     match answer {
         WorstAnswer::Bits(bits) => {
             if bits != w[5] {

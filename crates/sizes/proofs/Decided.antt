@@ -5,6 +5,10 @@ use Rattle.sizes.proofs.all_of.Reads as all-of
 use Rattle.sizes.proofs.coarsest_of.Reads as coarsest-of
 use Rattle.sizes.proofs.levels_fit.Reads as levels-fit
 use Rattle.sizes.proofs.side_fits.Reads as side-fits
+use Rattle.sizes.proofs.smaller.Reads as smaller
+
+pub smaller-decided : OneAnswer smaller.Learnt
+smaller-decided k args r r' s s' p q = p ∙ sym q
 
 pub side-fits-decided : OneAnswer side-fits.Learnt
 side-fits-decided k args r r' s s' p q = p ∙ sym q

@@ -1,7 +1,7 @@
 // The sizes of document 01, and the checks behind refusals 1 and 2.
 ghost use mathlib.Core.Path.{_≡_};
 ghost use mathlib.Core.Bool.{_&&_, cond};
-ghost use Prim.Native.Nat.{_^_, _≤_};
+ghost use Prim.Native.Nat.{_^_, _≤_, min};
 ghost use Rattle.sizes.specs.Sizes.{sideFits, levelsFit, allOf, coarsestOf, mostN};
 
 // The least and the largest N.
@@ -14,6 +14,16 @@ pub const LIMIT: u32 = 16777215;
 
 // The largest number of planes.
 pub const MOST_PLANES: u32 = 24;
+
+// The smaller of two.
+pub fn smaller(a: u32, b: u32) -> u32
+    ensures { λ r. ⌜ r ≡ min a b ⌝ }
+{
+    if a < b {
+        return a;
+    }
+    b
+}
 
 // Whether N is in range.
 pub fn side_fits(n: u32) -> bool

@@ -18,14 +18,15 @@ use Rattle.bits.specs.Bits.{bytesFor, packed}
 use Rattle.coef.specs.Coef.{planesOf}
 use Rattle.coef.proofs.Laws.{planes-of, planes-most, first-all}
 use Rattle.nls.specs.Judging.{Verdict, taken, contradiction, beyond}
+use Rattle.room.specs.Room as room
+use Rattle.room.specs.Ready.{EncodeReady}
+use Rattle.room.proofs.Laws.{encode-ready}
 use Rattle.coder.specs.Body as body
 use Rattle.coder.specs.Body.{sentBits, outputAfter, Tables}
-use Rattle.coder.specs.Calls.{EncodeReady}
 use Rattle.coder.specs.declared.body.Written.{Written}
 use Rattle.coder.specs.declared.body.EncodeAnswer as written
 use Rattle.coder.specs.declared.body.EncodeAnswer.the-variants as wrote
 use Rattle.coder.specs.declared.body.DecodeAnswer as answer
-use Rattle.coder.proofs.CheckLaws.{encode-ready}
 use Rattle.txp.specs.declared.Header.{Header}
 use Rattle.txp.specs.declared.EncodeAnswer.the-variants as encode
 use Rattle.txp.specs.declared.DecodeAnswer.the-variants as decode
@@ -136,20 +137,20 @@ module _ (file : List ℕ) (values precisions marks : ℕ) (r : Outcome) (is : r
     header-stands = letters-room file (passed (decodeChecks file values precisions marks) (sym is ∙ done) .0)
 
     -- the checks of the body hold too
-    body-passes : firstOf (body.decodeChecks (headerOf file .n) (headerOf file .l) (headerOf file .p) values precisions marks) ≡ Done
+    body-passes : firstOf (room.decodeChecks (headerOf file .n) (headerOf file .l) (headerOf file .p) values precisions marks) ≡ Done
     unfolding AllHold roomIn
     body-passes =
         let all = passed (decodeChecks file values precisions marks) (sym is ∙ done) in
-        all-pass (body.decodeChecks (headerOf file .n) (headerOf file .l) (headerOf file .p) values precisions marks)
+        all-pass (room.decodeChecks (headerOf file .n) (headerOf file .l) (headerOf file .p) values precisions marks)
         (all .1 .1 .0, (all .1 .1 .1 .0, (all .1 .1 .1 .1 .0, (all .1 .1 .1 .1 .1 .1 .1 .0, tt))))
 
     pub file-decoded : (h : Header) (part : List ℕ) (held left : Tables) (b : answer.DecodeAnswer) → h ≡ headerOf file → part ≡ bodyOf file
-        → body.DecodesTo (firstOf (body.decodeChecks (h .n) (h .l) (h .p) values precisions marks)) (h .n) (h .l) (h .p) (body.usableBits (h .declared) part) held b left
+        → body.DecodesTo (firstOf (room.decodeChecks (h .n) (h .l) (h .p) values precisions marks)) (h .n) (h .l) (h .p) (room.usableBits (h .declared) part) held b left
         → DecodesTo (firstOf (decodeChecks file values precisions marks)) (headerOf file) (usableBits file) held (withHeader h b) left
     file-decoded h part held left b eh ep d =
         let moved =
-        subst (λ (x : Header). body.DecodesTo (firstOf (body.decodeChecks (x .n) (x .l) (x .p) values precisions marks)) (x .n) (x .l) (x .p) (body.usableBits (x .declared) (bodyOf file)) held b left) eh
-        (subst (λ (s : List ℕ). body.DecodesTo (firstOf (body.decodeChecks (h .n) (h .l) (h .p) values precisions marks)) (h .n) (h .l) (h .p) (body.usableBits (h .declared) s) held b left) ep d) in
+        subst (λ (x : Header). body.DecodesTo (firstOf (room.decodeChecks (x .n) (x .l) (x .p) values precisions marks)) (x .n) (x .l) (x .p) (room.usableBits (x .declared) (bodyOf file)) held b left) eh
+        (subst (λ (s : List ℕ). body.DecodesTo (firstOf (room.decodeChecks (h .n) (h .l) (h .p) values precisions marks)) (h .n) (h .l) (h .p) (room.usableBits (h .declared) s) held b left) ep d) in
         let got : body.Decoded (headerOf file .n) (headerOf file .l) (headerOf file .p) (usableBits file) held b left =
         subst (λ (o : Outcome). body.DecodesTo o (headerOf file .n) (headerOf file .l) (headerOf file .p) (usableBits file) held b left) body-passes moved in
         let answered : withHeader h b ≡ decodeAnswer (headerOf file) (usableBits file) (got .verdict) =

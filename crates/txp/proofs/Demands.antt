@@ -26,9 +26,9 @@ use Rattle.nls.specs.Stream.{stream, worstBody}
 use Rattle.nls.specs.Reading.{midpoint, valueBy, highBits, precisionAt, valuesBy, precisions, planesFinished, worstError}
 use Rattle.nls.specs.Judging.{Begins, Fits, Verdict, taken, contradiction, beyond}
 use Rattle.nls.proofs.Demands as scan
+use Rattle.room.specs.Ready.{EncodeReady}
+use Rattle.room.proofs.Laws.{encode-ready}
 use Rattle.coder.specs.Body.{sentBits, sentMarks, Tables, tables, ownTables, over}
-use Rattle.coder.specs.Calls.{EncodeReady}
-use Rattle.coder.proofs.CheckLaws.{encode-ready}
 use Rattle.txp.specs.declared.Header.{Header}
 use Rattle.txp.specs.declared.Encoded.{Encoded}
 use Rattle.txp.specs.declared.EncodeAnswer.{EncodeAnswer}

@@ -15,7 +15,7 @@ use Rattle.bits.specs.Bits.{bytesFor}
 use Rattle.coef.specs.Coef.{planesOf}
 use Rattle.nls.specs.Reading.{planesFinished, worstError}
 use Rattle.nls.specs.Judging.{Verdict, taken, contradiction, beyond, Judged}
-use Rattle.coder.specs.Body as body
+use Rattle.room.specs.Room as room
 use Rattle.coder.specs.Body.{sentBits, Tables, ownTables, over}
 use Rattle.coder.specs.declared.body.DecodeAnswer as answer
 use Rattle.coder.specs.declared.body.DecodeAnswer.the-variants as read
@@ -31,7 +31,7 @@ use Rattle.txp.specs.File.{usableBits}
 
 -- "Encoding checks 1 to 6 in that order": those of its body, which begins behind the header
 abbrev pub encodeChecks : ℕ → ℕ → List ℤ → ℕ → ℕ → ℕ → ℕ → ℕ → List Check
-encodeChecks N L A descs grands marks out budget = body.encodeChecks N L A descs grands marks out headerSize budget
+encodeChecks N L A descs grands marks out budget = room.encodeChecks N L A descs grands marks out headerSize budget
 
 abbrev pub encodeAnswer : ℕ → ℕ → List ℤ → ℕ → Outcome → EncodeAnswer
 encodeAnswer N L A budget outcome.Done =

@@ -6,7 +6,7 @@ use lib.IntN.{ℤ}
 use lib.ListN.{length}
 use Rattle.bits.specs.Bits.{packed}
 use Rattle.coef.specs.Coef.{planesOf}
-use Rattle.coder.specs.Body as body
+use Rattle.room.specs.Room as room
 use Rattle.coder.specs.Body.{sentBits}
 use Rattle.txp.specs.declared.Header.{Header}
 use Rattle.txp.specs.Header.{headerBytes, headerOf, bodyOf}
@@ -21,4 +21,4 @@ fileOf N L A budget = headerBytes (headerFor N L A budget) ++ packed (sentBits N
 
 -- the usable bits of a file: of its declared bits those that are present
 abbrev pub usableBits : List ℕ → List Bool
-usableBits file = body.usableBits (headerOf file .declared) (bodyOf file)
+usableBits file = room.usableBits (headerOf file .declared) (bodyOf file)

@@ -6,9 +6,10 @@ use lib.ListN.{length, drop}
 use lib.Seq.{length-take-le}
 use Rattle.refusals.specs.declared.Outcome.{Outcome}
 use Rattle.sizes.specs.Sizes.{allOf}
-use Rattle.coder.specs.Body.{usableBits, tables, DecodesTo}
+use Rattle.room.specs.Room.{usableBits}
+use Rattle.room.proofs.Laws.{DecodeReady, decode-ready}
+use Rattle.coder.specs.Body.{tables, DecodesTo}
 use Rattle.coder.specs.declared.body.DecodeAnswer.the-variants.{Refused}
-use Rattle.coder.proofs.CheckLaws.{DecodeReady, decode-ready}
 use Rattle.coder.proofs.DecodeLaws.{decoded-back}
 use Rattle.coder.proofs.body.decode.Statement.{statement}
 use Rattle.coder.proofs.body.decode.Tie as tie

@@ -10,10 +10,10 @@ use Rattle.bits.specs.Bits.{packed}
 use Rattle.bits.proofs.Laws.{packed-length}
 use Rattle.coef.specs.Coef.{planesOf}
 use Rattle.nls.proofs.Streams.{marks-length}
+use Rattle.room.specs.Ready.{EncodeReady}
+use Rattle.room.proofs.Laws.{encode-ready}
 use Rattle.coder.specs.declared.body.EncodeAnswer.the-variants.{Done}
 use Rattle.coder.specs.Body.{sentBits, sentMarks}
-use Rattle.coder.specs.Calls.{EncodeReady}
-use Rattle.coder.proofs.CheckLaws.{encode-ready}
 use Rattle.coder.proofs.EncodeLaws.{marks-back, output-back}
 use Rattle.coder.proofs.body.encode.Statement.{statement}
 use Rattle.coder.proofs.body.encode.Tie as tie

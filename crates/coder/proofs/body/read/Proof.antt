@@ -8,8 +8,8 @@ use Rattle.sizes.specs.Sizes.{allOf, coarsestOf}
 use Rattle.bits.specs.Bits.{bitsOf}
 use Rattle.nls.specs.Judging.{taken, Judged}
 use Rattle.nls.proofs.Verdicts.{verdict}
+use Rattle.room.proofs.Laws.{sizes-near}
 use Rattle.coder.specs.Body.{tables}
-use Rattle.coder.proofs.CheckLaws.{sizes-near}
 use Rattle.coder.proofs.DecodeLaws.{Took, Ends, ends, bits-most, judged-taken, refused-12, refused-13, left-in, not-below, in-range, power-one, accepted}
 use Rattle.coder.proofs.body.read.Statement.{statement}
 use Rattle.coder.proofs.body.read.Tie as tie

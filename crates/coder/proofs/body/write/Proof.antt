@@ -1,6 +1,6 @@
-use mathlib.Core.Path.{_≡_, refl, sym, ap, _∙_}
+use mathlib.Core.Path.{_≡_, refl, sym, _∙_}
 use mathlib.Core.List.{_++_}
-use Prim.Native.Nat.{ℕ, _≤_, min}
+use Prim.Native.Nat.{_≤_, min}
 use native.Mathlib.Omega.{arith}
 use borrow.Author.Needs.{needs}
 use lib.ListN.{length, drop}
@@ -8,8 +8,9 @@ use Rattle.sizes.specs.Sizes.{mostPlanes, allOf, coarsestOf}
 use Rattle.bits.specs.Bits.{bytesFor, packed}
 use Rattle.coef.specs.Coef.{planesOf}
 use Rattle.tree.specs.Summaries.{descTable, grandTable}
+use Rattle.nls.specs.Stream.{worstBody}
+use Rattle.room.proofs.Laws.{sizes-near, most-so}
 use Rattle.coder.specs.Body.{sentBits, sentMarks}
-use Rattle.coder.proofs.CheckLaws.{sizes-near}
 use Rattle.coder.proofs.EncodeLaws.{sent-most, planes-so, filled, room-so, tables-so, written}
 use Rattle.coder.proofs.body.write.Statement.{statement}
 use Rattle.coder.proofs.body.write.Tie as tie
@@ -45,27 +46,31 @@ planes-are c =
     let a = start .args in
     planes-so (a .n) (a .l) (a .coefs .now) (length (a .desc .now)) (length (a .grand .now)) (length (a .out .now)) (a .budget) (start .pre .0) (c .planes .result) (c .planes .ensures)
 
-worst-of-requires : tie.Need-worst-of-requires
-worst-of-requires c κs = (c .before .before .before .before .before .before .before .before .before .before .before .before .before .before .before .before .before .before .pre .0 .side, c .before .before .before .before .before .before .before .before .before .before .before .before .before .before .before .before .before .before .pre .0 .levels, planes-are c .1)
+most-bits-requires : tie.Need-most-bits-requires
+most-bits-requires c κs = search needs
 
-smaller-requires : tie.Need-smaller-requires
-smaller-requires c κs = search needs
+-- the cap of the scan
+cap-so : (c : tie.After-most-bits) → let a = c .before .before .before .before .before .before .before .before .before .before .before .before .before .before .before .before .before .before .before .args in c .most-bits .result ≡ min (a .budget) (worstBody (a .n) (a .l) (c .before .planes .result))
+cap-so c =
+    let start = c .before .before .before .before .before .before .before .before .before .before .before .before .before .before .before .before .before .before .before in
+    let a = start .args in
+    c .most-bits .ensures ∙ most-so (a .n) (a .l) (c .before .planes .result) (a .budget) (start .pre .0 .side) (start .pre .0 .levels) (planes-are (c .before) .1)
 
 cast-scan : tie.Need-cast-scan
 cast-scan c = search needs
 
 scan-requires : tie.Need-scan-requires
 scan-requires c κs =
-    let start = c .before .before .before .before .before .before .before .before .before .before .before .before .before .before .before .before .before .before .before .before .before .before .before .before in
+    let start = c .before .before .before .before .before .before .before .before .before .before .before .before .before .before .before .before .before .before .before .before .before .before .before in
     let a = start .args in
-    let e = all-so (c .before .before .before .before .before .before .before .before .before .before .before .before) in
+    let e = all-so (c .before .before .before .before .before .before .before .before .before .before .before) in
     let r = start .pre .0 in
-    let s = sizes-near (a .n) (a .l) (c .before .before .before .before .before .before .before .before .before .before .before .before .all-of .result) (c .before .before .before .before .before .before .before .before .before .before .coarsest-of .result) e (coarsest-so (c .before .before .before .before .before .before .before .before .before .before)) (r .side) (r .levels) in (
-      c .before .before .before .before .before .before .before .before .before .start .kept .0 ∙ start .pre .1 ∙ sym e,
+    let s = sizes-near (a .n) (a .l) (c .before .before .before .before .before .before .before .before .before .before .before .all-of .result) (c .before .before .before .before .before .before .before .before .before .coarsest-of .result) e (coarsest-so (c .before .before .before .before .before .before .before .before .before)) (r .side) (r .levels) in (
+      c .before .before .before .before .before .before .before .before .start .kept .0 ∙ start .pre .1 ∙ sym e,
       s .0,
       omega (arith, e, r .whole),
-      room-so (a .n) (a .l) (a .coefs .now) (length (a .desc .now)) (length (a .grand .now)) (length (a .out .now)) (a .budget) r _ _ (planes-are (c .before .before .before .before .before .before) .0) (c .before .before .before .before .smaller .ensures ∙ ap (λ (x : ℕ). min (a .budget) x) (c .before .before .before .before .before .worst-of .ensures)),
-      tables-so (a .n) (a .l) (a .coefs .now) (length (a .desc .now)) (length (a .grand .now)) (length (a .out .now)) (a .budget) r (c .before .before .before .before .before .before .before .before .before .before .before .before .all-of .result) _ _ e (c .before .before .before .before .before .before .before .before .before .before .before .before .before .before .before .before .before .summaries .kept .1 .1 .1 .0) (c .before .before .before .before .before .before .before .before .before .before .before .before .before .before .before .before .before .summaries .kept .1 .1 .1 .1 .0),
+      room-so (a .n) (a .l) (a .coefs .now) (length (a .desc .now)) (length (a .grand .now)) (length (a .out .now)) (a .budget) r _ _ (planes-are (c .before .before .before .before .before) .0) (cap-so (c .before .before .before .before)),
+      tables-so (a .n) (a .l) (a .coefs .now) (length (a .desc .now)) (length (a .grand .now)) (length (a .out .now)) (a .budget) r (c .before .before .before .before .before .before .before .before .before .before .before .all-of .result) _ _ e (c .before .before .before .before .before .before .before .before .before .before .before .before .before .before .before .before .summaries .kept .1 .1 .1 .0) (c .before .before .before .before .before .before .before .before .before .before .before .before .before .before .before .before .summaries .kept .1 .1 .1 .1 .0),
     )
 
 -- the summaries
@@ -83,21 +88,21 @@ grand-so c =
 
 -- what the scan leaves
 scan-so : (c : tie.After-scan)
-    → (c .scan .result ≡ length (sentBits (c .before .before .before .before .before .before .before .before .before .before .before .before .before .before .before .before .before .before .before .before .before .before .before .before .before .args .n) (c .before .before .before .before .before .before .before .before .before .before .before .before .before .before .before .before .before .before .before .before .before .before .before .before .before .args .l) (c .before .before .before .before .before .before .before .before .before .before .before .before .before .before .before .before .before .before .before .before .before .before .before .before .before .args .coefs .now) (c .before .before .before .before .before .before .before .before .before .before .before .before .before .before .before .before .before .before .before .before .before .before .before .before .before .args .budget)))
-    × (c .scan .last .1 .1 .1 .0 ≡ sentMarks (c .before .before .before .before .before .before .before .before .before .before .before .before .before .before .before .before .before .before .before .before .before .before .before .before .before .args .n) (c .before .before .before .before .before .before .before .before .before .before .before .before .before .before .before .before .before .before .before .before .before .before .before .before .before .args .l) (c .before .before .before .before .before .before .before .before .before .before .before .before .before .before .before .before .before .before .before .before .before .before .before .before .before .args .coefs .now) (c .before .before .before .before .before .before .before .before .before .before .before .before .before .before .before .before .before .before .before .before .before .before .before .before .before .args .budget))
-    × (c .scan .last .1 .1 .1 .1 .0 ≡ packed (sentBits (c .before .before .before .before .before .before .before .before .before .before .before .before .before .before .before .before .before .before .before .before .before .before .before .before .before .args .n) (c .before .before .before .before .before .before .before .before .before .before .before .before .before .before .before .before .before .before .before .before .before .before .before .before .before .args .l) (c .before .before .before .before .before .before .before .before .before .before .before .before .before .before .before .before .before .before .before .before .before .before .before .before .before .args .coefs .now) (c .before .before .before .before .before .before .before .before .before .before .before .before .before .before .before .before .before .before .before .before .before .before .before .before .before .args .budget)) ++ drop (bytesFor (length (sentBits (c .before .before .before .before .before .before .before .before .before .before .before .before .before .before .before .before .before .before .before .before .before .before .before .before .before .args .n) (c .before .before .before .before .before .before .before .before .before .before .before .before .before .before .before .before .before .before .before .before .before .before .before .before .before .args .l) (c .before .before .before .before .before .before .before .before .before .before .before .before .before .before .before .before .before .before .before .before .before .before .before .before .before .args .coefs .now) (c .before .before .before .before .before .before .before .before .before .before .before .before .before .before .before .before .before .before .before .before .before .before .before .before .before .args .budget)))) (c .before .before .before .before .before .before .before .before .before .before .before .before .before .before .before .before .before .before .before .before .before .before .before .before .before .args .out .now))
+    → (c .scan .result ≡ length (sentBits (c .before .before .before .before .before .before .before .before .before .before .before .before .before .before .before .before .before .before .before .before .before .before .before .before .args .n) (c .before .before .before .before .before .before .before .before .before .before .before .before .before .before .before .before .before .before .before .before .before .before .before .before .args .l) (c .before .before .before .before .before .before .before .before .before .before .before .before .before .before .before .before .before .before .before .before .before .before .before .before .args .coefs .now) (c .before .before .before .before .before .before .before .before .before .before .before .before .before .before .before .before .before .before .before .before .before .before .before .before .args .budget)))
+    × (c .scan .last .1 .1 .1 .0 ≡ sentMarks (c .before .before .before .before .before .before .before .before .before .before .before .before .before .before .before .before .before .before .before .before .before .before .before .before .args .n) (c .before .before .before .before .before .before .before .before .before .before .before .before .before .before .before .before .before .before .before .before .before .before .before .before .args .l) (c .before .before .before .before .before .before .before .before .before .before .before .before .before .before .before .before .before .before .before .before .before .before .before .before .args .coefs .now) (c .before .before .before .before .before .before .before .before .before .before .before .before .before .before .before .before .before .before .before .before .before .before .before .before .args .budget))
+    × (c .scan .last .1 .1 .1 .1 .0 ≡ packed (sentBits (c .before .before .before .before .before .before .before .before .before .before .before .before .before .before .before .before .before .before .before .before .before .before .before .before .args .n) (c .before .before .before .before .before .before .before .before .before .before .before .before .before .before .before .before .before .before .before .before .before .before .before .before .args .l) (c .before .before .before .before .before .before .before .before .before .before .before .before .before .before .before .before .before .before .before .before .before .before .before .before .args .coefs .now) (c .before .before .before .before .before .before .before .before .before .before .before .before .before .before .before .before .before .before .before .before .before .before .before .before .args .budget)) ++ drop (bytesFor (length (sentBits (c .before .before .before .before .before .before .before .before .before .before .before .before .before .before .before .before .before .before .before .before .before .before .before .before .args .n) (c .before .before .before .before .before .before .before .before .before .before .before .before .before .before .before .before .before .before .before .before .before .before .before .before .args .l) (c .before .before .before .before .before .before .before .before .before .before .before .before .before .before .before .before .before .before .before .before .before .before .before .before .args .coefs .now) (c .before .before .before .before .before .before .before .before .before .before .before .before .before .before .before .before .before .before .before .before .before .before .before .before .args .budget)))) (c .before .before .before .before .before .before .before .before .before .before .before .before .before .before .before .before .before .before .before .before .before .before .before .before .args .out .now))
 scan-so c =
-    let start = c .before .before .before .before .before .before .before .before .before .before .before .before .before .before .before .before .before .before .before .before .before .before .before .before .before in
+    let start = c .before .before .before .before .before .before .before .before .before .before .before .before .before .before .before .before .before .before .before .before .before .before .before .before in
     let a = start .args in
-    let ep = planes-are (c .before .before .before .before .before .before .before) .0 in
+    let ep = planes-are (c .before .before .before .before .before .before) .0 in
     written (a .n) (a .l) (a .coefs .now) (length (a .desc .now)) (length (a .grand .now)) (length (a .out .now)) (a .budget) (start .pre .0)
-    (a .desc .now) (a .grand .now) _ _ (desc-so (c .before .before .before .before .before .before .before .before .before .before .before .before .before .before .before .before .before .before)) (grand-so (c .before .before .before .before .before .before .before .before .before .before .before .before .before .before .before .before .before .before))
-    (c .before .before .before .before .before .before .before .before .before .before .start .last .0) (a .out .now) (c .scan .last .1 .1 .1 .0) (c .scan .last .1 .1 .1 .1 .0) (c .scan .result) (c .before .before .before .before .before .before .before .planes .result) (c .before .before .before .before .before .smaller .result) (c .before .before .before .before .before .before .before .before .before .before .before .before .before .all-of .result) (c .before .before .before .before .before .before .before .before .before .before .before .coarsest-of .result)
-    refl ep (all-so (c .before .before .before .before .before .before .before .before .before .before .before .before .before)) (coarsest-so (c .before .before .before .before .before .before .before .before .before .before .before)) (c .before .before .before .before .before .smaller .ensures ∙ ap (λ (x : ℕ). min (a .budget) x) (c .before .before .before .before .before .before .worst-of .ensures)) (c .before .before .before .before .before .before .before .before .before .before .start .ensures) (c .scan .ensures)
+    (a .desc .now) (a .grand .now) _ _ (desc-so (c .before .before .before .before .before .before .before .before .before .before .before .before .before .before .before .before .before)) (grand-so (c .before .before .before .before .before .before .before .before .before .before .before .before .before .before .before .before .before))
+    (c .before .before .before .before .before .before .before .before .before .start .last .0) (a .out .now) (c .scan .last .1 .1 .1 .0) (c .scan .last .1 .1 .1 .1 .0) (c .scan .result) (c .before .before .before .before .before .before .planes .result) (c .before .before .before .before .before .most-bits .result) (c .before .before .before .before .before .before .before .before .before .before .before .before .all-of .result) (c .before .before .before .before .before .before .before .before .before .before .coarsest-of .result)
+    refl ep (all-so (c .before .before .before .before .before .before .before .before .before .before .before .before)) (coarsest-so (c .before .before .before .before .before .before .before .before .before .before)) (cap-so (c .before .before .before .before .before)) (c .before .before .before .before .before .before .before .before .before .start .ensures) (c .scan .ensures)
 
-cast-t22 : tie.Need-cast-t22
-cast-t22 c =
-    let start = c .before .before .before .before .before .before .before .before .before .before .before .before .before .before .before .before .before .before .before .before .before .before .before .before .before .before .before .before .before in
+cast-count : tie.Need-cast-count
+cast-count c =
+    let start = c .before .before .before .before .before .before .before .before .before .before .before .before .before .before .before .before .before .before .before .before .before .before .before .before .before .before .before .before in
     let a = start .args in
     record { fits = omega (arith, scan-so (c .before .before .before .before) .0, sent-most (a .n) (a .l) (a .coefs .now) (a .budget), start .fits .budget .fits) }
 
@@ -116,8 +121,8 @@ same-length-4 c = search needs
 returns : tie.Need-returns
 returns c =
     let s = scan-so (c .before .before .before .before) in
-    let ep = planes-are (c .before .before .before .before .before .before .before .before .before .before .before) .0 in
-    ((λ i. record { planes = ep i; bits = s .0 i }), (desc-so (c .before .before .before .before .before .before .before .before .before .before .before .before .before .before .before .before .before .before .before .before .before .before), (grand-so (c .before .before .before .before .before .before .before .before .before .before .before .before .before .before .before .before .before .before .before .before .before .before), (s .1, s .2))))
+    let ep = planes-are (c .before .before .before .before .before .before .before .before .before .before) .0 in
+    ((λ i. record { planes = ep i; bits = s .0 i }), (desc-so (c .before .before .before .before .before .before .before .before .before .before .before .before .before .before .before .before .before .before .before .before .before), (grand-so (c .before .before .before .before .before .before .before .before .before .before .before .before .before .before .before .before .before .before .before .before .before), (s .1, s .2))))
 
 pub write-spec : {M : Type 1} → statement M
 write-spec =
@@ -128,11 +133,10 @@ write-spec =
     coarsest-of-requires
     start-requires
     planes-requires
-    worst-of-requires
-    smaller-requires
+    most-bits-requires
     cast-scan
     scan-requires
-    cast-t22
+    cast-count
     same-length
     same-length-2
     same-length-3

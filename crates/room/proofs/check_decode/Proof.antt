@@ -7,10 +7,10 @@ use lib.Dec.{leb}
 use Rattle.refusals.specs.declared.Refusal.the-variants.{Lent}
 use Rattle.refusals.specs.Checks.{need, firstOf}
 use Rattle.sizes.specs.Sizes.{allOf}
-use Rattle.coder.specs.Body.{worstChecks}
-use Rattle.coder.proofs.CheckLaws.{refused-first, then-more, worst-ready}
-use Rattle.coder.proofs.checks.check_decode.Statement.{statement}
-use Rattle.coder.proofs.checks.check_decode.Tie as tie
+use Rattle.room.specs.Room.{worstChecks}
+use Rattle.room.proofs.Laws.{refused-first, then-more, worst-ready}
+use Rattle.room.proofs.check_decode.Statement.{statement}
+use Rattle.room.proofs.check_decode.Tie as tie
 
 check-worst-requires : tie.Need-check-worst-requires
 check-worst-requires c κs = search needs

@@ -1,4 +1,4 @@
-// The checks of the calls, and the numbers that they compare.
+// The checks of the calls on a body, and the numbers that they compare: the worst body, the room in the output, the usable bits.
 use refusals::Outcome;
 use refusals::Refusal;
 ghost use mathlib.Core.Path.{_≡_};
@@ -13,20 +13,16 @@ ghost use Rattle.sizes.specs.Sizes.{sideFits, levelsFit, mostPlanes};
 ghost use Rattle.bits.specs.Bits.{bytesFor};
 ghost use Rattle.nls.specs.Stream.{worstBody};
 ghost use Rattle.coef.specs.Coef.{firstOver};
-ghost use Rattle.coder.specs.Body.{worstChecks, roomChecks, encodeChecks, decodeChecks};
+ghost use Rattle.room.specs.Room.{worstChecks, worstAnswer, mostBits, roomChecks, encodeChecks, decodeChecks};
 
-// The smaller of two.
-pub(crate) fn smaller(a: u32, b: u32) -> u32
-    ensures { λ r. ⌜ r ≡ min a b ⌝ }
-{
-    if a < b {
-        return a;
-    }
-    b
+// What `worst_body` answers.
+pub enum WorstAnswer {
+    Bits(u32),
+    Refused(Refusal),
 }
 
 // The usable bits of a body of this many bytes.
-pub(crate) fn usable_of(usable: u32, bytes: usize) -> u32
+pub fn usable_of(usable: u32, bytes: usize) -> u32
     ensures { λ r. ⌜ r ≡ min usable (8 * bytes) ⌝ }
 {
     if bytes <= (usable / 8) as usize {
@@ -36,7 +32,7 @@ pub(crate) fn usable_of(usable: u32, bytes: usize) -> u32
 }
 
 // The worst body, for sizes in range.
-pub(crate) fn worst_of(n: u32, l: u32, p: u32) -> u32
+fn worst_of(n: u32, l: u32, p: u32) -> u32
     requires { ⌜ (sideFits n ≡ true) × (levelsFit n l ≡ true) × (p ≤ mostPlanes) ⌝ }
     ensures { λ r. ⌜ r ≡ worstBody n l p ⌝ }
 {
@@ -59,7 +55,7 @@ fn has_room(out: usize, offset: usize, bits: u32) -> bool
 }
 
 // The first of refusals 1, 2 and 9 that holds, if any.
-pub(crate) fn check_worst(n: u32, l: u32, p: u32) -> Outcome
+pub fn check_worst(n: u32, l: u32, p: u32) -> Outcome
     ensures { λ r. ⌜ r ≡ firstOf (worstChecks n l p) ⌝ }
 {
     if !sizes::side_fits(n) {
@@ -72,6 +68,26 @@ pub(crate) fn check_worst(n: u32, l: u32, p: u32) -> Outcome
         return Outcome::Refused(Refusal::Planes);
     }
     Outcome::Done
+}
+
+// The most bits that a body of this N, L and P can have.
+pub fn worst_body(n: u32, l: u32, p: u32) -> WorstAnswer
+    ensures { λ r. ⌜ r ≡ worstAnswer n l p (firstOf (worstChecks n l p)) ⌝ }
+{
+    match check_worst(n, l, p) {
+        Outcome::Done => WorstAnswer::Bits(worst_of(n, l, p)),
+        Outcome::Refused(why) => WorstAnswer::Refused(why),
+    }
+}
+
+// The smaller of the budget and the worst body; the budget for sizes out of range.
+pub fn most_bits(n: u32, l: u32, p: u32, budget: u32) -> u32
+    ensures { λ r. ⌜ r ≡ mostBits budget (worstAnswer n l p (firstOf (worstChecks n l p))) ⌝ }
+{
+    match worst_body(n, l, p) {
+        WorstAnswer::Bits(bits) => sizes::smaller(budget, bits),
+        WorstAnswer::Refused(_) => budget,
+    }
 }
 
 // The refusal of marks or an output that are too short, after the checks of the summaries.
@@ -93,7 +109,7 @@ fn check_room(
     if !has_room(
         out,
         offset,
-        smaller(budget, worst_of(n, l, coef::planes(coefs))),
+        sizes::smaller(budget, worst_of(n, l, coef::planes(coefs))),
     ) {
         return Outcome::Refused(Refusal::Output);
     }
@@ -101,7 +117,7 @@ fn check_room(
 }
 
 // The first of refusals 1 to 6 that holds, if any.
-pub(crate) fn check_encode(
+pub fn check_encode(
     n: u32,
     l: u32,
     coefs: &[i32],
@@ -138,7 +154,7 @@ fn check_tables(all: usize, values: usize, precisions: usize, marks: usize) -> O
 }
 
 // The first of refusals 1, 2, 9 and 5 that holds, if any.
-pub(crate) fn check_decode(
+pub fn check_decode(
     n: u32,
     l: u32,
     p: u32,

@@ -3,9 +3,9 @@ use Prim.Native.Nat.{_+_, _*_, _≤_}
 use native.Mathlib.Omega.{arith}
 use borrow.Author.Needs.{needs}
 use Rattle.sizes.specs.Sizes.{mostN, allOf, coarsestOf, mostPlanes}
-use Rattle.coder.proofs.CheckLaws.{worst-none, worst-some, parts-near}
-use Rattle.coder.proofs.checks.worst_of.Statement.{statement}
-use Rattle.coder.proofs.checks.worst_of.Tie as tie
+use Rattle.room.proofs.Laws.{worst-none, worst-some, parts-near}
+use Rattle.room.proofs.worst_of.Statement.{statement}
+use Rattle.room.proofs.worst_of.Tie as tie
 
 all-so : (c : tie.After-all-of) → c .all-of .result ≡ allOf (c .before .before .args .n)
 all-so c = c .all-of .ensures ∙ rw (c .before .before .pre .0)

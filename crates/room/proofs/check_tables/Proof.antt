@@ -1,7 +1,7 @@
 use borrow.Author.Tests.{le-leb, lt-leb}
 use Rattle.refusals.specs.Checks.{firstOf}
-use Rattle.coder.proofs.checks.check_tables.Statement.{statement}
-use Rattle.coder.proofs.checks.check_tables.Tie as tie
+use Rattle.room.proofs.check_tables.Statement.{statement}
+use Rattle.room.proofs.check_tables.Tie as tie
 
 returns : tie.Need-returns
 unfolding firstOf

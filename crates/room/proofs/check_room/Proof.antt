@@ -9,9 +9,9 @@ use Rattle.bits.specs.Bits.{bytesFor}
 use Rattle.coef.specs.Coef.{planesOf}
 use Rattle.coef.proofs.Laws.{first-all, planes-most, planes-one, planes-of}
 use Rattle.nls.specs.Stream.{worstBody}
-use Rattle.coder.proofs.CheckLaws.{no-marks, no-output, room-well}
-use Rattle.coder.proofs.checks.check_room.Statement.{statement}
-use Rattle.coder.proofs.checks.check_room.Tie as tie
+use Rattle.room.proofs.Laws.{no-marks, no-output, room-well}
+use Rattle.room.proofs.check_room.Statement.{statement}
+use Rattle.room.proofs.check_room.Tie as tie
 
 all-so : (c : tie.After-all-of) → c .all-of .result ≡ allOf (c .before .args .n)
 all-so c = c .all-of .ensures ∙ rw (c .before .pre .0)

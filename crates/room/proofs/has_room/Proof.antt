@@ -1,8 +1,8 @@
 use borrow.Author.Needs.{needs}
 use Rattle.bits.specs.Bits.{bytesFor}
-use Rattle.coder.proofs.CheckLaws.{room-none, room-some}
-use Rattle.coder.proofs.checks.has_room.Statement.{statement}
-use Rattle.coder.proofs.checks.has_room.Tie as tie
+use Rattle.room.proofs.Laws.{room-none, room-some}
+use Rattle.room.proofs.has_room.Statement.{statement}
+use Rattle.room.proofs.has_room.Tie as tie
 
 returns : tie.Need-returns
 returns c =

@@ -3,9 +3,9 @@ use mathlib.Core.Bool.{true}
 use borrow.Author.Tests.{not-true, not-false}
 use borrow.Author.Needs.{needs}
 use Rattle.sizes.specs.Sizes.{sideFits, levelsFit}
-use Rattle.coder.proofs.CheckLaws.{worst-side, worst-levels, worst-planes, worst-well}
-use Rattle.coder.proofs.checks.check_worst.Statement.{statement}
-use Rattle.coder.proofs.checks.check_worst.Tie as tie
+use Rattle.room.proofs.Laws.{worst-side, worst-levels, worst-planes, worst-well}
+use Rattle.room.proofs.check_worst.Statement.{statement}
+use Rattle.room.proofs.check_worst.Tie as tie
 
 side-so : (c : tie.Else1) → sideFits (c .before .before .args .n) ≡ true
 side-so c = sym (c .before .side-fits .ensures) ∙ not-false (c .before .side-fits .result) (c .if1 .left)

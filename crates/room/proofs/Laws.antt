@@ -21,9 +21,9 @@ use Rattle.sizes.proofs.Laws.{both-left, both-right, sized, side-most, all-most
 use Rattle.bits.specs.Bits.{bytesFor}
 use Rattle.coef.specs.Coef.{firstOver, planesOf}
 use Rattle.nls.specs.Stream.{worstBody}
-use Rattle.coder.specs.Calls.{EncodeReady}
+use Rattle.room.specs.Ready.{EncodeReady}
 use Rattle.tree.specs.Summaries.{summaryChecks}
-use Rattle.coder.specs.Body.{worstChecks, roomChecks, encodeChecks, decodeChecks}
+use Rattle.room.specs.Room.{worstChecks, worstAnswer, mostBits, roomChecks, encodeChecks, decodeChecks}
 
 -- ---- the worst body
 
@@ -50,6 +50,10 @@ module _ (N L P : ℕ) where
   unfolding AllHold
   worst-ready is =
       let all = passed (worstChecks N L P) (sym is) in (all .0, all .1 .0, leb-true P mostPlanes (all .1 .1 .0))
+
+-- under a budget, for sizes in range
+pub most-so : (N L P budget : ℕ) → sideFits N ≡ true → levelsFit N L ≡ true → P ≤ mostPlanes → mostBits budget (worstAnswer N L P (firstOf (worstChecks N L P))) ≡ min budget (worstBody N L P)
+most-so N L P budget s l p = sym (ap (λ (o : Outcome). mostBits budget (worstAnswer N L P o)) (worst-well N L P s l p))
 
 -- ---- one list of checks after another
 

@@ -1,9 +1,9 @@
 use mathlib.Core.Path.{sym, ap, _∙_}
 use borrow.Author.Needs.{needs}
-use Rattle.coder.specs.declared.body.WorstAnswer.the-variants.{Bits}
-use Rattle.coder.proofs.CheckLaws.{worst-ready}
-use Rattle.coder.proofs.body.worst_body.Statement.{statement}
-use Rattle.coder.proofs.body.worst_body.Tie as tie
+use Rattle.room.specs.declared.WorstAnswer.the-variants.{Bits}
+use Rattle.room.proofs.Laws.{worst-ready}
+use Rattle.room.proofs.worst_body.Statement.{statement}
+use Rattle.room.proofs.worst_body.Tie as tie
 
 check-worst-requires : tie.Need-check-worst-requires
 check-worst-requires c κs = search needs

@@ -1,9 +1,9 @@
 use mathlib.Core.Path.{sym, _∙_}
 use borrow.Author.Needs.{needs}
 use Rattle.tree.specs.Summaries.{summaryChecks}
-use Rattle.coder.proofs.CheckLaws.{refused-first, then-more, summaries-met}
-use Rattle.coder.proofs.checks.check_encode.Statement.{statement}
-use Rattle.coder.proofs.checks.check_encode.Tie as tie
+use Rattle.room.proofs.Laws.{refused-first, then-more, summaries-met}
+use Rattle.room.proofs.check_encode.Statement.{statement}
+use Rattle.room.proofs.check_encode.Tie as tie
 
 check-requires : tie.Need-check-requires
 check-requires c κs = search needs

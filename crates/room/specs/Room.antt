@@ -1,0 +1,54 @@
+-- The checks of the calls on a body, in document 01's order ("Numbers for no"), and the worst body.
+use Prim.Native.Nat.{ℕ, _+_, _*_, min}
+use mathlib.Core.Bool.{Bool, _&&_}
+use mathlib.Core.List.{List, [], _∷_, _++_}
+use lib.Dec.{leb}
+use lib.IntN.{ℤ}
+use lib.ListN.{length}
+use Rattle.refusals.specs.Checks.{Check, need}
+use Rattle.refusals.specs.declared.Refusal.the-variants.{Side, Levels, Lent, Output, Planes}
+use Rattle.refusals.specs.declared.Outcome.{Outcome}
+use Rattle.refusals.specs.declared.Outcome.the-variants as outcome
+use Rattle.sizes.specs.Sizes.{allOf, sideFits, levelsFit, mostPlanes}
+use Rattle.bits.specs.Bits.{bitsOf, bytesFor}
+use Rattle.coef.specs.Coef.{planesOf}
+use Rattle.tree.specs.Summaries.{summaryChecks}
+use Rattle.nls.specs.Stream.{worstBody}
+use Rattle.room.specs.declared.WorstAnswer.{WorstAnswer}
+use Rattle.room.specs.declared.WorstAnswer.the-variants as worst
+
+-- ---- the worst body
+
+abbrev pub worstChecks : ℕ → ℕ → ℕ → List Check
+worstChecks N L P = need (sideFits N) Side ∷ need (levelsFit N L) Levels ∷ need (leb P mostPlanes) Planes ∷ []
+
+abbrev pub worstAnswer : ℕ → ℕ → ℕ → Outcome → WorstAnswer
+worstAnswer N L P outcome.Done = worst.Bits (worstBody N L P)
+worstAnswer N L P (outcome.Refused why) = worst.Refused why
+
+-- the most bits that are written under a budget: the smaller of it and the worst body; where the sizes are out of range, the budget
+abbrev pub mostBits : ℕ → WorstAnswer → ℕ
+mostBits budget (worst.Bits bits) = min budget bits
+mostBits budget (worst.Refused why) = budget
+
+-- ---- encoding
+
+-- "Encoding checks 1 to 6 in that order.": those of the summaries, then the marks and the output.
+-- `descs`, `grands`, `marks` and `out` are the lengths of what is lent; the body begins at `offset`.
+abbrev pub roomChecks : ℕ → ℕ → List ℤ → ℕ → ℕ → ℕ → ℕ → List Check
+roomChecks N L A marks out offset budget =
+    need (leb (allOf N) marks) Lent ∷ need (leb (offset + bytesFor (min budget (worstBody N L (planesOf A)))) out) Output ∷ []
+
+abbrev pub encodeChecks : ℕ → ℕ → List ℤ → ℕ → ℕ → ℕ → ℕ → ℕ → ℕ → List Check
+encodeChecks N L A descs grands marks out offset budget = summaryChecks N L A descs grands ++ roomChecks N L A marks out offset budget
+
+-- ---- decoding
+
+-- of decoding's checks those of a body: 1, 2, 9, 5, by the lengths of what is lent
+abbrev pub decodeChecks : ℕ → ℕ → ℕ → ℕ → ℕ → ℕ → List Check
+decodeChecks N L P values precisions marks =
+    worstChecks N L P ++ (need (leb (allOf N) values && (leb (allOf N) precisions && leb (allOf N) marks)) Lent ∷ [])
+
+-- "usable bits are the smaller of declared and 8 times the bytes present"
+abbrev pub usableBits : ℕ → List ℕ → List Bool
+usableBits usable body = bitsOf (min usable (8 * length body)) body
