@@ -2,7 +2,6 @@
 mod body;
 mod checks;
 mod finish;
-mod marks;
 mod reading;
 mod writing;
 
