@@ -1,7 +1,7 @@
 // The table of marks: skips, splits, and the table before the first bit.
 ghost use mathlib.Core.Path.{_≡_};
 ghost use mathlib.Core.Bool.{cond};
-ghost use Prim.Native.Nat.{_*_, _%_, _<_, _≤_};
+ghost use Prim.Native.Nat.{_+_, _*_, _%_, _<_, _≤_};
 ghost use lib.ListN.{length, replicate, set};
 ghost use Rattle.sizes.specs.Sizes.{mostN, allOf};
 ghost use Rattle.nls.specs.Marks.{startMarks};
@@ -80,20 +80,36 @@ fn in_table(all: usize, place: usize) -> bool
     false
 }
 
+// Four coefficients by themselves; past the end nothing is written. Where all four are in the table one test does.
+fn four_alone(marks: &mut [u8], place: usize)
+    requires { ⌜ place < allOf mostN ⌝ }
+    ensures { λ _. ⌜ now (marks .exit) ≡ set (set (set (set (now (marks .entry)) place 4) (place + 1) 4) (place + 2) 4) (place + 3) 4 ⌝ }
+{
+    if place + 3 < marks.len() {
+        marks[place] = 4;
+        marks[place + 1] = 4;
+        marks[place + 2] = 4;
+        marks[place + 3] = 4;
+        return;
+    }
+    store(marks, place, 4);
+    store(marks, place + 1, 4);
+    store(marks, place + 2, 4);
+    store(marks, place + 3, 4);
+}
+
 // DESC is split: four coefficients by themselves, and the GRAND below them, if there is one.
 fn open_desc(marks: &mut [u8], all: usize, place: usize)
     requires { ⌜ (length (now marks) ≡ all) × (all ≤ allOf mostN) × (place < allOf mostN) ⌝ }
     ensures { λ _. ⌜ now (marks .exit) ≡ descSplit all place (now (marks .entry)) ⌝ }
 {
-    store(marks, place, 4);
-    store(marks, place + 1, 4);
-    store(marks, place + 2, 4);
-    store(marks, place + 3, 4);
+    four_alone(marks, place);
     if 4 * place < all {
         marks[4 * place] = 6;
     }
 }
 
+// The same; a table that is too large, or that has no such place, stays as it is.
 pub fn split_desc(marks: &mut [u8], place: usize)
     ensures { λ _. ⌜ now (marks .exit) ≡ cond (inTable (length (now (marks .entry))) place) (descSplit (length (now (marks .entry))) place (now (marks .entry))) (now (marks .entry)) ⌝ }
 {
@@ -123,6 +139,7 @@ fn open_grand(marks: &mut [u8], all: usize, place: usize)
     new_desc(marks, all, place + 12);
 }
 
+// The same, under the same conditions.
 pub fn split_grand(marks: &mut [u8], place: usize)
     ensures { λ _. ⌜ now (marks .exit) ≡ cond (inTable (length (now (marks .entry))) place) (grandSplit (length (now (marks .entry))) place (now (marks .entry))) (now (marks .entry)) ⌝ }
 {
@@ -160,6 +177,7 @@ fn begin(marks: &mut [u8], all: usize, coarsest: usize)
     }
 }
 
+// The same; a table that can't begin so stays as it is.
 pub fn start(marks: &mut [u8], coarsest: usize)
     ensures { λ _. ⌜ now (marks .exit) ≡ cond (startFits (length (now (marks .entry))) coarsest) (startMarks (length (now (marks .entry))) coarsest) (now (marks .entry)) ⌝ }
 {

@@ -7,28 +7,10 @@ use Rattle.marking.proofs.open_desc.Statement.{statement}
 use Rattle.marking.proofs.open_desc.Tie as tie
 use Rattle.marking.proofs.open_desc.Reads as reads
 use Rattle.marking.proofs.open_desc.Lts as lts
-use Rattle.marking.proofs.store.Reads as store-reads
+use Rattle.marking.proofs.four_alone.Reads as four-alone-reads
 
-store-requires : tie.Need-store-requires
-store-requires c κs = search needs
-
-add-store : tie.Need-add-store
-add-store c = search needs
-
-store-requires-2 : tie.Need-store-requires-2
-store-requires-2 c κs = search needs
-
-add-store-2 : tie.Need-add-store-2
-add-store-2 c = search needs
-
-store-requires-3 : tie.Need-store-requires-3
-store-requires-3 c κs = search needs
-
-add-store-3 : tie.Need-add-store-3
-add-store-3 c = search needs
-
-store-requires-4 : tie.Need-store-requires-4
-store-requires-4 c κs = search needs
+four-alone-requires : tie.Need-four-alone-requires
+four-alone-requires c κs = search needs
 
 mul-if1 : tie.Need-mul-if1
 mul-if1 c = search needs
@@ -55,13 +37,7 @@ pub open-desc-spec : {M : Type 1} → statement M
 open-desc-spec =
     tie.close
     (tie.spec
-    store-requires
-    add-store
-    store-requires-2
-    add-store-2
-    store-requires-3
-    add-store-3
-    store-requires-4
+    four-alone-requires
     mul-if1
     mul-marks
     slice-write-marks
