@@ -14,8 +14,9 @@ use Rattle.nls.specs.Scan.{Question, bitOf, signOf, inDesc, inGrand, Pass, pixe
 use Rattle.nls.proofs.Machine.Run.{skip-pos, sskip-pos}
 use Rattle.nls.proofs.Joined.Codes.{Codes, set-low, codes-desc, codes-grand, far}
 use Rattle.coder.specs.Scans.{Seen, halt, refuse, move}
-use Rattle.coder.specs.Visits.{Source, more, got, Sv, sv, skipOf, setSkipOf, newDesc, descSplit, grandSplit, oneSeen, testSeen, pixelsSeen, setsSeen, refiningSeen}
-use Rattle.coder.proofs.MarkLaws.{push-six}
+use Rattle.marking.specs.Marking.{skipOf, setSkipOf, newDesc, descSplit, grandSplit}
+use Rattle.coder.specs.Visits.{Source, more, got, Sv, sv, oneSeen, testSeen, pixelsSeen, setsSeen, refiningSeen}
+use Rattle.marking.proofs.Laws.{push-six}
 
 abbrev pub state : ℕ → Pass → ℕ → Bool → List ℕ → State
 state l p i e m = record { left = l; pass = p; place = i; pending = e; marks = m }

@@ -1,4 +1,3 @@
-pub mod MarkLaws
 pub mod Turns
 pub mod Good
 pub mod Whole

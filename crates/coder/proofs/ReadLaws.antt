@@ -18,11 +18,12 @@ use Rattle.coef.specs.Coef.{at}
 use Rattle.nls.specs.Scan.{Question, bitOf, signOf, inDesc, inGrand, Pass, pixels, sets, refining}
 use Rattle.nls.specs.Reading.{Known}
 use Rattle.coder.specs.Scans.{Seen, halt, refuse, move}
-use Rattle.coder.specs.Visits.{Source, got, Sv, sv, skipOf, setSkipOf, descSplit, grandSplit, oneSeen, testSeen, pixelsSeen, setsSeen, refiningSeen, visitSeen}
+use Rattle.marking.specs.Marking.{skipOf, setSkipOf, descSplit, grandSplit}
+use Rattle.coder.specs.Visits.{Source, got, Sv, sv, oneSeen, testSeen, pixelsSeen, setsSeen, refiningSeen, visitSeen}
 use Rattle.coder.specs.Reading.{Read, read, newCode, moreCode, keep, is, childClash, grandClash, lastClash, rootClash, descClash, reader, st, Does}
 use Rattle.coder.specs.declared.Turn.{Turn}
 use Rattle.coder.specs.declared.Turn.the-variants.{Stop, Bad, Go}
-use Rattle.coder.proofs.MarkLaws.{skip-low, skip-in, set-skip-in}
+use Rattle.marking.proofs.Laws.{skip-low, skip-in, set-skip-in}
 use Rattle.coder.proofs.VisitLaws.{one-none, one-zero, one-bad, one-cut, one-one, test-none, test-zero, test-bad, test-one, pixels-own, pixels-skip, refining-none, refining-own, refining-new, refining-skip, sets-one, sets-desc, sets-grand, sets-skip, visit-pixels, visit-sets, visit-refining}
 
 -- ---- the tests of refusal 12

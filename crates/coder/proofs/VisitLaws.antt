@@ -7,7 +7,8 @@ use borrow.Author.Tests.{lt-ltb, le-ltb, eq-eqb, ne-eqb}
 use lib.ListN.{set, getD}
 use Rattle.nls.specs.Scan.{Question, bitOf, signOf, inDesc, inGrand, Pass, pixels, sets, refining}
 use Rattle.coder.specs.Scans.{Seen, halt, refuse, move}
-use Rattle.coder.specs.Visits.{Source, got, Sv, sv, skipOf, setSkipOf, descSplit, grandSplit, oneSeen, testSeen, pixelsSeen, setsSeen, refiningSeen, visitSeen}
+use Rattle.marking.specs.Marking.{skipOf, setSkipOf, descSplit, grandSplit}
+use Rattle.coder.specs.Visits.{Source, got, Sv, sv, oneSeen, testSeen, pixelsSeen, setsSeen, refiningSeen, visitSeen}
 
 module _ {O : Type 0} (K : Source O) (p : Pass) (b i : ℕ) (bar : Bool) (m : List ℕ) (o : O) where
   pub one-none : K .budget ≤ K .used o → oneSeen K p b i bar m o ≡ halt (sv m o)

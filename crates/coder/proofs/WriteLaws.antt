@@ -10,11 +10,12 @@ use Rattle.bits.specs.Bits.{bit, withBit}
 use Rattle.coef.specs.Coef.{at, magnitude, magAt, negative}
 use Rattle.nls.specs.Scan.{Question, bitOf, signOf, inDesc, inGrand, Pass, pixels, sets, refining}
 use Rattle.coder.specs.Scans.{Seen, halt, refuse, move}
-use Rattle.coder.specs.Visits.{Source, got, Sv, sv, skipOf, setSkipOf, descSplit, grandSplit, oneSeen, testSeen, pixelsSeen, setsSeen, refiningSeen, visitSeen}
+use Rattle.marking.specs.Marking.{skipOf, setSkipOf, descSplit, grandSplit}
+use Rattle.coder.specs.Visits.{Source, got, Sv, sv, oneSeen, testSeen, pixelsSeen, setsSeen, refiningSeen, visitSeen}
 use Rattle.coder.specs.Writing.{Bytes, bytes, replies, writer, plain, st, Does}
 use Rattle.coder.specs.declared.Step.{Step}
 use Rattle.coder.specs.declared.Step.the-variants.{Stop, Go}
-use Rattle.coder.proofs.MarkLaws.{skip-low, skip-in, set-skip-in}
+use Rattle.marking.proofs.Laws.{skip-low, skip-in, set-skip-in}
 use Rattle.coder.proofs.VisitLaws.{one-none, one-zero, one-cut, one-one, test-none, test-zero, test-one, pixels-own, pixels-skip, refining-none, refining-own, refining-new, refining-skip, sets-one, sets-desc, sets-grand, sets-skip, visit-pixels, visit-sets, visit-refining}
 
 -- a visit that is s is as the code has it where it does what s does

@@ -5,29 +5,9 @@ use mathlib.Core.Bool.{Bool, true, false, cond}
 use mathlib.Core.List.{List}
 use lib.Dec.{ltb, eqb}
 use lib.ListN.{set, getD}
-use Rattle.nls.specs.Marks.{skip, setSkip, pushFrom, splitDesc}
 use Rattle.nls.specs.Scan.{Question, bitOf, signOf, inDesc, inGrand, Pass, pixels, sets, refining}
+use Rattle.marking.specs.Marking.{skipOf, setSkipOf, descSplit, grandSplit}
 use Rattle.coder.specs.Scans.{Seen, halt, refuse, move, Scan}
-
--- Marks as the code has them. No code in a scan is above 12, since N is at most 8; a larger one skips 1.
-unfoldable pub skipOf : ℕ → ℕ
-skipOf k = cond (ltb k 13) (skip k) 1
-
-unfoldable pub setSkipOf : ℕ → ℕ
-setSkipOf k = cond (ltb k 13) (setSkip k) 1
-
--- for the same reason a push writes at most six places
-abbrev pub pushSix : ℕ → ℕ → List ℕ → List ℕ
-pushSix I i m = pushFrom I 6 (4 * i) 7 m
-
-abbrev pub newDesc : ℕ → ℕ → List ℕ → List ℕ
-newDesc I i m = pushSix I i (set m i 5)
-
-abbrev pub grandSplit : ℕ → ℕ → List ℕ → List ℕ
-grandSplit I i m = newDesc I (i + 12) (newDesc I (i + 8) (newDesc I (i + 4) (newDesc I i m)))
-
-abbrev pub descSplit : ℕ → ℕ → List ℕ → List ℕ
-descSplit I i m = splitDesc I i m (ltb (4 * i) I)
 
 -- A source of answers: how many bits there are, how many are used, the next bit as the answer to a question,
 -- what is kept of it (pass, plane, question, bit), and whether a 0 to a question of the set pass is refused (plane, question, place, marks).

@@ -61,7 +61,7 @@ fn write(
 {
     tree::summaries(n, l, coefs, desc, grand);
     let all = sizes::all_of(n);
-    crate::marks::start(marks, all, sizes::coarsest_of(n, l));
+    marking::start(marks, sizes::coarsest_of(n, l));
     let planes = coef::planes(coefs);
     let most = room::most_bits(n, l, planes, budget);
     let bits = crate::writing::scan(
@@ -135,9 +135,9 @@ fn clear(values: &mut [i32], precisions: &mut [u8], marks: &mut [u8])
     ensures { λ _. ⌜ now (precisions .exit) ≡ replicate (length (now (precisions .entry))) 0 ⌝ }
     ensures { λ _. ⌜ now (marks .exit) ≡ replicate (length (now (marks .entry))) 0 ⌝ }
 {
-    crate::marks::clear(values);
-    crate::marks::fill(precisions, 0);
-    crate::marks::fill(marks, 0);
+    crate::finish::clear(values);
+    marking::fill(precisions, 0);
+    marking::fill(marks, 0);
 }
 
 // Reads a body whose checks hold into tables of I entries each.
@@ -156,9 +156,9 @@ fn read(
 {
     let all = sizes::all_of(n);
     let coarsest = sizes::coarsest_of(n, l);
-    crate::marks::start(marks, all, coarsest);
-    crate::marks::clear(values);
-    crate::marks::fill(precisions, p as u8);
+    marking::start(marks, coarsest);
+    crate::finish::clear(values);
+    marking::fill(precisions, p as u8);
     let reached = crate::reading::scan(
         body,
         marks,

@@ -2,12 +2,22 @@
 ghost use mathlib.Core.Path.{_≡_};
 ghost use mathlib.Core.Bool.{false};
 ghost use Prim.Native.Nat.{ℕ, _≤_, _<_, min};
-ghost use lib.ListN.{length, getD};
+ghost use lib.IntN.{pos};
+ghost use lib.ListN.{length, getD, replicate};
 ghost use Rattle.sizes.specs.Sizes.{limit, mostPlanes};
 ghost use Rattle.sizes.specs.Tables.{table};
 ghost use Rattle.coef.specs.Coef.{at, magnitude, negative};
 ghost use Rattle.nls.specs.Reading.{midpoint, valueBy};
 ghost use Rattle.coder.specs.Reading.{joined, uncoded, plainOf};
+
+// Every entry becomes 0.
+pub(crate) fn clear(dst: &mut [i32])
+    ensures { λ _. ⌜ now (dst .exit) ≡ replicate (length (now (dst .entry))) (pos 0) ⌝ }
+{
+    for i in 0..dst.len() {
+        dst[i] = 0;
+    }
+}
 
 // A value of a sign and a magnitude; 0 for one over the limit.
 fn value_of(negative: bool, magnitude: u32) -> i32

@@ -1,7 +1,6 @@
 // The coders of a body.
 mod body;
 mod finish;
-mod marks;
 mod reading;
 mod writing;
 

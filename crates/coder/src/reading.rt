@@ -13,7 +13,8 @@ ghost use Rattle.sizes.specs.Sizes.{mostN, mostPlanes, allOf};
 ghost use Rattle.coef.specs.Coef.{at};
 ghost use Rattle.nls.specs.Scan.{pixels, bitOf, inDesc, inGrand};
 ghost use Rattle.coder.specs.Scans.{planes, leftOf};
-ghost use Rattle.coder.specs.Visits.{oneSeen, testSeen, pixelsSeen, setsSeen, refiningSeen, visitSeen, scanOf, descSplit, grandSplit};
+ghost use Rattle.marking.specs.Marking.{descSplit, grandSplit};
+ghost use Rattle.coder.specs.Visits.{oneSeen, testSeen, pixelsSeen, setsSeen, refiningSeen, visitSeen, scanOf};
 ghost use Rattle.coder.specs.Reading.{newCode, moreCode, is, childClash, grandClash, lastClash, rootClash, descClash, reader, read, st, Does, Room, Sizes, Holds};
 
 // A coefficient that is found in plane b, as a code.
@@ -200,7 +201,7 @@ fn pixel(
             false,
         );
     }
-    let next = place + crate::marks::skip(mark);
+    let next = place + marking::skip(mark);
     Turn::Go(n, next)
 }
 
@@ -231,7 +232,7 @@ fn refine(
         };
     }
     if 3 < mark {
-        let next = place + crate::marks::skip(mark);
+        let next = place + marking::skip(mark);
         return Turn::Go(n, next);
     }
     if mark == 2 {
@@ -259,7 +260,7 @@ fn test_desc(
     match view::read(body, n, usable) {
         Next::Bit(x) => {
             if x {
-                crate::marks::split_desc(marks, all, place);
+                marking::split_desc(marks, place);
                 return Turn::Go(n + 1, place);
             }
             if desc_clash(marks, all, coarsest, top, n, b, place) {
@@ -287,7 +288,7 @@ fn test_grand(
     match view::read(body, n, usable) {
         Next::Bit(x) => {
             if x {
-                crate::marks::split_grand(marks, all, place);
+                marking::split_grand(marks, place);
                 return Turn::Go(n + 1, place);
             }
             if grand_clash(marks, all, place) {
@@ -337,7 +338,7 @@ fn sets(
     if mark == 6 {
         return test_grand(body, marks, all, usable, n, b, place);
     }
-    let next = place + crate::marks::set_skip(mark);
+    let next = place + marking::set_skip(mark);
     Turn::Go(n, next)
 }
 

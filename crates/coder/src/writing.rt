@@ -10,7 +10,8 @@ ghost use Rattle.bits.specs.Bits.{bit, withBit};
 ghost use Rattle.coef.specs.Coef.{at, magAt, negative};
 ghost use Rattle.nls.specs.Scan.{pixels, inDesc, inGrand};
 ghost use Rattle.coder.specs.Scans.{planes};
-ghost use Rattle.coder.specs.Visits.{oneSeen, testSeen, pixelsSeen, setsSeen, refiningSeen, visitSeen, scanOf, descSplit, grandSplit};
+ghost use Rattle.marking.specs.Marking.{descSplit, grandSplit};
+ghost use Rattle.coder.specs.Visits.{oneSeen, testSeen, pixelsSeen, setsSeen, refiningSeen, visitSeen, scanOf};
 ghost use Rattle.coder.specs.Writing.{writer, plain, st, bytes, Does, Room, Tables, Holds};
 
 // Bit b of the magnitude at a place.
@@ -91,7 +92,7 @@ fn pixel(
     if mark == 1 {
         return coefficient(coefs, marks, out, all, budget, n, b, place);
     }
-    let next = place + crate::marks::skip(mark);
+    let next = place + marking::skip(mark);
     Step::Go(n, next)
 }
 
@@ -118,7 +119,7 @@ fn refine(
         return Step::Go(n + 1, place + 1);
     }
     if 3 < mark {
-        let next = place + crate::marks::skip(mark);
+        let next = place + marking::skip(mark);
         return Step::Go(n, next);
     }
     if mark == 2 {
@@ -151,7 +152,7 @@ fn test_desc(
     if !x {
         return Step::Go(n + 1, place + 4);
     }
-    crate::marks::split_desc(marks, all, place);
+    marking::split_desc(marks, place);
     Step::Go(n + 1, place)
 }
 
@@ -178,7 +179,7 @@ fn test_grand(
     if !x {
         return Step::Go(n + 1, place + 16);
     }
-    crate::marks::split_grand(marks, all, place);
+    marking::split_grand(marks, place);
     Step::Go(n + 1, place)
 }
 
@@ -208,7 +209,7 @@ fn sets(
     if mark == 6 {
         return test_grand(grand, marks, out, all, budget, n, b, place);
     }
-    let next = place + crate::marks::set_skip(mark);
+    let next = place + marking::set_skip(mark);
     Step::Go(n, next)
 }
 

@@ -6,8 +6,10 @@ use lib.IntN.{pos}
 use lib.ListN.{length, replicate}
 use Rattle.sizes.specs.Sizes.{allOf, coarsestOf}
 use Rattle.bits.specs.Bits.{bitsOf}
+use Rattle.nls.specs.Marks.{startMarks}
 use Rattle.nls.specs.Judging.{taken, Judged}
 use Rattle.nls.proofs.Verdicts.{verdict}
+use Rattle.marking.proofs.Laws.{start-so}
 use Rattle.room.proofs.Laws.{sizes-near}
 use Rattle.coder.specs.Body.{tables}
 use Rattle.coder.proofs.DecodeLaws.{Took, Ends, ends, bits-most, judged-taken, refused-12, refused-13, left-in, not-below, in-range, power-one, accepted}
@@ -27,10 +29,15 @@ coarsest-of-requires : tie.Need-coarsest-of-requires
 coarsest-of-requires c κs = search needs
 
 start-requires : tie.Need-start-requires
-start-requires c κs =
-    let start = c .before .before .before .before .before .before in
-    let s = sizes-near (start .args .n) (start .args .l) (c .before .before .all-of .result) (c .before .coarsest-of .result) (all-so (c .before .before)) (coarsest-so (c .before)) (start .pre .0 .side) (start .pre .0 .levels) in
-    (start .pre .0 .marksSize ∙ sym (all-so (c .before .before)), s .0, s .1, s .2, s .3)
+start-requires c κs = search needs
+
+-- the table before the first bit
+begun : (c : tie.After-start) → c .start .last .0 ≡ startMarks (c .before .before .before .all-of .result) (c .before .before .coarsest-of .result)
+begun c =
+    let start = c .before .before .before .before .before .before .before in
+    let e = all-so (c .before .before .before) in
+    let s = sizes-near (start .args .n) (start .args .l) (c .before .before .before .all-of .result) (c .before .before .coarsest-of .result) e (coarsest-so (c .before .before)) (start .pre .0 .side) (start .pre .0 .levels) in
+    start-so _ _ (start .args .marks .now) _ (c .start .ensures) (start .pre .0 .marksSize ∙ sym e) (s .0) (s .1) (s .2) (s .3)
 
 clear-requires : tie.Need-clear-requires
 clear-requires c κs = search needs
@@ -64,7 +71,7 @@ ended c =
     let r = c .scan .result in
     ends (a .n) (a .l) (a .p) (length (a .values .now)) (length (a .precisions .now)) (length (a .marks .now)) (start .pre .0) (a .body .now) (a .usable) (r .bits) (r .left) (r .bad) (c .scan .last .1 .0) (c .scan .last .1 .1 .0) (c .scan .last .1 .1 .1 .0)
     (c .before .before .before .before .before .before .before .before .before .before .before .before .before .start .last .0) (c .before .before .before .before .before .before .before .before .before .clear .last .0) (c .before .before .before .before .before .before .fill .last .0) (c .before .before .before .before .before .before .before .before .before .before .before .before .before .before .before .before .all-of .result) (c .before .before .before .before .before .before .before .before .before .before .before .before .before .before .before .coarsest-of .result)
-    (all-so (c .before .before .before .before .before .before .before .before .before .before .before .before .before .before .before .before)) (coarsest-so (c .before .before .before .before .before .before .before .before .before .before .before .before .before .before .before)) (c .before .before .before .before .before .before .before .before .before .before .before .before .before .start .ensures)
+    (all-so (c .before .before .before .before .before .before .before .before .before .before .before .before .before .before .before .before)) (coarsest-so (c .before .before .before .before .before .before .before .before .before .before .before .before .before .before .before)) (begun (c .before .before .before .before .before .before .before .before .before .before .before .before .before))
     (c .before .before .before .before .before .before .before .before .before .clear .ensures ∙ ap (λ (k : ℕ). replicate k (pos 0)) (start .pre .0 .valuesSize))
     (c .before .before .before .before .before .before .fill .ensures ∙ ap (λ (k : ℕ). replicate k (a .p)) (start .pre .0 .precisionsSize))
     (c .scan .ensures)

@@ -8,7 +8,9 @@ use Rattle.sizes.specs.Sizes.{mostPlanes, allOf, coarsestOf}
 use Rattle.bits.specs.Bits.{bytesFor, packed}
 use Rattle.coef.specs.Coef.{planesOf}
 use Rattle.tree.specs.Summaries.{descTable, grandTable}
+use Rattle.nls.specs.Marks.{startMarks}
 use Rattle.nls.specs.Stream.{worstBody}
+use Rattle.marking.proofs.Laws.{start-so}
 use Rattle.room.proofs.Laws.{sizes-near, most-so}
 use Rattle.coder.specs.Body.{sentBits, sentMarks}
 use Rattle.coder.proofs.EncodeLaws.{sent-most, planes-so, filled, room-so, tables-so, written}
@@ -31,11 +33,15 @@ coarsest-of-requires : tie.Need-coarsest-of-requires
 coarsest-of-requires c κs = search needs
 
 start-requires : tie.Need-start-requires
-start-requires c κs =
-    let start = c .before .before .before .before .before .before .before .before .before .before .before .before .before .before in
-    let a = start .args in
-    let s = sizes-near (a .n) (a .l) (c .before .before .all-of .result) (c .coarsest-of .result) (all-so (c .before .before)) (coarsest-so c) (start .pre .0 .side) (start .pre .0 .levels) in
-    (start .pre .1 ∙ sym (all-so (c .before .before)), s .0, s .1, s .2, s .3)
+start-requires c κs = search needs
+
+-- the table before the first bit
+begun : (c : tie.After-start) → c .start .last .0 ≡ startMarks (c .before .before .before .all-of .result) (c .before .coarsest-of .result)
+begun c =
+    let start = c .before .before .before .before .before .before .before .before .before .before .before .before .before .before .before in
+    let e = all-so (c .before .before .before) in
+    let s = sizes-near (start .args .n) (start .args .l) (c .before .before .before .all-of .result) (c .before .coarsest-of .result) e (coarsest-so (c .before)) (start .pre .0 .side) (start .pre .0 .levels) in
+    start-so _ _ (start .args .marks .now) _ (c .start .ensures) (start .pre .1 ∙ sym e) (s .0) (s .1) (s .2) (s .3)
 
 planes-requires : tie.Need-planes-requires
 planes-requires c κs = search needs
@@ -98,7 +104,7 @@ scan-so c =
     written (a .n) (a .l) (a .coefs .now) (length (a .desc .now)) (length (a .grand .now)) (length (a .out .now)) (a .budget) (start .pre .0)
     (a .desc .now) (a .grand .now) _ _ (desc-so (c .before .before .before .before .before .before .before .before .before .before .before .before .before .before .before .before .before)) (grand-so (c .before .before .before .before .before .before .before .before .before .before .before .before .before .before .before .before .before))
     (c .before .before .before .before .before .before .before .before .before .start .last .0) (a .out .now) (c .scan .last .1 .1 .1 .0) (c .scan .last .1 .1 .1 .1 .0) (c .scan .result) (c .before .before .before .before .before .before .planes .result) (c .before .before .before .before .before .most-bits .result) (c .before .before .before .before .before .before .before .before .before .before .before .before .all-of .result) (c .before .before .before .before .before .before .before .before .before .before .coarsest-of .result)
-    refl ep (all-so (c .before .before .before .before .before .before .before .before .before .before .before .before)) (coarsest-so (c .before .before .before .before .before .before .before .before .before .before)) (cap-so (c .before .before .before .before .before)) (c .before .before .before .before .before .before .before .before .before .start .ensures) (c .scan .ensures)
+    refl ep (all-so (c .before .before .before .before .before .before .before .before .before .before .before .before)) (coarsest-so (c .before .before .before .before .before .before .before .before .before .before)) (cap-so (c .before .before .before .before .before)) (begun (c .before .before .before .before .before .before .before .before .before)) (c .scan .ensures)
 
 cast-count : tie.Need-cast-count
 cast-count c =

@@ -1,13 +1,13 @@
 use native.Mathlib.Omega.{arith}
 use lib.ListN.{getD}
-use Rattle.coder.proofs.MarkLaws.{skip-in}
+use Rattle.marking.proofs.Laws.{skip-in}
 use Rattle.coder.proofs.ReadLaws.{pixel-own, pixel-skip}
 use borrow.Author.Needs.{needs}
 use Rattle.coder.proofs.reading.pixel.Statement.{statement}
 use Rattle.coder.proofs.reading.pixel.Tie as tie
 use Rattle.coder.proofs.reading.pixel.Reads as reads
 use Rattle.coder.proofs.reading.pixel.Lts as lts
-use Rattle.coder.proofs.marks.skip.Reads as skip-reads
+use Rattle.marking.proofs.skip.Reads as skip-reads
 use Rattle.coder.proofs.reading.coefficient.Reads as coefficient-reads
 
 slice-read-mark : tie.Need-slice-read-mark

@@ -1,6 +1,6 @@
 use native.Mathlib.Omega.{arith}
 use lib.ListN.{getD}
-use Rattle.coder.proofs.MarkLaws.{skip-in}
+use Rattle.marking.proofs.Laws.{skip-in}
 use Rattle.coder.proofs.ReadLaws.{told-bit, told-none, refine-none, refine-own, refine-new, refine-skip, refine-small}
 use borrow.Author.Needs.{needs}
 use Rattle.coder.proofs.reading.refine.Statement.{statement}

@@ -1,13 +1,13 @@
 use native.Mathlib.Omega.{arith}
 use lib.ListN.{getD}
-use Rattle.coder.proofs.MarkLaws.{set-skip-in}
+use Rattle.marking.proofs.Laws.{set-skip-in}
 use Rattle.coder.proofs.ReadLaws.{set-one, set-desc, set-grand, set-skip}
 use borrow.Author.Needs.{needs}
 use Rattle.coder.proofs.reading.sets.Statement.{statement}
 use Rattle.coder.proofs.reading.sets.Tie as tie
 use Rattle.coder.proofs.reading.sets.Reads as reads
 use Rattle.coder.proofs.reading.sets.Lts as lts
-use Rattle.coder.proofs.marks.set_skip.Reads as set-skip-reads
+use Rattle.marking.proofs.set_skip.Reads as set-skip-reads
 use Rattle.coder.proofs.reading.coefficient.Reads as coefficient-reads
 use Rattle.coder.proofs.reading.test_desc.Reads as test-desc-reads
 use Rattle.coder.proofs.reading.test_grand.Reads as test-grand-reads

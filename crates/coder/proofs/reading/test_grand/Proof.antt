@@ -1,5 +1,6 @@
 use native.Mathlib.Omega.{arith}
 use lib.Dec.{lit≤}
+use Rattle.marking.proofs.Laws.{split-grand-so}
 use Rattle.coder.proofs.ReadLaws.{told-bit, told-none, tested-none, tested-one, tested-bad, tested-zero}
 use borrow.Author.Needs.{needs}
 use Rattle.coder.proofs.reading.test_grand.Statement.{statement}
@@ -23,7 +24,7 @@ same-length c = search needs
 returns : tie.Need-returns
 returns c =
     let b = told-bit (c .before .before .before .before .before .before .before .before .before .before .before .args .body .now) (c .before .before .before .before .before .before .before .before .before .before .before .args .n) (c .before .before .before .before .before .before .before .before .before .before .before .args .usable) (c .before .before .before .before .before .before .before .before .read .ensures) _ (c .before .before .before .before .before .before .x .given .1) in
-    tested-one _ _ _ _ _ _ _ _ _ _ _ _ _ tt _ (b .1) (b .0) _ (c .before .before .before .before .if1 .taken) (c .before .before .split-grand .ensures)
+    tested-one _ _ _ _ _ _ _ _ _ _ _ _ _ tt _ (b .1) (b .0) _ (c .before .before .before .before .if1 .taken) (split-grand-so _ _ (c .before .before .before .before .before .before .before .before .before .before .before .args .marks .now) _ (c .before .before .split-grand .ensures) (c .before .before .before .before .before .before .before .before .before .before .before .pre .1) (c .before .before .before .before .before .before .before .before .before .before .before .pre .2) (c .before .before .before .before .before .before .before .before .before .before .before .pre .0))
 
 grand-clash-requires : tie.Need-grand-clash-requires
 grand-clash-requires c κs = search needs

@@ -1,13 +1,13 @@
 use native.Mathlib.Omega.{arith}
 use lib.ListN.{getD}
-use Rattle.coder.proofs.MarkLaws.{skip-in}
+use Rattle.marking.proofs.Laws.{skip-in}
 use Rattle.coder.proofs.WriteLaws.{pixel-own, pixel-skip}
 use borrow.Author.Needs.{needs}
 use Rattle.coder.proofs.writing.pixel.Statement.{statement}
 use Rattle.coder.proofs.writing.pixel.Tie as tie
 use Rattle.coder.proofs.writing.pixel.Reads as reads
 use Rattle.coder.proofs.writing.pixel.Lts as lts
-use Rattle.coder.proofs.marks.skip.Reads as skip-reads
+use Rattle.marking.proofs.skip.Reads as skip-reads
 use Rattle.coder.proofs.writing.coefficient.Reads as coefficient-reads
 
 -- src/writing.rt:60:16

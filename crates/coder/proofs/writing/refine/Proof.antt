@@ -1,13 +1,13 @@
 use native.Mathlib.Omega.{arith}
 use lib.ListN.{getD}
-use Rattle.coder.proofs.MarkLaws.{skip-in}
+use Rattle.marking.proofs.Laws.{skip-in}
 use Rattle.coder.proofs.WriteLaws.{refine-none, refine-own, refine-new, refine-far, refine-low}
 use borrow.Author.Needs.{needs}
 use Rattle.coder.proofs.writing.refine.Statement.{statement}
 use Rattle.coder.proofs.writing.refine.Tie as tie
 use Rattle.coder.proofs.writing.refine.Reads as reads
 use Rattle.coder.proofs.writing.refine.Lts as lts
-use Rattle.coder.proofs.marks.skip.Reads as skip-reads
+use Rattle.marking.proofs.skip.Reads as skip-reads
 use Rattle.coder.proofs.writing.bit_at.Reads as bit-at-reads
 use Rattle.coder.proofs.writing.put.Reads as put-reads
 

@@ -1,5 +1,6 @@
 use native.Mathlib.Omega.{arith}
 use borrow.Author.Tests.{not-true, not-false}
+use Rattle.marking.proofs.Laws.{split-grand-so}
 use Rattle.coder.proofs.WriteLaws.{tested-none, tested-zero, tested-one}
 use borrow.Author.Needs.{needs}
 use Rattle.coder.proofs.writing.test_grand.Statement.{statement}
@@ -8,7 +9,7 @@ use Rattle.coder.proofs.writing.test_grand.Reads as reads
 use Rattle.coder.proofs.writing.test_grand.Lts as lts
 use Rattle.bits.proofs.bit_of.Reads as bit-of-reads
 use Rattle.coder.proofs.writing.put.Reads as put-reads
-use Rattle.coder.proofs.marks.split_grand.Reads as split-grand-reads
+use Rattle.marking.proofs.split_grand.Reads as split-grand-reads
 
 -- src/writing.rt:141:9
 returns : tie.Need-returns
@@ -64,7 +65,7 @@ same-length-3 c = search needs
 
 -- src/writing.rt:127:1
 returns-3 : tie.Need-returns-3
-returns-3 c = tested-one _ _ _ _ _ _ _ _ _ _ _ _ _ (c .before .before .before .before .before .before .before .before .before .bit-of .ensures) (c .before .before .before .before .before .before .before .before .before .before .before .if1 .left) _ (c .before .before .before .before .before .before .before .put .ensures) _ (not-false _ (c .before .before .before .before .if2 .left)) (c .before .before .split-grand .ensures)
+returns-3 c = tested-one _ _ _ _ _ _ _ _ _ _ _ _ _ (c .before .before .before .before .before .before .before .before .before .bit-of .ensures) (c .before .before .before .before .before .before .before .before .before .before .before .if1 .left) _ (c .before .before .before .before .before .before .before .put .ensures) _ (not-false _ (c .before .before .before .before .if2 .left)) (split-grand-so _ _ (c .before .before .before .before .before .before .before .before .before .before .before .before .before .before .before .args .marks .now) _ (c .before .before .split-grand .ensures) (c .before .before .before .before .before .before .before .before .before .before .before .before .before .before .before .pre .1) (c .before .before .before .before .before .before .before .before .before .before .before .before .before .before .before .pre .2) (c .before .before .before .before .before .before .before .before .before .before .before .before .before .before .before .pre .0))
 
 pub test-grand-spec : {M : Type 1} → statement M
 test-grand-spec =

@@ -1,0 +1,188 @@
+// The table of marks: skips, splits, and the table before the first bit.
+ghost use mathlib.Core.Path.{_≡_};
+ghost use mathlib.Core.Bool.{cond};
+ghost use Prim.Native.Nat.{_+_, _*_, _%_, _<_, _≤_};
+ghost use lib.ListN.{length, replicate, set};
+ghost use Rattle.sizes.specs.Sizes.{mostN, allOf};
+ghost use Rattle.nls.specs.Marks.{startMarks};
+ghost use Rattle.marking.specs.Marking.{skipOf, setSkipOf, pushSix, newDesc, descSplit, grandSplit, inTable, startFits};
+
+// How far a mark is skipped in the pixel and the refinement pass.
+pub fn skip(mark: u8) -> usize
+    ensures { λ r. ⌜ r ≡ skipOf mark ⌝ }
+{
+    if mark < 5 {
+        return 1;
+    }
+    match mark {
+        5 => 4,
+        6 => 16,
+        7 => 16,
+        8 => 64,
+        9 => 256,
+        10 => 1024,
+        11 => 4096,
+        12 => 16384,
+        _ => 1,
+    }
+}
+
+// How far a mark is skipped in the set pass.
+pub fn set_skip(mark: u8) -> usize
+    ensures { λ r. ⌜ r ≡ setSkipOf mark ⌝ }
+{
+    if mark < 5 {
+        return 4;
+    }
+    skip(mark)
+}
+
+// Every entry becomes v.
+pub fn fill(dst: &mut [u8], v: u8)
+    ensures { λ _. ⌜ now (dst .exit) ≡ replicate (length (now (dst .entry))) v ⌝ }
+{
+    for i in 0..dst.len() {
+        dst[i] = v;
+    }
+}
+
+// A mark; past the end nothing is written.
+fn store(marks: &mut [u8], place: usize, code: u8)
+    ensures { λ _. ⌜ now (marks .exit) ≡ set (now (marks .entry)) place code ⌝ }
+{
+    if place < marks.len() {
+        marks[place] = code;
+    }
+}
+
+// The places 4i, 16i and so on get their marks, only while the place is below I.
+fn push(marks: &mut [u8], all: usize, place: usize)
+    requires { ⌜ (length (now marks) ≡ all) × (all ≤ allOf mostN) × (place < 2 * allOf mostN) ⌝ }
+    ensures { λ _. ⌜ now (marks .exit) ≡ pushSix all place (now (marks .entry)) ⌝ }
+{
+    let mut at = 4 * place;
+    for k in 7u8..13 {
+        if all <= at {
+            break;
+        }
+        marks[at] = k;
+        at = 4 * at;
+    }
+}
+
+// Whether a table of this many marks may be split at this place.
+fn in_table(all: usize, place: usize) -> bool
+    ensures { λ r. ⌜ r ≡ inTable all place ⌝ }
+{
+    if all <= sizes::all_of(sizes::MOST_N) {
+        return place < all;
+    }
+    false
+}
+
+// Four coefficients by themselves; past the end nothing is written. Where all four are in the table one test does.
+fn four_alone(marks: &mut [u8], place: usize)
+    requires { ⌜ place < allOf mostN ⌝ }
+    ensures { λ _. ⌜ now (marks .exit) ≡ set (set (set (set (now (marks .entry)) place 4) (place + 1) 4) (place + 2) 4) (place + 3) 4 ⌝ }
+{
+    if place + 3 < marks.len() {
+        marks[place] = 4;
+        marks[place + 1] = 4;
+        marks[place + 2] = 4;
+        marks[place + 3] = 4;
+        return;
+    }
+    store(marks, place, 4);
+    store(marks, place + 1, 4);
+    store(marks, place + 2, 4);
+    store(marks, place + 3, 4);
+}
+
+// DESC is split: four coefficients by themselves, and the GRAND below them, if there is one.
+fn open_desc(marks: &mut [u8], all: usize, place: usize)
+    requires { ⌜ (length (now marks) ≡ all) × (all ≤ allOf mostN) × (place < allOf mostN) ⌝ }
+    ensures { λ _. ⌜ now (marks .exit) ≡ descSplit all place (now (marks .entry)) ⌝ }
+{
+    four_alone(marks, place);
+    if 4 * place < all {
+        marks[4 * place] = 6;
+    }
+}
+
+// The same; a table that is too large, or that has no such place, stays as it is.
+pub fn split_desc(marks: &mut [u8], place: usize)
+    ensures { λ _. ⌜ now (marks .exit) ≡ cond (inTable (length (now (marks .entry))) place) (descSplit (length (now (marks .entry))) place (now (marks .entry))) (now (marks .entry)) ⌝ }
+{
+    let all = marks.len();
+    if in_table(all, place) {
+        open_desc(marks, all, place);
+    }
+}
+
+// A DESC, pushed.
+fn new_desc(marks: &mut [u8], all: usize, place: usize)
+    requires { ⌜ (length (now marks) ≡ all) × (all ≤ allOf mostN) × (place < 2 * allOf mostN) ⌝ }
+    ensures { λ _. ⌜ now (marks .exit) ≡ newDesc all place (now (marks .entry)) ⌝ }
+{
+    store(marks, place, 5);
+    push(marks, all, place);
+}
+
+// GRAND is split: four DESC, each pushed.
+fn open_grand(marks: &mut [u8], all: usize, place: usize)
+    requires { ⌜ (length (now marks) ≡ all) × (all ≤ allOf mostN) × (place < allOf mostN) ⌝ }
+    ensures { λ _. ⌜ now (marks .exit) ≡ grandSplit all place (now (marks .entry)) ⌝ }
+{
+    new_desc(marks, all, place);
+    new_desc(marks, all, place + 4);
+    new_desc(marks, all, place + 8);
+    new_desc(marks, all, place + 12);
+}
+
+// The same, under the same conditions.
+pub fn split_grand(marks: &mut [u8], place: usize)
+    ensures { λ _. ⌜ now (marks .exit) ≡ cond (inTable (length (now (marks .entry))) place) (grandSplit (length (now (marks .entry))) place (now (marks .entry))) (now (marks .entry)) ⌝ }
+{
+    let all = marks.len();
+    if in_table(all, place) {
+        open_grand(marks, all, place);
+    }
+}
+
+// Whether a table of this many marks can begin with a coarsest band of this size.
+fn start_fits(all: usize, coarsest: usize) -> bool
+    ensures { λ r. ⌜ r ≡ startFits all coarsest ⌝ }
+{
+    if sizes::all_of(sizes::MOST_N) < all {
+        return false;
+    }
+    if coarsest < 4 {
+        return false;
+    }
+    if all / 4 < coarsest {
+        return false;
+    }
+    coarsest % 4 == 0
+}
+
+// The table before the first bit.
+fn begin(marks: &mut [u8], all: usize, coarsest: usize)
+    requires { ⌜ (length (now marks) ≡ all) × (all ≤ allOf mostN) × (4 ≤ coarsest) × (4 * coarsest ≤ all) × (coarsest % 4 ≡ 0) ⌝ }
+    ensures { λ _. ⌜ now (marks .exit) ≡ startMarks all coarsest ⌝ }
+{
+    fill(marks, 0);
+    fill(&mut marks[..coarsest], 1);
+    for j in coarsest / 4..coarsest {
+        new_desc(marks, all, 4 * j);
+    }
+}
+
+// The same; a table that can't begin so stays as it is.
+pub fn start(marks: &mut [u8], coarsest: usize)
+    ensures { λ _. ⌜ now (marks .exit) ≡ cond (startFits (length (now (marks .entry))) coarsest) (startMarks (length (now (marks .entry))) coarsest) (now (marks .entry)) ⌝ }
+{
+    let all = marks.len();
+    if start_fits(all, coarsest) {
+        begin(marks, all, coarsest);
+    }
+}
