@@ -28,14 +28,15 @@ use Rattle.nls.proofs.Verdicts.{judged-only}
 use Rattle.room.specs.Room.{encodeChecks, decodeChecks, usableBits}
 use Rattle.room.specs.Ready.{EncodeReady}
 use Rattle.room.proofs.Laws.{encode-ready, decode-well}
-use Rattle.coder.specs.Body.{sentBits, encodeAnswer, encodeEnd, sentMarks, outputAfter, decodeAnswer, Tables, tables, ownTables, over, Decoded, DecodesTo}
-use Rattle.coder.specs.declared.body.Written.{Written}
-use Rattle.coder.specs.declared.body.EncodeAnswer.{EncodeAnswer}
-use Rattle.coder.specs.declared.body.EncodeAnswer.the-variants as encode
-use Rattle.coder.specs.declared.body.ReadTo.{ReadTo}
-use Rattle.coder.specs.declared.body.DecodeAnswer.{DecodeAnswer}
-use Rattle.coder.specs.declared.body.DecodeAnswer.the-variants as decode
-use Rattle.coder.proofs.EncodeLaws.{planes-so}
+use Rattle.encoder.specs.Body.{sentBits, encodeAnswer, encodeEnd, sentMarks, outputAfter}
+use Rattle.decoder.specs.Body.{decodeAnswer, Tables, tables, ownTables, over, Decoded, DecodesTo}
+use Rattle.encoder.specs.declared.body.Written.{Written}
+use Rattle.encoder.specs.declared.body.EncodeAnswer.{EncodeAnswer}
+use Rattle.encoder.specs.declared.body.EncodeAnswer.the-variants as encode
+use Rattle.decoder.specs.declared.body.ReadTo.{ReadTo}
+use Rattle.decoder.specs.declared.body.DecodeAnswer.{DecodeAnswer}
+use Rattle.decoder.specs.declared.body.DecodeAnswer.the-variants as decode
+use Rattle.encoder.proofs.EncodeLaws.{planes-so}
 
 -- ---- a call of `decode` whose checks hold
 

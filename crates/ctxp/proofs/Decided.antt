@@ -16,8 +16,8 @@ use Rattle.sizes.specs.Sizes.{Sized}
 use Rattle.nls.specs.Judging.{Verdict}
 use Rattle.nls.proofs.Verdicts.{judged-only}
 use Rattle.room.specs.Room.{usableBits}
-use Rattle.coder.specs.Body.{Tables, tables}
-use Rattle.coder.proofs.Decided.{decodes-one}
+use Rattle.decoder.specs.Body.{Tables, tables}
+use Rattle.decoder.proofs.Decided.{decodes-one}
 use Rattle.txp.specs.declared.Header.{Header}
 use Rattle.txp.specs.declared.DecodeAnswer.{DecodeAnswer}
 use Rattle.txp.specs.Header.{headerOf}

@@ -11,9 +11,9 @@ use Rattle.refusals.specs.declared.Outcome.{Outcome}
 use Rattle.refusals.specs.declared.Outcome.the-variants.{Done, Refused}
 use Rattle.sizes.specs.Sizes.{sideFits, levelsFit, allOf, coarsestOf}
 use Rattle.sizes.proofs.Laws.{side-most, all-most, both-left}
-use Rattle.coder.specs.Body as body
-use Rattle.coder.specs.declared.body.EncodeAnswer as sent
-use Rattle.coder.proofs.EncodeLaws.{sent-most}
+use Rattle.encoder.specs.Body as body
+use Rattle.encoder.specs.declared.body.EncodeAnswer as sent
+use Rattle.encoder.proofs.EncodeLaws.{sent-most}
 use Rattle.places.specs.Answers.{rasterIf, linearIf}
 use Rattle.places.specs.declared.Raster.{Raster}
 use Rattle.places.specs.declared.Linear.{Linear}

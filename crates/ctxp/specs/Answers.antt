@@ -25,10 +25,10 @@ use Rattle.figures.specs.declared.FiguresAnswer.{FiguresAnswer}
 use Rattle.figures.specs.declared.FiguresAnswer.the-variants as figures
 use Rattle.room.specs.declared.WorstAnswer.{WorstAnswer}
 use Rattle.room.specs.declared.WorstAnswer.the-variants as worsts
-use Rattle.coder.specs.declared.body.EncodeAnswer as body
-use Rattle.coder.specs.declared.body.EncodeAnswer.the-variants as writtens
-use Rattle.coder.specs.declared.body.DecodeAnswer as cut
-use Rattle.coder.specs.declared.body.DecodeAnswer.the-variants as reads
+use Rattle.encoder.specs.declared.body.EncodeAnswer as body
+use Rattle.encoder.specs.declared.body.EncodeAnswer.the-variants as writtens
+use Rattle.decoder.specs.declared.body.DecodeAnswer as cut
+use Rattle.decoder.specs.declared.body.DecodeAnswer.the-variants as reads
 use Rattle.txp.specs.declared.EncodeAnswer.{EncodeAnswer}
 use Rattle.txp.specs.declared.EncodeAnswer.the-variants as encodeds
 use Rattle.txp.specs.declared.DecodeAnswer.{DecodeAnswer}

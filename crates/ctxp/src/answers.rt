@@ -158,11 +158,11 @@ pub(crate) fn of_worst(w: room::WorstAnswer) -> Answer
     }
 }
 
-pub(crate) fn of_written(e: coder::EncodeAnswer) -> Answer
+pub(crate) fn of_written(e: encoder::EncodeAnswer) -> Answer
     ensures { λ r. ⌜ r ≡ written e ⌝ }
 {
     match e {
-        coder::EncodeAnswer::Done(w) => {
+        encoder::EncodeAnswer::Done(w) => {
             let mut a = nothing();
             let planes = w.planes;
             let bits = w.bits;
@@ -170,15 +170,15 @@ pub(crate) fn of_written(e: coder::EncodeAnswer) -> Answer
             a.bits = bits;
             a
         }
-        coder::EncodeAnswer::Refused(why) => refused(why),
+        encoder::EncodeAnswer::Refused(why) => refused(why),
     }
 }
 
-pub(crate) fn of_read(d: coder::DecodeAnswer) -> Answer
+pub(crate) fn of_read(d: decoder::DecodeAnswer) -> Answer
     ensures { λ r. ⌜ r ≡ read d ⌝ }
 {
     match d {
-        coder::DecodeAnswer::Done(to) => {
+        decoder::DecodeAnswer::Done(to) => {
             let mut a = nothing();
             let bits = to.used;
             let finished = to.finished;
@@ -188,7 +188,7 @@ pub(crate) fn of_read(d: coder::DecodeAnswer) -> Answer
             a.error = error;
             a
         }
-        coder::DecodeAnswer::Refused(why) => refused(why),
+        decoder::DecodeAnswer::Refused(why) => refused(why),
     }
 }
 

@@ -16,8 +16,9 @@ ghost use Rattle.coef.specs.Coef as coefficient;
 ghost use Rattle.tree.specs.Summaries.{summaryChecks, descTable, grandTable};
 ghost use Rattle.figures.specs.Figures.{figuresOf, figuresChecks, answered};
 ghost use Rattle.room.specs.Room as room;
-ghost use Rattle.coder.specs.Body as body;
-ghost use Rattle.coder.specs.Body.{sentBits, sentMarks, tables};
+ghost use Rattle.encoder.specs.Body as body;
+ghost use Rattle.encoder.specs.Body.{sentBits, sentMarks};
+ghost use Rattle.decoder.specs.Body.{tables};
 ghost use Rattle.txp.specs.File.{fileOf};
 ghost use Rattle.txp.specs.Calls.{encodeChecks, encodeAnswer};
 ghost use Rattle.ctxp.specs.Answers.{value, planes, outcome, encoded, worst, written, figured, linearly, rasterly, parted, joined, floated, next, Answers, nothing};
@@ -94,7 +95,7 @@ pub extern "C" fn txp_encode_body(
     ensures marked { λ r. ⌜ now (marks .exit) ≡ lentAfter (firstOf (room.encodeChecks n l (now (coefs .entry)) (length (now (desc .entry))) (length (now (grand .entry))) (length (now (marks .entry))) (length (now (out .entry))) offset budget)) (sentMarks n l (now (coefs .entry)) budget) (now (marks .entry)) ⌝ }
     ensures written { λ r. ⌜ now (out .exit) ≡ body.outputAfter (firstOf (room.encodeChecks n l (now (coefs .entry)) (length (now (desc .entry))) (length (now (grand .entry))) (length (now (marks .entry))) (length (now (out .entry))) offset budget)) offset (packed (sentBits n l (now (coefs .entry)) budget)) (now (out .entry)) ⌝ }
 {
-    let done = coder::encode(n, l, coefs, desc, grand, marks, out, offset, budget);
+    let done = encoder::encode(n, l, coefs, desc, grand, marks, out, offset, budget);
     put(answer, answers::of_written(done))
 }
 
@@ -113,7 +114,7 @@ pub extern "C" fn txp_decode_body(
 ) -> u32
     ensures { λ r. ⌜ BodyDecoded n l p usable (now (body .entry)) (tables (now (values .entry)) (now (precisions .entry)) (now (marks .entry))) r (now (answer .exit)) (tables (now (values .exit)) (now (precisions .exit)) (now (marks .exit))) ⌝ }
 {
-    let done = coder::decode(n, l, p, body, usable, values, precisions, marks);
+    let done = decoder::decode(n, l, p, body, usable, values, precisions, marks);
     put(answer, answers::of_read(done))
 }
 

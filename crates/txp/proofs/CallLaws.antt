@@ -21,12 +21,14 @@ use Rattle.nls.specs.Judging.{Verdict, taken, contradiction, beyond}
 use Rattle.room.specs.Room as room
 use Rattle.room.specs.Ready.{EncodeReady}
 use Rattle.room.proofs.Laws.{encode-ready}
-use Rattle.coder.specs.Body as body
-use Rattle.coder.specs.Body.{sentBits, outputAfter, Tables}
-use Rattle.coder.specs.declared.body.Written.{Written}
-use Rattle.coder.specs.declared.body.EncodeAnswer as written
-use Rattle.coder.specs.declared.body.EncodeAnswer.the-variants as wrote
-use Rattle.coder.specs.declared.body.DecodeAnswer as answer
+use Rattle.encoder.specs.Body as body
+use Rattle.decoder.specs.Body as cutBody
+use Rattle.encoder.specs.Body.{sentBits, outputAfter}
+use Rattle.decoder.specs.Body.{Tables}
+use Rattle.encoder.specs.declared.body.Written.{Written}
+use Rattle.encoder.specs.declared.body.EncodeAnswer as written
+use Rattle.encoder.specs.declared.body.EncodeAnswer.the-variants as wrote
+use Rattle.decoder.specs.declared.body.DecodeAnswer as answer
 use Rattle.txp.specs.declared.Header.{Header}
 use Rattle.txp.specs.declared.EncodeAnswer.the-variants as encode
 use Rattle.txp.specs.declared.DecodeAnswer.the-variants as decode
@@ -115,7 +117,7 @@ module _ (N L : ℕ) (A : List ℤ) (descs grands marks budget : ℕ) (held : Li
 -- ---- decoding
 
 -- the answer on a body under its header, by the verdict
-with-verdict : (h : Header) (u : List Bool) (v : Verdict) → withHeader h (body.decodeAnswer (h .n) (h .l) (h .p) u v) ≡ decodeAnswer h u v
+with-verdict : (h : Header) (u : List Bool) (v : Verdict) → withHeader h (cutBody.decodeAnswer (h .n) (h .l) (h .p) u v) ≡ decodeAnswer h u v
 with-verdict h u taken = refl
 with-verdict h u (contradiction bit) = refl
 with-verdict h u (beyond bit) = refl
@@ -145,14 +147,14 @@ module _ (file : List ℕ) (values precisions marks : ℕ) (r : Outcome) (is : r
         (all .1 .1 .0, (all .1 .1 .1 .0, (all .1 .1 .1 .1 .0, (all .1 .1 .1 .1 .1 .1 .1 .0, tt))))
 
     pub file-decoded : (h : Header) (part : List ℕ) (held left : Tables) (b : answer.DecodeAnswer) → h ≡ headerOf file → part ≡ bodyOf file
-        → body.DecodesTo (firstOf (room.decodeChecks (h .n) (h .l) (h .p) values precisions marks)) (h .n) (h .l) (h .p) (room.usableBits (h .declared) part) held b left
+        → cutBody.DecodesTo (firstOf (room.decodeChecks (h .n) (h .l) (h .p) values precisions marks)) (h .n) (h .l) (h .p) (room.usableBits (h .declared) part) held b left
         → DecodesTo (firstOf (decodeChecks file values precisions marks)) (headerOf file) (usableBits file) held (withHeader h b) left
     file-decoded h part held left b eh ep d =
         let moved =
-        subst (λ (x : Header). body.DecodesTo (firstOf (room.decodeChecks (x .n) (x .l) (x .p) values precisions marks)) (x .n) (x .l) (x .p) (room.usableBits (x .declared) (bodyOf file)) held b left) eh
-        (subst (λ (s : List ℕ). body.DecodesTo (firstOf (room.decodeChecks (h .n) (h .l) (h .p) values precisions marks)) (h .n) (h .l) (h .p) (room.usableBits (h .declared) s) held b left) ep d) in
-        let got : body.Decoded (headerOf file .n) (headerOf file .l) (headerOf file .p) (usableBits file) held b left =
-        subst (λ (o : Outcome). body.DecodesTo o (headerOf file .n) (headerOf file .l) (headerOf file .p) (usableBits file) held b left) body-passes moved in
+        subst (λ (x : Header). cutBody.DecodesTo (firstOf (room.decodeChecks (x .n) (x .l) (x .p) values precisions marks)) (x .n) (x .l) (x .p) (room.usableBits (x .declared) (bodyOf file)) held b left) eh
+        (subst (λ (s : List ℕ). cutBody.DecodesTo (firstOf (room.decodeChecks (h .n) (h .l) (h .p) values precisions marks)) (h .n) (h .l) (h .p) (room.usableBits (h .declared) s) held b left) ep d) in
+        let got : cutBody.Decoded (headerOf file .n) (headerOf file .l) (headerOf file .p) (usableBits file) held b left =
+        subst (λ (o : Outcome). cutBody.DecodesTo o (headerOf file .n) (headerOf file .l) (headerOf file .p) (usableBits file) held b left) body-passes moved in
         let answered : withHeader h b ≡ decodeAnswer (headerOf file) (usableBits file) (got .verdict) =
         ap (λ (x : Header). withHeader x b) eh ∙ ap (λ (x : answer.DecodeAnswer). withHeader (headerOf file) x) (got .answered) ∙ with-verdict (headerOf file) (usableBits file) (got .verdict) in
         subst (λ (o : Outcome). DecodesTo o (headerOf file) (usableBits file) held (withHeader h b) left) (sym done ∙ is)

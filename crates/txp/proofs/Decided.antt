@@ -12,7 +12,7 @@ use Rattle.refusals.proofs.Decided.{OneOutcome}
 use Rattle.sizes.specs.Sizes.{Sized}
 use Rattle.nls.specs.Judging.{Verdict}
 use Rattle.nls.proofs.Verdicts.{judged-only}
-use Rattle.coder.specs.Body.{Tables, tables}
+use Rattle.decoder.specs.Body.{Tables, tables}
 use Rattle.txp.specs.declared.Header.{Header}
 use Rattle.txp.specs.declared.DecodeAnswer.{DecodeAnswer}
 use Rattle.txp.specs.Header.{headerOf}

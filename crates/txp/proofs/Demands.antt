@@ -28,7 +28,8 @@ use Rattle.nls.specs.Judging.{Begins, Fits, Verdict, taken, contradiction, beyo
 use Rattle.nls.proofs.Demands as scan
 use Rattle.room.specs.Ready.{EncodeReady}
 use Rattle.room.proofs.Laws.{encode-ready}
-use Rattle.coder.specs.Body.{sentBits, sentMarks, Tables, tables, ownTables, over}
+use Rattle.encoder.specs.Body.{sentBits, sentMarks}
+use Rattle.decoder.specs.Body.{Tables, tables, ownTables, over}
 use Rattle.txp.specs.declared.Header.{Header}
 use Rattle.txp.specs.declared.Encoded.{Encoded}
 use Rattle.txp.specs.declared.EncodeAnswer.{EncodeAnswer}

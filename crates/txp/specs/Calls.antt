@@ -16,9 +16,10 @@ use Rattle.coef.specs.Coef.{planesOf}
 use Rattle.nls.specs.Reading.{planesFinished, worstError}
 use Rattle.nls.specs.Judging.{Verdict, taken, contradiction, beyond, Judged}
 use Rattle.room.specs.Room as room
-use Rattle.coder.specs.Body.{sentBits, Tables, ownTables, over}
-use Rattle.coder.specs.declared.body.DecodeAnswer as answer
-use Rattle.coder.specs.declared.body.DecodeAnswer.the-variants as read
+use Rattle.encoder.specs.Body.{sentBits}
+use Rattle.decoder.specs.Body.{Tables, ownTables, over}
+use Rattle.decoder.specs.declared.body.DecodeAnswer as answer
+use Rattle.decoder.specs.declared.body.DecodeAnswer.the-variants as read
 use Rattle.txp.specs.declared.Header.{Header}
 use Rattle.txp.specs.declared.EncodeAnswer.{EncodeAnswer}
 use Rattle.txp.specs.declared.EncodeAnswer.the-variants as encode

@@ -7,7 +7,7 @@ use lib.ListN.{length}
 use Rattle.bits.specs.Bits.{packed}
 use Rattle.coef.specs.Coef.{planesOf}
 use Rattle.room.specs.Room as room
-use Rattle.coder.specs.Body.{sentBits}
+use Rattle.encoder.specs.Body.{sentBits}
 use Rattle.txp.specs.declared.Header.{Header}
 use Rattle.txp.specs.Header.{headerBytes, headerOf, bodyOf}
 

@@ -9,7 +9,8 @@ ghost use lib.Seq.{sets};
 ghost use Rattle.refusals.specs.Checks.{firstOf, lentAfter};
 ghost use Rattle.bits.specs.Bits.{bytesFor};
 ghost use Rattle.tree.specs.Summaries.{descTable, grandTable};
-ghost use Rattle.coder.specs.Body.{sentMarks, tables};
+ghost use Rattle.encoder.specs.Body.{sentMarks};
+ghost use Rattle.decoder.specs.Body.{tables};
 ghost use Rattle.txp.specs.File.{fileOf};
 ghost use Rattle.txp.specs.Calls.{encodeChecks, encodeAnswer, encodeEnd, paddingFits, roomIn, restChecks, decodeChecks, withHeader, Decodes};
 ghost use Rattle.txp.specs.Header.{bodyOf, headerSize, headerBytes, twoAt, twoBytes, lettersFit, versionFits, headerOf};
@@ -241,9 +242,9 @@ pub fn encode(
     ensures marked { λ r. ⌜ now (marks .exit) ≡ lentAfter (encodeEnd r) (sentMarks n l (now (coefs .entry)) budget) (now (marks .entry)) ⌝ }
     ensures written { λ r. ⌜ now (out .exit) ≡ lentAfter (encodeEnd r) (fileOf n l (now (coefs .entry)) budget) (now (out .entry)) ⌝ }
 {
-    let body = coder::encode(n, l, coefs, desc, grand, marks, out, HEADER_SIZE, budget);
+    let body = encoder::encode(n, l, coefs, desc, grand, marks, out, HEADER_SIZE, budget);
     match body {
-        coder::EncodeAnswer::Done(written) => {
+        encoder::EncodeAnswer::Done(written) => {
             let h = Header {
                 n,
                 l,
@@ -257,16 +258,16 @@ pub fn encode(
                 bytes: HEADER_SIZE + bytes_for(written.bits),
             })
         }
-        coder::EncodeAnswer::Refused(why) => EncodeAnswer::Refused(why),
+        encoder::EncodeAnswer::Refused(why) => EncodeAnswer::Refused(why),
     }
 }
 
 // The answer on a body under its header.
-fn with_header(h: Header, body: coder::DecodeAnswer) -> DecodeAnswer
+fn with_header(h: Header, body: decoder::DecodeAnswer) -> DecodeAnswer
     ensures { λ r. ⌜ r ≡ withHeader h body ⌝ }
 {
     match body {
-        coder::DecodeAnswer::Done(read) => DecodeAnswer::Done(Decoded {
+        decoder::DecodeAnswer::Done(read) => DecodeAnswer::Done(Decoded {
             n: h.n,
             l: h.l,
             p: h.p,
@@ -275,7 +276,7 @@ fn with_header(h: Header, body: coder::DecodeAnswer) -> DecodeAnswer
             finished: read.finished,
             error: read.error,
         }),
-        coder::DecodeAnswer::Refused(why) => DecodeAnswer::Refused(why),
+        decoder::DecodeAnswer::Refused(why) => DecodeAnswer::Refused(why),
     }
 }
 
@@ -292,7 +293,7 @@ pub fn decode(
     match checked {
         Outcome::Done => {
             let h = header_of(file);
-            let body = coder::decode(
+            let body = decoder::decode(
                 h.n,
                 h.l,
                 h.p,

@@ -4,7 +4,7 @@ use borrow.Author.Needs.{needs}
 use Rattle.txp.specs.Calls.{encodeChecks, encodeEnd}
 use Rattle.refusals.specs.Checks.{firstOf}
 use Rattle.txp.specs.File.{fileOf}
-use Rattle.coder.specs.Body.{sentMarks}
+use Rattle.encoder.specs.Body.{sentMarks}
 use Rattle.tree.specs.Summaries.{descTable, grandTable}
 use Rattle.ctxp.specs.Answers.{encoded}
 use Rattle.ctxp.proofs.Laws.{answers-by, lent-by, file-ends, file-short}

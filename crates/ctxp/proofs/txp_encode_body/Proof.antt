@@ -4,7 +4,7 @@ use borrow.Author.Needs.{needs}
 use Rattle.refusals.specs.Checks.{firstOf}
 use Rattle.bits.specs.Bits.{packed}
 use Rattle.room.specs.Room.{encodeChecks}
-use Rattle.coder.specs.Body.{sentMarks, sentBits, encodeEnd}
+use Rattle.encoder.specs.Body.{sentMarks, sentBits, encodeEnd}
 use Rattle.tree.specs.Summaries.{descTable, grandTable}
 use Rattle.ctxp.specs.Answers.{written}
 use Rattle.ctxp.proofs.Laws.{answers-by, lent-by, body-ends, output-by}

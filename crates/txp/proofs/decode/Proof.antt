@@ -2,7 +2,7 @@ use Prim.Native.Nat.{_-_}
 use native.Mathlib.Omega.{arith}
 use lib.ListN.{length, drop, length-drop}
 use lib.Seq.{take-all}
-use Rattle.coder.specs.Body.{tables}
+use Rattle.decoder.specs.Body.{tables}
 use Rattle.txp.specs.Header.{headerSize}
 use Rattle.txp.proofs.CallLaws.{refused-file, header-stands, file-decoded}
 use borrow.Author.Needs.{needs}

@@ -1,6 +1,6 @@
 use lib.ListN.{length}
 use Rattle.tree.specs.Summaries.{descTable, grandTable}
-use Rattle.coder.specs.Body.{sentMarks}
+use Rattle.encoder.specs.Body.{sentMarks}
 use Rattle.txp.proofs.CallLaws.{table-done, table-refused, refused-answer, output-refused, done-answer, header-fits, file-written}
 use borrow.Author.Needs.{needs}
 use Rattle.txp.proofs.encode.Statement.{statement}

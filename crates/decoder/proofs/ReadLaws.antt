@@ -1,0 +1,322 @@
+-- What each way through a visit of the decoder leaves, from what the code's calls have done.
+use Prim.Native.Nat.{ℕ, suc, _+_, _*_, _-_, _/_, _%_, _^_, _≤_, _<_}
+use mathlib.Core.Path.{_≡_, refl, sym, ap, subst, _∙_}
+use mathlib.Core.Bool.{Bool, true, false, _&&_, cond}
+use mathlib.Core.List.{List, []}
+use native.Mathlib.Decide.{decLt}
+use native.Mathlib.Omega.{arith}
+use borrow.Author.Tests.{eq-eqb, ne-eqb, le-leb, lt-leb}
+use lib.Dec.{leb, eqb}
+use lib.IntN.{ℤ, pos}
+use lib.ListN.{length, set, getD}
+use Rattle.bits.specs.declared.Next.{Next}
+use Rattle.bits.specs.declared.Next.the-variants.{Bit, NoMore}
+use Rattle.bits.specs.Bits.{bitAt}
+use Rattle.view.specs.View.{viewed}
+use Rattle.view.proofs.Laws.{viewed-bit, viewed-within}
+use Rattle.coef.specs.Coef.{at}
+use Rattle.nls.specs.Scan.{Question, bitOf, signOf, inDesc, inGrand, Pass, pixels, sets, refining}
+use Rattle.nls.specs.Reading.{Known}
+use Rattle.walk.specs.Scans.{Seen, halt, refuse, move}
+use Rattle.marking.specs.Marking.{skipOf, setSkipOf, descSplit, grandSplit}
+use Rattle.walk.specs.Visits.{Source, got, Sv, sv, oneSeen, testSeen, pixelsSeen, setsSeen, refiningSeen, visitSeen}
+use Rattle.decoder.specs.Reading.{Read, read, newCode, moreCode, keep, is, childClash, grandClash, lastClash, rootClash, descClash, reader, st, Does}
+use Rattle.decoder.specs.declared.Turn.{Turn}
+use Rattle.decoder.specs.declared.Turn.the-variants.{Stop, Bad, Go}
+use Rattle.marking.proofs.Laws.{skip-low, skip-in, set-skip-in}
+use Rattle.walk.proofs.VisitLaws.{one-none, one-zero, one-bad, one-cut, one-one, test-none, test-zero, test-bad, test-one, pixels-own, pixels-skip, refining-none, refining-own, refining-new, refining-skip, sets-one, sets-desc, sets-grand, sets-skip, visit-pixels, visit-sets, visit-refining}
+
+-- ---- the tests of refusal 12
+
+module _ (m : List ℕ) (p q r code : ℕ) where
+  pub three-1 : (getD m p 0 ≡ code → ⊥) → false ≡ (is m p code && (is m q code && is m r code))
+  three-1 h = rw (ne-eqb (getD m p 0) code h)
+
+  pub three-2 : getD m p 0 ≡ code → (getD m q 0 ≡ code → ⊥) → false ≡ (is m p code && (is m q code && is m r code))
+  three-2 e h = rw (eq-eqb (getD m p 0) code e, ne-eqb (getD m q 0) code h)
+
+  pub three-3 : getD m p 0 ≡ code → getD m q 0 ≡ code → eqb (getD m r 0) code ≡ (is m p code && (is m q code && is m r code))
+  three-3 e f = rw (eq-eqb (getD m p 0) code e, eq-eqb (getD m q 0) code f)
+
+module _ (I t : ℕ) (m : List ℕ) where
+  pub child-1 : (t % 4 ≡ 3 → ⊥) → false ≡ childClash I t m
+  unfolding childClash
+  child-1 h = rw (ne-eqb (t % 4) 3 h)
+
+  pub child-2 : t % 4 ≡ 3 → 16 * (t / 4) < I → false ≡ childClash I t m
+  unfolding childClash
+  child-2 e h = rw (eq-eqb (t % 4) 3 e, lt-leb I (16 * (t / 4)) h)
+
+  pub child-3 : (z : Bool) → t % 4 ≡ 3 → I ≤ 16 * (t / 4) → z ≡ (is m (t - 1) 1 && (is m (t - 2) 1 && is m (t - 3) 1)) → z ≡ childClash I t m
+  unfolding childClash
+  child-3 z e h w = rw (eq-eqb (t % 4) 3 e, le-leb I (16 * (t / 4)) h) w
+
+  pub one-in : (s : Bool) (z : Bool) → s ≡ true → z ≡ childClash I t m → z ≡ (s && childClash I t m)
+  one-in s z e w = rw e w
+
+  pub one-not : (s : Bool) → s ≡ false → false ≡ (s && childClash I t m)
+  one-not s e = rw e
+
+module _ (t : ℕ) (m : List ℕ) where
+  pub grand-1 : (getD m (4 * (t / 16)) 0 ≡ 1 → ⊥) → false ≡ grandClash t m
+  unfolding grandClash
+  grand-1 h = rw (ne-eqb (getD m (4 * (t / 16)) 0) 1 h)
+
+  pub grand-2 : (z : Bool) → getD m (4 * (t / 16)) 0 ≡ 1 → z ≡ (is m (4 * (t / 16) + 1) 1 && (is m (4 * (t / 16) + 2) 1 && is m (4 * (t / 16) + 3) 1)) → z ≡ grandClash t m
+  unfolding grandClash
+  grand-2 z e w = rw (eq-eqb (getD m (4 * (t / 16)) 0) 1 e) w
+
+  pub last-1 : (t / 4 % 4 ≡ 3 → ⊥) → false ≡ lastClash t m
+  unfolding lastClash
+  last-1 h = rw (ne-eqb (t / 4 % 4) 3 h)
+
+  pub last-2 : (z : Bool) → t / 4 % 4 ≡ 3 → z ≡ (is m (4 * (t / 4 - 1)) 5 && (is m (4 * (t / 4 - 2)) 5 && is m (4 * (t / 4 - 3)) 5)) → z ≡ lastClash t m
+  unfolding lastClash
+  last-2 z e w = rw (eq-eqb (t / 4 % 4) 3 e) w
+
+module _ (D P b used t : ℕ) where
+  pub root-1 : (t + 4 ≡ 4 * D → ⊥) → false ≡ rootClash D P b used t
+  unfolding rootClash
+  root-1 h = rw (ne-eqb (t + 4) (4 * D) h)
+
+  pub root-2 : t + 4 ≡ 4 * D → (b + 1 ≡ P → ⊥) → false ≡ rootClash D P b used t
+  unfolding rootClash
+  root-2 e h = rw (eq-eqb (t + 4) (4 * D) e, ne-eqb (suc b) P (λ z. h (omega (arith, z))))
+
+  pub root-3 : t + 4 ≡ 4 * D → b + 1 ≡ P → eqb used (D + 3 * D / 4 - 1) ≡ rootClash D P b used t
+  unfolding rootClash
+  root-3 e f = rw (eq-eqb (t + 4) (4 * D) e, eq-eqb (suc b) P (omega (arith, f)))
+
+  pub desc-1 : (m : List ℕ) (z : Bool) → 4 * D ≤ t → z ≡ lastClash t m → z ≡ descClash D P b used t m
+  unfolding descClash
+  desc-1 m z h w = rw (le-leb (4 * D) t h) w
+
+  pub desc-2 : (m : List ℕ) (z : Bool) → t < 4 * D → z ≡ rootClash D P b used t → z ≡ descClash D P b used t m
+  unfolding descClash
+  desc-2 m z h w = rw (lt-leb (4 * D) t h) w
+
+-- ---- visits
+
+-- ---- what a read through the view tells, where no more bits are usable than there are
+
+module _ (body : List ℕ) (n usable : ℕ) {r : Next} (is : r ≡ viewed body n usable) where
+  pub told-bit : (x : Bool) → r ≡ Bit x → (n < usable) × (x ≡ bitAt body n)
+  told-bit x e =
+      let h = viewed-within body n usable x (sym is ∙ e) in
+      let z : Bit x ≡ Bit (bitAt body n) = sym e ∙ is ∙ viewed-bit body n usable h in
+      (omega (arith, h), cc)
+
+  pub told-none : usable ≤ 8 * length body → r ≡ NoMore → usable ≤ n
+  told-none h e = tell (decLt n usable)
+    where
+      tell : Dec (n < usable) → usable ≤ n
+      tell (yes l) =
+          let z : NoMore ≡ Bit (bitAt body n) = sym e ∙ is ∙ viewed-bit body n usable (omega (arith, h, l)) in
+          let o : _≡_ {A = ℕ} 0 1 = cc in
+          absurd (omega (arith, o))
+      tell (no l) = omega (arith, l)
+
+by-way : (s t : Seen (Sv Read)) (usable place n : ℕ) (r : Turn) (m : List ℕ) (v : List ℤ) (p : List ℕ) → s ≡ t → Does t usable place n r m v p → Does s usable place n r m v p
+by-way s t usable place n r m v p e d = subst (λ (x : Seen (Sv Read)). Does x usable place n r m v p) (sym e) d
+
+-- a coefficient by itself
+module _ (body : List ℕ) (usable I D P b i : ℕ) (bar : Bool) (m : List ℕ) (v : List ℤ) (p : List ℕ) (n : ℕ) where
+  abbrev K : Source Read
+  K = reader body usable I D P
+
+  abbrev One : Turn → List ℕ → List ℤ → List ℕ → Type 0
+  One r m₁ v₁ p₁ = Does (oneSeen (reader body usable I D P) pixels b i bar m (read v p n)) usable i n r m₁ v₁ p₁
+
+  own : (x : Bool) → bitAt body n ≡ x → got K pixels b (bitOf i b) (read v p n) ≡ record { known = keep pixels b (bitOf i b) x (record { bits = v; planes = p }); n = n + 1 }
+  own x e = ap (λ (y : Bool). record { known = keep pixels b (bitOf i b) y (record { bits = v; planes = p }); n = n + 1 }) e
+
+  pub coefficient-none : usable ≤ n → n ≤ usable → One (Stop n i) m v p
+  coefficient-none h l =
+      by-way _ (halt (st m v p n)) usable i n (Stop n i) m v p (one-none K pixels b i bar m (read v p n) h) (record { answered = refl; marked = refl; valued = refl; known = refl; falls = (omega arith, omega arith) })
+
+  module _ (x : Bool) (ex : x ≡ bitAt body n) (h : n < usable) where
+    pub coefficient-cut : x ≡ true → usable ≤ n + 1 → One (Stop (n + 1) i) m v p
+    coefficient-cut e k =
+        by-way _ (halt (st m v p (n + 1))) usable i n (Stop (n + 1) i) m v p (one-cut K pixels b i bar m (read v p n) h (sym ex ∙ e) k ∙ ap (λ (o : Read). halt (sv m o)) (own true (sym ex ∙ e)))
+        (record { answered = refl; marked = refl; valued = refl; known = refl; falls = (omega arith, omega arith) })
+
+    pub coefficient-one : x ≡ true → n + 1 < usable → (s : Bool) → s ≡ bitAt body (n + 1) → (v₁ : List ℤ) → v₁ ≡ set v i (newCode s b) → One (Go (n + 1 + 1) (i + 1)) (set m i 2) v₁ (set p i b)
+    coefficient-one e k s es v₁ ev =
+        by-way _ (move (i + 1) (st (set m i 2) (set v i (newCode s b)) (set p i b) (n + 1 + 1))) usable i n (Go (n + 1 + 1) (i + 1)) (set m i 2) v₁ (set p i b)
+        (one-one K pixels b i bar m (read v p n) h (sym ex ∙ e) k
+        ∙ ap (λ (o : Read). move (i + 1) (sv (set m i 2) (got K pixels b (signOf i) o))) (own true (sym ex ∙ e))
+        ∙ ap (λ (y : Bool). move (i + 1) (st (set m i 2) (set v i (newCode y b)) (set p i b) (n + 1 + 1))) (sym es))
+        (record { answered = refl; marked = refl; valued = ev; known = refl; falls = (omega arith, omega arith, omega arith, omega arith) })
+
+    pub coefficient-bad : x ≡ false → (z : Bool) → z ≡ bar → z ≡ true → One (Bad n i) m v p
+    coefficient-bad e z ez et =
+        by-way _ (refuse (st m v p n)) usable i n (Bad n i) m v p (one-bad K pixels b i bar m (read v p n) h (sym ex ∙ e) (sym ez ∙ et))
+        (record { answered = refl; marked = refl; valued = refl; known = refl; falls = (omega arith, omega arith) })
+
+    pub coefficient-zero : x ≡ false → (z : Bool) → z ≡ bar → z ≡ false → One (Go (n + 1) (i + 1)) (set m i 1) v (set p i b)
+    coefficient-zero e z ez ef =
+        by-way _ (move (i + 1) (st (set m i 1) v (set p i b) (n + 1))) usable i n (Go (n + 1) (i + 1)) (set m i 1) v (set p i b)
+        (one-zero K pixels b i bar m (read v p n) h (sym ex ∙ e) (sym ez ∙ ef) ∙ ap (λ (o : Read). move (i + 1) (sv (set m i 1) o)) (own false (sym ex ∙ e)))
+        (record { answered = refl; marked = refl; valued = refl; known = refl; falls = (omega arith, omega arith, omega arith, omega arith) })
+
+-- the pixel pass and the refinement pass
+module _ (body : List ℕ) (usable I D P b i : ℕ) (m : List ℕ) (v : List ℤ) (p : List ℕ) (n : ℕ) where
+  abbrev pub Pixel : Turn → List ℕ → List ℤ → List ℕ → Type 0
+  Pixel r m₁ v₁ p₁ = Does (pixelsSeen (reader body usable I D P) b i (getD m i 0) m (read v p n)) usable i n r m₁ v₁ p₁
+
+  pub pixel-own : (r : Turn) (m₁ : List ℕ) (v₁ : List ℤ) (p₁ : List ℕ) → getD m i 0 ≡ 1 → Does (oneSeen (reader body usable I D P) pixels b i false m (read v p n)) usable i n r m₁ v₁ p₁ → Pixel r m₁ v₁ p₁
+  pixel-own r m₁ v₁ p₁ e d = by-way _ _ usable i n r m₁ v₁ p₁ (pixels-own (reader body usable I D P) b i (getD m i 0) m (read v p n) e) d
+
+  pub pixel-skip : (far : ℕ) → (getD m i 0 ≡ 1 → ⊥) → far ≡ skipOf (getD m i 0) → n ≤ usable → Pixel (Go n (i + far)) m v p
+  pixel-skip far e f l =
+      by-way _ _ usable i n (Go n (i + far)) m v p (pixels-skip (reader body usable I D P) b i (getD m i 0) m (read v p n) e)
+      (record { answered = ap (λ (k : ℕ). Go n (i + k)) f; marked = refl; valued = refl; known = refl; falls = (omega arith, omega arith, l, omega (arith, f, skip-in (getD m i 0))) })
+
+  abbrev pub Refining : Turn → List ℕ → List ℤ → List ℕ → Type 0
+  Refining r m₁ v₁ p₁ = Does (refiningSeen (reader body usable I D P) b i (getD m i 0) m (read v p n)) usable i n r m₁ v₁ p₁
+
+  pub refine-none : getD m i 0 ≡ 3 → usable ≤ n → n ≤ usable → Refining (Stop n i) m v p
+  refine-none e h l =
+      by-way _ _ usable i n (Stop n i) m v p (refining-none (reader body usable I D P) b i (getD m i 0) m (read v p n) e h)
+      (record { answered = refl; marked = refl; valued = refl; known = refl; falls = (omega arith, omega arith) })
+
+  pub refine-own : (x : Bool) (v₁ : List ℤ) → getD m i 0 ≡ 3 → n < usable → x ≡ bitAt body n → v₁ ≡ set v i (moreCode x b (at v i)) → Refining (Go (n + 1) (i + 1)) m v₁ (set p i b)
+  refine-own x v₁ e h ex ev =
+      by-way _ _ usable i n (Go (n + 1) (i + 1)) m v₁ (set p i b) (refining-own (reader body usable I D P) b i (getD m i 0) m (read v p n) e h)
+      (record {
+        answered = refl;
+        marked = refl;
+        valued = ev ∙ ap (λ (y : Bool). set v i (moreCode y b (at v i))) ex;
+        known = refl;
+        falls = (omega arith, omega arith, omega arith, omega arith);
+      })
+
+  pub refine-new : (getD m i 0 ≡ 3 → ⊥) → getD m i 0 ≡ 2 → n ≤ usable → Refining (Go n (i + 1)) (set m i 3) v p
+  refine-new d e l =
+      by-way _ _ usable i n (Go n (i + 1)) (set m i 3) v p (refining-new (reader body usable I D P) b i (getD m i 0) m (read v p n) d e)
+      (record { answered = refl; marked = refl; valued = refl; known = refl; falls = (omega arith, omega arith, l, omega arith) })
+
+  -- a mark above 3
+  pub refine-skip : (far : ℕ) → 3 < getD m i 0 → far ≡ skipOf (getD m i 0) → n ≤ usable → Refining (Go n (i + far)) m v p
+  refine-skip far h f l =
+      by-way _ _ usable i n (Go n (i + far)) m v p (refining-skip (reader body usable I D P) b i (getD m i 0) m (read v p n) (λ e. omega (arith, h, e)) (λ e. omega (arith, h, e)))
+      (record { answered = ap (λ (k : ℕ). Go n (i + k)) f; marked = refl; valued = refl; known = refl; falls = (omega arith, omega arith, l, omega (arith, f, skip-in (getD m i 0))) })
+
+  -- mark 0 or 1: there the skip is 1
+  pub refine-small : (getD m i 0 ≡ 3 → ⊥) → getD m i 0 ≤ 3 → (getD m i 0 ≡ 2 → ⊥) → n ≤ usable → Refining (Go n (i + 1)) m v p
+  refine-small d h e l =
+      by-way _ _ usable i n (Go n (i + 1)) m v p (refining-skip (reader body usable I D P) b i (getD m i 0) m (read v p n) d e)
+      (record { answered = ap (λ (k : ℕ). Go n (i + k)) (sym (skip-low (getD m i 0) (omega (arith, h)))); marked = refl; valued = refl; known = refl; falls = (omega arith, omega arith, l, omega arith) })
+
+-- a set's test: what is known stays
+abbrev pub Set : Question → Type 0
+Set (bitOf i b) = ⊥
+Set (signOf i) = ⊥
+Set (inDesc g b) = Unit {0}
+Set (inGrand g b) = Unit {0}
+
+module _ (body : List ℕ) (usable I D P b i : ℕ) (q : Question) (far : ℕ) (bar : Bool) (new m : List ℕ) (n : ℕ) (set-question : Set q) where
+  same : (q : Question) → Set q → (x : Bool) (k : Known) → keep sets b q x k ≡ k
+  same (bitOf j c) z x k = absurd z
+  same (signOf j) z x k = absurd z
+  same (inDesc g c) z x k = refl
+  same (inGrand g c) z x k = refl
+
+  kept : (v : List ℤ) (p : List ℕ) → got (reader body usable I D P) sets b q (read v p n) ≡ read v p (n + 1)
+  kept v p = ap (λ (k : Known). record { known = k; n = n + 1 }) (same q set-question (bitAt body n) (record { bits = v; planes = p }))
+
+  abbrev Tested : Turn → List ℕ → List ℤ → List ℕ → Type 0
+  Tested r m₁ v p = Does (testSeen (reader body usable I D P) b i q far bar new m (read v p n)) usable i n r m₁ v p
+
+  pub tested-none : usable ≤ n → n ≤ usable → (v : List ℤ) (p : List ℕ) → Tested (Stop n i) m v p
+  tested-none h l v p =
+      by-way _ _ usable i n (Stop n i) m v p (test-none (reader body usable I D P) b i q far bar new m (read v p n) h)
+      (record { answered = refl; marked = refl; valued = refl; known = refl; falls = (omega arith, omega arith) })
+
+  module _ (x : Bool) (ex : x ≡ bitAt body n) (h : n < usable) where
+    pub tested-one : (m₁ : List ℕ) → x ≡ true → m₁ ≡ new → (v : List ℤ) (p : List ℕ) → Tested (Go (n + 1) i) m₁ v p
+    tested-one m₁ e em v p =
+        by-way _ (move i (st new v p (n + 1))) usable i n (Go (n + 1) i) m₁ v p
+        (test-one (reader body usable I D P) b i q far bar new m (read v p n) h (sym ex ∙ e) ∙ ap (λ (o : Read). move i (sv new o)) (kept v p))
+        (record { answered = refl; marked = em; valued = refl; known = refl; falls = (omega arith, omega arith, omega arith, omega arith) })
+
+    pub tested-bad : x ≡ false → (z : Bool) → z ≡ bar → z ≡ true → (v : List ℤ) (p : List ℕ) → Tested (Bad n i) m v p
+    tested-bad e z ez et v p =
+        by-way _ (refuse (st m v p n)) usable i n (Bad n i) m v p (test-bad (reader body usable I D P) b i q far bar new m (read v p n) h (sym ex ∙ e) (sym ez ∙ et))
+        (record { answered = refl; marked = refl; valued = refl; known = refl; falls = (omega arith, omega arith) })
+
+    pub tested-zero : 1 ≤ far → x ≡ false → (z : Bool) → z ≡ bar → z ≡ false → (v : List ℤ) (p : List ℕ) → Tested (Go (n + 1) (i + far)) m v p
+    tested-zero l e z ez ef v p =
+        by-way _ (move (i + far) (st m v p (n + 1))) usable i n (Go (n + 1) (i + far)) m v p
+        (test-zero (reader body usable I D P) b i q far bar new m (read v p n) h (sym ex ∙ e) (sym ez ∙ ef) ∙ ap (λ (o : Read). move (i + far) (sv m o)) (kept v p))
+        (record { answered = refl; marked = refl; valued = refl; known = refl; falls = (omega arith, omega arith, omega arith, omega arith) })
+
+-- the set pass, and a visit: the sizes matter only to the tests that look at them
+module _ (body : List ℕ) (usable I D P b i : ℕ) (m : List ℕ) (v : List ℤ) (p : List ℕ) (n : ℕ) where
+  abbrev pub Sets : Turn → List ℕ → List ℤ → List ℕ → Type 0
+  Sets r m₁ v₁ p₁ = Does (setsSeen (reader body usable I D P) I b i (getD m i 0) m (read v p n)) usable i n r m₁ v₁ p₁
+
+  -- a coefficient is kept alike in both passes
+  alike : (x : Bool) (bar : Bool)
+      → oneSeen (reader body usable I D P) sets b i bar m (read v p n) ≡ oneSeen (reader body usable I 0 0) pixels b i bar m (read v p n)
+  unfolding oneSeen
+  alike x bar = go (bitAt body n)
+    where
+      go : (x : Bool)
+          → cond (leb (suc n) usable)
+          (cond x
+          (cond (leb (suc (n + 1)) usable) (move (i + 1) (sv (set m i 2) (record { known = keep sets b (signOf i) (bitAt body (n + 1)) (keep sets b (bitOf i b) x (record { bits = v; planes = p })); n = n + 1 + 1 })))
+          (halt (sv m (record { known = keep sets b (bitOf i b) x (record { bits = v; planes = p }); n = n + 1 }))))
+          (cond bar (refuse (st m v p n)) (move (i + 1) (sv (set m i 1) (record { known = keep sets b (bitOf i b) x (record { bits = v; planes = p }); n = n + 1 })))))
+          (halt (st m v p n))
+          ≡ cond (leb (suc n) usable)
+          (cond x
+          (cond (leb (suc (n + 1)) usable) (move (i + 1) (sv (set m i 2) (record { known = keep pixels b (signOf i) (bitAt body (n + 1)) (keep pixels b (bitOf i b) x (record { bits = v; planes = p })); n = n + 1 + 1 })))
+          (halt (sv m (record { known = keep pixels b (bitOf i b) x (record { bits = v; planes = p }); n = n + 1 }))))
+          (cond bar (refuse (st m v p n)) (move (i + 1) (sv (set m i 1) (record { known = keep pixels b (bitOf i b) x (record { bits = v; planes = p }); n = n + 1 })))))
+          (halt (st m v p n))
+      go true = refl
+      go false = refl
+
+  pub set-one : (r : Turn) (m₁ : List ℕ) (v₁ : List ℤ) (p₁ : List ℕ) → getD m i 0 ≡ 4
+      → Does (oneSeen (reader body usable I 0 0) pixels b i (true && childClash I i m) m (read v p n)) usable i n r m₁ v₁ p₁ → Sets r m₁ v₁ p₁
+  set-one r m₁ v₁ p₁ e d = by-way _ _ usable i n r m₁ v₁ p₁ (sets-one (reader body usable I D P) I b i (getD m i 0) m (read v p n) e ∙ alike true (childClash I i m)) d
+
+  pub set-desc : (r : Turn) (m₁ : List ℕ) → (getD m i 0 ≡ 4 → ⊥) → getD m i 0 ≡ 5
+      → ((v : List ℤ) (p : List ℕ) → Does (testSeen (reader body usable I D P) b i (inDesc (i / 4) b) 4 (descClash D P b n i m) (descSplit I i m) m (read v p n)) usable i n r m₁ v p) → Sets r m₁ v p
+  set-desc r m₁ e f d = by-way _ _ usable i n r m₁ v p (sets-desc (reader body usable I D P) I b i (getD m i 0) m (read v p n) e f) (d v p)
+
+  grand-alone : testSeen (reader body usable I D P) b i (inGrand (i / 16) b) 16 (grandClash i m) (grandSplit I i m) m (read v p n) ≡ testSeen (reader body usable I 0 0) b i (inGrand (i / 16) b) 16 (grandClash i m) (grandSplit I i m) m (read v p n)
+  unfolding testSeen
+  grand-alone = refl
+
+  pub set-grand : (r : Turn) (m₁ : List ℕ) → (getD m i 0 ≡ 4 → ⊥) → (getD m i 0 ≡ 5 → ⊥) → getD m i 0 ≡ 6
+      → ((v : List ℤ) (p : List ℕ) → Does (testSeen (reader body usable I 0 0) b i (inGrand (i / 16) b) 16 (grandClash i m) (grandSplit I i m) m (read v p n)) usable i n r m₁ v p) → Sets r m₁ v p
+  set-grand r m₁ e f g d = by-way _ _ usable i n r m₁ v p (sets-grand (reader body usable I D P) I b i (getD m i 0) m (read v p n) e f g ∙ grand-alone) (d v p)
+
+  pub set-skip : (far : ℕ) → (getD m i 0 ≡ 4 → ⊥) → (getD m i 0 ≡ 5 → ⊥) → (getD m i 0 ≡ 6 → ⊥) → far ≡ setSkipOf (getD m i 0) → n ≤ usable → Sets (Go n (i + far)) m v p
+  set-skip far e f k z l =
+      by-way _ _ usable i n (Go n (i + far)) m v p (sets-skip (reader body usable I D P) I b i (getD m i 0) m (read v p n) e f k)
+      (record { answered = ap (λ (k : ℕ). Go n (i + k)) z; marked = refl; valued = refl; known = refl; falls = (omega arith, omega arith, l, omega (arith, z, set-skip-in (getD m i 0))) })
+
+  pixel-plain : pixelsSeen (reader body usable I D P) b i (getD m i 0) m (read v p n) ≡ pixelsSeen (reader body usable I 0 0) b i (getD m i 0) m (read v p n)
+  unfolding pixelsSeen oneSeen
+  pixel-plain = refl
+
+  refining-plain : refiningSeen (reader body usable I D P) b i (getD m i 0) m (read v p n) ≡ refiningSeen (reader body usable I 0 0) b i (getD m i 0) m (read v p n)
+  unfolding refiningSeen
+  refining-plain = refl
+
+  abbrev pub Visit : ℕ → Turn → List ℕ → List ℤ → List ℕ → Type 0
+  Visit pass r m₁ v₁ p₁ = Does (visitSeen (reader body usable I D P) I b pass i (st m v p n)) usable i n r m₁ v₁ p₁
+
+  pub visited-pixels : (pass : ℕ) (r : Turn) (m₁ : List ℕ) (v₁ : List ℤ) (p₁ : List ℕ) → pass ≡ 0
+      → Does (pixelsSeen (reader body usable I 0 0) b i (getD m i 0) m (read v p n)) usable i n r m₁ v₁ p₁ → Visit pass r m₁ v₁ p₁
+  visited-pixels pass r m₁ v₁ p₁ e h = by-way _ _ usable i n r m₁ v₁ p₁ (visit-pixels (reader body usable I D P) I b pass i (st m v p n) e ∙ pixel-plain) h
+
+  pub visited-sets : (pass : ℕ) (r : Turn) (m₁ : List ℕ) (v₁ : List ℤ) (p₁ : List ℕ) → (pass ≡ 0 → ⊥) → pass ≡ 1 → Sets r m₁ v₁ p₁ → Visit pass r m₁ v₁ p₁
+  visited-sets pass r m₁ v₁ p₁ e f h = by-way _ _ usable i n r m₁ v₁ p₁ (visit-sets (reader body usable I D P) I b pass i (st m v p n) e f) h
+
+  pub visited-refining : (pass : ℕ) (r : Turn) (m₁ : List ℕ) (v₁ : List ℤ) (p₁ : List ℕ) → (pass ≡ 0 → ⊥) → (pass ≡ 1 → ⊥)
+      → Does (refiningSeen (reader body usable I 0 0) b i (getD m i 0) m (read v p n)) usable i n r m₁ v₁ p₁ → Visit pass r m₁ v₁ p₁
+  visited-refining pass r m₁ v₁ p₁ e f h = by-way _ _ usable i n r m₁ v₁ p₁ (visit-refining (reader body usable I D P) I b pass i (st m v p n) e f ∙ refining-plain) h

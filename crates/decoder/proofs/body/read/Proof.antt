@@ -1,0 +1,234 @@
+use mathlib.Core.Path.{_≡_, sym, ap, _∙_}
+use Prim.Native.Nat.{ℕ}
+use native.Mathlib.Omega.{arith}
+use borrow.Author.Needs.{needs}
+use lib.IntN.{pos}
+use lib.ListN.{length, replicate}
+use Rattle.sizes.specs.Sizes.{allOf, coarsestOf}
+use Rattle.bits.specs.Bits.{bitsOf}
+use Rattle.nls.specs.Marks.{startMarks}
+use Rattle.nls.specs.Judging.{taken, Judged}
+use Rattle.nls.proofs.Verdicts.{verdict}
+use Rattle.marking.proofs.Laws.{start-so}
+use Rattle.room.proofs.Laws.{sizes-near}
+use Rattle.decoder.specs.Body.{tables}
+use Rattle.decoder.proofs.DecodeLaws.{Took, Ends, ends, bits-most, judged-taken, refused-12, refused-13, left-in, not-below, in-range, power-one, accepted}
+use Rattle.decoder.proofs.body.read.Statement.{statement}
+use Rattle.decoder.proofs.body.read.Tie as tie
+
+all-so : (c : tie.After-all-of) → c .all-of .result ≡ allOf (c .before .before .before .before .args .n)
+all-so c = c .all-of .ensures ∙ rw (c .before .before .before .before .pre .0 .side)
+
+coarsest-so : (c : tie.After-coarsest-of) → c .coarsest-of .result ≡ coarsestOf (c .before .before .before .before .before .args .n) (c .before .before .before .before .before .args .l)
+coarsest-so c = c .coarsest-of .ensures ∙ rw (c .before .before .before .before .before .pre .0 .side, c .before .before .before .before .before .pre .0 .levels)
+
+all-of-requires : tie.Need-all-of-requires
+all-of-requires c κs = search needs
+
+coarsest-of-requires : tie.Need-coarsest-of-requires
+coarsest-of-requires c κs = search needs
+
+start-requires : tie.Need-start-requires
+start-requires c κs = search needs
+
+-- the table before the first bit
+begun : (c : tie.After-start) → c .start .last .0 ≡ startMarks (c .before .before .before .all-of .result) (c .before .before .coarsest-of .result)
+begun c =
+    let start = c .before .before .before .before .before .before .before in
+    let e = all-so (c .before .before .before) in
+    let s = sizes-near (start .args .n) (start .args .l) (c .before .before .before .all-of .result) (c .before .before .coarsest-of .result) e (coarsest-so (c .before .before)) (start .pre .0 .side) (start .pre .0 .levels) in
+    start-so _ _ (start .args .marks .now) _ (c .start .ensures) (start .pre .0 .marksSize ∙ sym e) (s .0) (s .1) (s .2) (s .3)
+
+clear-requires : tie.Need-clear-requires
+clear-requires c κs = search needs
+
+cast-fill : tie.Need-cast-fill
+cast-fill c = search needs
+
+fill-requires : tie.Need-fill-requires
+fill-requires c κs = search needs
+
+scan-requires : tie.Need-scan-requires
+scan-requires c κs =
+    let start = c .before .before .before .before .before .before .before .before .before .before .before .before .before .before .before .before .before .before .before in
+    let e = all-so (c .before .before .before .before .before .before .before .before .before .before .before .before .before .before .before) in
+    let s = sizes-near (start .args .n) (start .args .l) (c .before .before .before .before .before .before .before .before .before .before .before .before .before .before .before .all-of .result) (c .before .before .before .before .before .before .before .before .before .before .before .before .before .before .coarsest-of .result) e (coarsest-so (c .before .before .before .before .before .before .before .before .before .before .before .before .before .before)) (start .pre .0 .side) (start .pre .0 .levels) in (
+      c .before .before .before .before .before .before .before .before .before .before .before .before .start .kept .0 ∙ start .pre .0 .marksSize ∙ sym e,
+      c .before .before .before .before .before .before .before .before .clear .kept .0 ∙ start .pre .0 .valuesSize ∙ sym e,
+      c .before .before .before .before .before .fill .kept .0 ∙ start .pre .0 .precisionsSize ∙ sym e,
+      start .pre .1,
+      record { near = s .0; wide = s .1; room = s .2; tops = omega (arith, start .pre .0 .planes) },
+    )
+
+-- where the scan ended, by the verdict
+ended : (c : tie.After-scan)
+    → let a = c .before .before .before .before .before .before .before .before .before .before .before .before .before .before .before .before .before .before .before .before .args in
+    let r = c .scan .result in
+    Ends (a .n) (a .l) (a .p) (length (a .values .now)) (length (a .precisions .now)) (length (a .marks .now)) (c .before .before .before .before .before .before .before .before .before .before .before .before .before .before .before .before .before .before .before .before .pre .0) (a .body .now) (a .usable) (r .bits) (r .left) (r .bad) (c .scan .last .1 .0) (c .scan .last .1 .1 .0) (c .scan .last .1 .1 .1 .0) (verdict (a .n) (a .l) (a .p) (bitsOf (a .usable) (a .body .now)))
+ended c =
+    let start = c .before .before .before .before .before .before .before .before .before .before .before .before .before .before .before .before .before .before .before .before in
+    let a = start .args in
+    let r = c .scan .result in
+    ends (a .n) (a .l) (a .p) (length (a .values .now)) (length (a .precisions .now)) (length (a .marks .now)) (start .pre .0) (a .body .now) (a .usable) (r .bits) (r .left) (r .bad) (c .scan .last .1 .0) (c .scan .last .1 .1 .0) (c .scan .last .1 .1 .1 .0)
+    (c .before .before .before .before .before .before .before .before .before .before .before .before .before .start .last .0) (c .before .before .before .before .before .before .before .before .before .clear .last .0) (c .before .before .before .before .before .before .fill .last .0) (c .before .before .before .before .before .before .before .before .before .before .before .before .before .before .before .before .all-of .result) (c .before .before .before .before .before .before .before .before .before .before .before .before .before .before .before .coarsest-of .result)
+    (all-so (c .before .before .before .before .before .before .before .before .before .before .before .before .before .before .before .before)) (coarsest-so (c .before .before .before .before .before .before .before .before .before .before .before .before .before .before .before)) (begun (c .before .before .before .before .before .before .before .before .before .before .before .before .before))
+    (c .before .before .before .before .before .before .before .before .before .clear .ensures ∙ ap (λ (k : ℕ). replicate k (pos 0)) (start .pre .0 .valuesSize))
+    (c .before .before .before .before .before .before .fill .ensures ∙ ap (λ (k : ℕ). replicate k (a .p)) (start .pre .0 .precisionsSize))
+    (c .scan .ensures)
+
+-- the tables keep their sizes
+values-so : (c : tie.After-scan) → length (c .scan .last .1 .1 .0) ≡ allOf (c .before .before .before .before .before .before .before .before .before .before .before .before .before .before .before .before .before .before .before .before .args .n)
+values-so c = c .scan .kept .1 .1 .0 ∙ c .before .before .before .before .before .before .before .before .before .clear .kept .0 ∙ c .before .before .before .before .before .before .before .before .before .before .before .before .before .before .before .before .before .before .before .before .pre .0 .valuesSize
+
+precisions-so : (c : tie.After-scan) → length (c .scan .last .1 .1 .1 .0) ≡ allOf (c .before .before .before .before .before .before .before .before .before .before .before .before .before .before .before .before .before .before .before .before .args .n)
+precisions-so c = c .scan .kept .1 .1 .1 .0 ∙ c .before .before .before .before .before .before .fill .kept .0 ∙ c .before .before .before .before .before .before .before .before .before .before .before .before .before .before .before .before .before .before .before .before .pre .0 .precisionsSize
+
+marks-so : (c : tie.After-scan) → length (c .scan .last .1 .0) ≡ allOf (c .before .before .before .before .before .before .before .before .before .before .before .before .before .before .before .before .before .before .before .before .args .n)
+marks-so c = c .scan .kept .1 .0 ∙ c .before .before .before .before .before .before .before .before .before .before .before .before .before .start .kept .0 ∙ c .before .before .before .before .before .before .before .before .before .before .before .before .before .before .before .before .before .before .before .before .pre .0 .marksSize
+
+cast-bits : tie.Need-cast-bits
+cast-bits c =
+    let start = c .before .before .before .before .before .before .before .before .before .before .before .before .before .before .before .before .before .before .before .before .before .before .before .before .before .before in
+    let a = start .args in
+    let s = c .before .before .before .before .before .before .scan in
+    record { fits = omega (arith, bits-most (a .n) (a .l) (a .p) (length (a .values .now)) (length (a .precisions .now)) (length (a .marks .now)) (start .pre .0) (a .body .now) (a .usable) (s .result .bits) (s .result .left) (s .result .bad) (s .last .1 .0) (s .last .1 .1 .0) (s .last .1 .1 .1 .0) (ended (c .before .before .before .before .before .before)), start .fits .usable .fits) }
+
+clear-requires-2 : tie.Need-clear-requires-2
+clear-requires-2 c κs = search needs
+
+same-length : tie.Need-same-length
+same-length c = search needs
+
+same-length-2 : tie.Need-same-length-2
+same-length-2 c = search needs
+
+same-length-3 : tie.Need-same-length-3
+same-length-3 c = search needs
+
+returns : tie.Need-returns
+returns c =
+    let start = c .before .before .before .before .before .before .before .before .before .before .before .before .before .before .before .before .before .before .before .before .before .before .before .before .before .before .before .before .before .before .before .before .before .before .before .before in
+    let a = start .args in
+    let s = c .before .before .before .before .before .before .before .before .before .before .before .before .before .before .before .before .scan in
+    let k = c .before .before .before .before .before .clear2 in
+    refused-12 (a .n) (a .l) (a .p) (length (a .values .now)) (length (a .precisions .now)) (length (a .marks .now)) (start .pre .0) (a .body .now) (a .usable) (s .result .bits) (s .result .left) (s .result .bad) (s .last .1 .0) (s .last .1 .1 .0) (s .last .1 .1 .1 .0) (ended (c .before .before .before .before .before .before .before .before .before .before .before .before .before .before .before .before)) (tables (a .values .now) (a .precisions .now) (a .marks .now)) (start .pre .0 .valuesSize) (start .pre .0 .precisionsSize) (start .pre .0 .marksSize)
+    (k .last .0) (k .last .1 .0) (k .last .1 .1 .0)
+    (k .ensures .0 ∙ ap (λ (x : ℕ). replicate x (pos 0)) (values-so (c .before .before .before .before .before .before .before .before .before .before .before .before .before .before .before .before)))
+    (k .ensures .1 .0 ∙ ap (λ (x : ℕ). replicate x 0) (precisions-so (c .before .before .before .before .before .before .before .before .before .before .before .before .before .before .before .before)))
+    (k .ensures .1 .1 ∙ ap (λ (x : ℕ). replicate x 0) (marks-so (c .before .before .before .before .before .before .before .before .before .before .before .before .before .before .before .before)))
+    (c .before .before .before .before .before .before .before .before .before .if1 .taken)
+
+clear-requires-3 : tie.Need-clear-requires-3
+clear-requires-3 c κs = search needs
+
+same-length-4 : tie.Need-same-length-4
+same-length-4 c = search needs
+
+same-length-5 : tie.Need-same-length-5
+same-length-5 c = search needs
+
+same-length-6 : tie.Need-same-length-6
+same-length-6 c = search needs
+
+returns-2 : tie.Need-returns-2
+returns-2 c =
+    let start = c .before .before .before .before .before .before .before .before .before .before .before .before .before .before .before .before .before .before .before .before .before .before .before .before .before .before .before .before .before .before .before .before .before .before .before .before .before in
+    let a = start .args in
+    let s = c .before .before .before .before .before .before .before .before .before .before .before .before .before .before .before .before .before .scan in
+    let k = c .before .before .before .before .before .clear3 in
+    refused-13 (a .n) (a .l) (a .p) (length (a .values .now)) (length (a .precisions .now)) (length (a .marks .now)) (start .pre .0) (a .body .now) (a .usable) (s .result .bits) (s .result .left) (s .result .bad) (s .last .1 .0) (s .last .1 .1 .0) (s .last .1 .1 .1 .0) (ended (c .before .before .before .before .before .before .before .before .before .before .before .before .before .before .before .before .before)) (tables (a .values .now) (a .precisions .now) (a .marks .now)) (start .pre .0 .valuesSize) (start .pre .0 .precisionsSize) (start .pre .0 .marksSize)
+    (k .last .0) (k .last .1 .0) (k .last .1 .1 .0)
+    (k .ensures .0 ∙ ap (λ (x : ℕ). replicate x (pos 0)) (values-so (c .before .before .before .before .before .before .before .before .before .before .before .before .before .before .before .before .before)))
+    (k .ensures .1 .0 ∙ ap (λ (x : ℕ). replicate x 0) (precisions-so (c .before .before .before .before .before .before .before .before .before .before .before .before .before .before .before .before .before)))
+    (k .ensures .1 .1 ∙ ap (λ (x : ℕ). replicate x 0) (marks-so (c .before .before .before .before .before .before .before .before .before .before .before .before .before .before .before .before .before)))
+    (c .before .before .before .before .before .before .before .before .before .before .if1 .left) (c .before .before .before .before .before .before .before .before .before .if2 .taken)
+
+-- all bits were used
+took : (c : tie.Else2)
+    → let a = c .before .before .before .before .before .before .before .before .before .before .before .before .before .before .before .before .before .before .before .before .before .before .before .before .before .before .before .before .args in
+    let s = c .before .before .before .before .before .before .before .before .scan in
+    Judged (a .n) (a .l) (a .p) (bitsOf (a .usable) (a .body .now)) taken
+    × Took (a .n) (a .l) (a .p) (length (a .values .now)) (length (a .precisions .now)) (length (a .marks .now)) (c .before .before .before .before .before .before .before .before .before .before .before .before .before .before .before .before .before .before .before .before .before .before .before .before .before .before .before .before .pre .0) (a .body .now) (a .usable) (s .result .bits) (s .result .left) (s .result .bad) (s .last .1 .0) (s .last .1 .1 .0) (s .last .1 .1 .1 .0)
+took c =
+    let start = c .before .before .before .before .before .before .before .before .before .before .before .before .before .before .before .before .before .before .before .before .before .before .before .before .before .before .before .before in
+    let a = start .args in
+    let s = c .before .before .before .before .before .before .before .before .scan in
+    judged-taken (a .n) (a .l) (a .p) (length (a .values .now)) (length (a .precisions .now)) (length (a .marks .now)) (start .pre .0) (a .body .now) (a .usable) (s .result .bits) (s .result .left) (s .result .bad) (s .last .1 .0) (s .last .1 .1 .0) (s .last .1 .1 .1 .0) (ended (c .before .before .before .before .before .before .before .before)) (c .before .if1 .left) (c .if2 .left)
+
+finish-requires : tie.Need-finish-requires
+finish-requires c κs =
+    let start = c .before .before .before .before .before .before .before .before .before .before .before .before .before .before .before .before .before .before .before .before .before .before .before .before .before .before .before .before .before .before in
+    let a = start .args in
+    let s = c .before .before .before .before .before .before .before .before .before .before .scan in
+    let t = took (c .before .before) .1 in (
+      values-so (c .before .before .before .before .before .before .before .before .before .before) ∙ sym (precisions-so (c .before .before .before .before .before .before .before .before .before .before)),
+      omega (arith, left-in (a .n) (a .l) (a .p) (length (a .values .now)) (length (a .precisions .now)) (length (a .marks .now)) (start .pre .0) (a .body .now) (a .usable) (s .result .bits) (s .result .left) (s .result .bad) (s .last .1 .0) (s .last .1 .1 .0) (s .last .1 .1 .1 .0) t, start .pre .0 .planes),
+      λ i h. (not-below (a .n) (a .l) (a .p) (length (a .values .now)) (length (a .precisions .now)) (length (a .marks .now)) (start .pre .0) (a .body .now) (a .usable) (s .result .bits) (s .result .left) (s .result .bad) (s .last .1 .0) (s .last .1 .1 .0) (s .last .1 .1 .1 .0) t i, in-range (a .n) (a .l) (a .p) (length (a .values .now)) (length (a .precisions .now)) (length (a .marks .now)) (start .pre .0) (a .body .now) (a .usable) (s .result .bits) (s .result .left) (s .result .bad) (s .last .1 .0) (s .last .1 .1 .0) (s .last .1 .1 .1 .0) t i (omega (arith, h, values-so (c .before .before .before .before .before .before .before .before .before .before)))),
+    )
+
+sub-t50 : tie.Need-sub-t50
+sub-t50 c =
+    let start = c .before .before .before .before .before .before .before .before .before .before .before .before .before .before .before .before .before .before .before .before .before .before .before .before .before .before .before .before .before .before .before .before .before .before in
+    let a = start .args in
+    let s = c .before .before .before .before .before .before .before .before .before .before .before .before .before .before .scan in
+    left-in (a .n) (a .l) (a .p) (length (a .values .now)) (length (a .precisions .now)) (length (a .marks .now)) (start .pre .0) (a .body .now) (a .usable) (s .result .bits) (s .result .left) (s .result .bad) (s .last .1 .0) (s .last .1 .1 .0) (s .last .1 .1 .1 .0) (took (c .before .before .before .before .before .before) .1)
+
+shl-t51 : tie.Need-shl-t51
+shl-t51 c = search needs
+
+sub-t52 : tie.Need-sub-t52
+sub-t52 c =
+    let start = c .before .before .before .before .before .before .before .before .before .before .before .before .before .before .before .before .before .before .before .before .before .before .before .before .before .before .before .before .before .before .before .before .before .before in
+    let a = start .args in
+    let s = c .before .before .before .before .before .before .before .before .before .before .before .before .before .before .scan in
+    power-one (a .n) (a .l) (a .p) (length (a .values .now)) (length (a .precisions .now)) (length (a .marks .now)) (start .pre .0) (a .body .now) (a .usable) (s .result .bits) (s .result .left) (s .result .bad) (s .last .1 .0) (s .last .1 .1 .0) (s .last .1 .1 .1 .0) (took (c .before .before .before .before .before .before) .1)
+
+same-length-7 : tie.Need-same-length-7
+same-length-7 c = search needs
+
+same-length-8 : tie.Need-same-length-8
+same-length-8 c = search needs
+
+same-length-9 : tie.Need-same-length-9
+same-length-9 c = search needs
+
+returns-3 : tie.Need-returns-3
+returns-3 c =
+    let start = c .before .before .before .before .before .before .before .before .before .before .before .before .before .before .before .before .before .before .before .before .before .before .before .before .before .before .before .before .before .before .before .before .before .before in
+    let a = start .args in
+    let s = c .before .before .before .before .before .before .before .before .before .before .before .before .before .before .scan in
+    let t = took (c .before .before .before .before .before .before) in
+    let f = c .before .before .before .finish in
+    accepted (a .n) (a .l) (a .p) (length (a .values .now)) (length (a .precisions .now)) (length (a .marks .now)) (start .pre .0) (a .body .now) (a .usable) (s .result .bits) (s .result .left) (s .result .bad) (s .last .1 .0) (s .last .1 .1 .0) (s .last .1 .1 .1 .0) (t .1) (t .0) (tables (a .values .now) (a .precisions .now) (a .marks .now)) (start .pre .0 .valuesSize) (start .pre .0 .precisionsSize) (start .pre .0 .marksSize)
+    (f .last .0) (f .last .1 .0) (length (s .last .1 .1 .0)) (length (s .last .1 .1 .1 .0)) (values-so (c .before .before .before .before .before .before .before .before .before .before .before .before .before .before)) (precisions-so (c .before .before .before .before .before .before .before .before .before .before .before .before .before .before)) (f .ensures .0) (f .ensures .1)
+
+pub read-spec : {M : Type 1} → statement M
+read-spec =
+    tie.close
+    (tie.spec
+    all-of-requires
+    coarsest-of-requires
+    start-requires
+    clear-requires
+    cast-fill
+    fill-requires
+    scan-requires
+    cast-bits
+    clear-requires-2
+    same-length
+    same-length-2
+    same-length-3
+    returns
+    clear-requires-3
+    same-length-4
+    same-length-5
+    same-length-6
+    returns-2
+    finish-requires
+    sub-t50
+    shl-t51
+    sub-t52
+    same-length-7
+    same-length-8
+    same-length-9
+    returns-3)

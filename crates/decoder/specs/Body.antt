@@ -1,0 +1,56 @@
+-- The call that reads a body: what it answers, and what the tables lent to it hold afterwards (document 01, "Numbers for no"). What it checks is in crate `room`.
+use Prim.Native.Nat.{ℕ, _+_}
+use mathlib.Core.Path.{_≡_}
+use mathlib.Core.Bool.{Bool}
+use mathlib.Core.List.{List, _++_}
+use lib.IntN.{ℤ, pos}
+use lib.ListN.{length, drop, replicate}
+use Rattle.refusals.specs.declared.Refusal.the-variants.{Contradiction, Beyond}
+use Rattle.refusals.specs.declared.Outcome.{Outcome}
+use Rattle.refusals.specs.declared.Outcome.the-variants as outcome
+use Rattle.sizes.specs.Sizes.{allOf}
+use Rattle.nls.specs.Stream.{after}
+use Rattle.nls.specs.Reading.{midpoint, valuesBy, precisions, planesFinished, worstError}
+use Rattle.nls.specs.Judging.{Verdict, taken, contradiction, beyond, Judged}
+use Rattle.decoder.specs.declared.body.DecodeAnswer.{DecodeAnswer}
+use Rattle.decoder.specs.declared.body.DecodeAnswer.the-variants as decode
+
+-- "The answer also gives bits used (all usable bits ..), planes finished and the worst error 2^k - 1"
+abbrev pub decodeAnswer : ℕ → ℕ → ℕ → List Bool → Verdict → DecodeAnswer
+decodeAnswer N L P u taken = decode.Done (record { used = length u; finished = planesFinished N L P u; error = worstError N L P u })
+decodeAnswer N L P u (contradiction bit) = decode.Refused (Contradiction bit)
+decodeAnswer N L P u (beyond bit) = decode.Refused (Beyond bit)
+
+-- the three tables that decoding fills
+pub record Tables : Type 0 where
+  pub values : List ℤ
+  pub precisions : List ℕ
+  pub marks : List ℕ
+
+abbrev pub tables : List ℤ → List ℕ → List ℕ → Tables
+tables v p m = record { values = v; precisions = p; marks = m }
+
+-- their own entries. "Numbers 12 and 13 set the first I entries of values, precisions and marks to 0."
+abbrev pub zeros : ℕ → Tables
+zeros I = tables (replicate I (pos 0)) (replicate I 0) (replicate I 0)
+
+abbrev pub ownTables : ℕ → ℕ → ℕ → List Bool → Verdict → Tables
+ownTables N L P u taken = tables (valuesBy N L P u midpoint) (precisions N L P u) ((after N L P u) .marks)
+ownTables N L P u (contradiction bit) = zeros (allOf N)
+ownTables N L P u (beyond bit) = zeros (allOf N)
+
+-- the first I entries from `own`, the rest as it was
+abbrev pub over : ℕ → Tables → Tables → Tables
+over I own held = tables (own .values ++ drop I (held .values)) (own .precisions ++ drop I (held .precisions)) (own .marks ++ drop I (held .marks))
+
+-- a call whose checks all hold: the verdict on the usable bits decides the answer and the tables
+pub record Decoded (N L P : ℕ) (u : List Bool) (held : Tables) (answer : DecodeAnswer) (left : Tables) : Type 0 where
+  pub verdict : Verdict
+  pub judged : Judged N L P u verdict
+  pub answered : answer ≡ decodeAnswer N L P u verdict
+  pub filled : left ≡ over (allOf N) (ownTables N L P u verdict) held
+
+-- any call; "Numbers 1 to 11 touch no lent byte"
+abbrev pub DecodesTo : Outcome → ℕ → ℕ → ℕ → List Bool → Tables → DecodeAnswer → Tables → Type 0
+DecodesTo outcome.Done N L P u held answer left = Decoded N L P u held answer left
+DecodesTo (outcome.Refused why) N L P u held answer left = (answer ≡ decode.Refused why) × (left ≡ held)

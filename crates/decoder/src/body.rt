@@ -1,0 +1,115 @@
+// The call that reads a body.
+use refusals::Outcome;
+use refusals::Refusal;
+ghost use mathlib.Core.Path.{_≡_};
+ghost use Prim.Native.Nat.{_*_, _≤_};
+ghost use lib.IntN.{pos};
+ghost use lib.ListN.{length, replicate};
+ghost use Rattle.refusals.specs.Checks.{firstOf};
+ghost use Rattle.bits.specs.Bits.{bitsOf};
+ghost use Rattle.room.specs.Room.{decodeChecks, usableBits};
+ghost use Rattle.decoder.specs.Body.{tables, Decoded, DecodesTo};
+ghost use Rattle.decoder.specs.Calls.{ReadReady};
+
+// The bits used, the planes finished and the worst error.
+pub struct ReadTo {
+    pub used: u32,
+    pub finished: u32,
+    pub error: u32,
+}
+
+// What `decode` answers.
+pub enum DecodeAnswer {
+    Done(ReadTo),
+    Refused(Refusal),
+}
+
+// Puts 0 into every entry of the three tables.
+fn clear(values: &mut [i32], precisions: &mut [u8], marks: &mut [u8])
+    ensures { λ _. ⌜ now (values .exit) ≡ replicate (length (now (values .entry))) (pos 0) ⌝ }
+    ensures { λ _. ⌜ now (precisions .exit) ≡ replicate (length (now (precisions .entry))) 0 ⌝ }
+    ensures { λ _. ⌜ now (marks .exit) ≡ replicate (length (now (marks .entry))) 0 ⌝ }
+{
+    crate::finish::clear(values);
+    marking::fill(precisions, 0);
+    marking::fill(marks, 0);
+}
+
+// Reads a body whose checks hold into tables of I entries each.
+fn read(
+    n: u32,
+    l: u32,
+    p: u32,
+    body: &[u8],
+    usable: u32,
+    values: &mut [i32],
+    precisions: &mut [u8],
+    marks: &mut [u8],
+) -> DecodeAnswer
+    requires { ⌜ ReadReady n l p (length (now values)) (length (now precisions)) (length (now marks)) × (usable ≤ 8 * length (now body)) ⌝ }
+    ensures { λ r. ⌜ Decoded n l p (bitsOf usable (now (body .entry))) (tables (now (values .entry)) (now (precisions .entry)) (now (marks .entry))) r (tables (now (values .exit)) (now (precisions .exit)) (now (marks .exit))) ⌝ }
+{
+    let all = sizes::all_of(n);
+    let coarsest = sizes::coarsest_of(n, l);
+    marking::start(marks, coarsest);
+    crate::finish::clear(values);
+    marking::fill(precisions, p as u8);
+    let reached = crate::reading::scan(
+        body,
+        marks,
+        values,
+        precisions,
+        all,
+        coarsest,
+        p,
+        usable as usize,
+    );
+    let bits = reached.bits as u32;
+    if reached.bad {
+        clear(values, precisions, marks);
+        return DecodeAnswer::Refused(Refusal::Contradiction(bits));
+    }
+    if bits < usable {
+        clear(values, precisions, marks);
+        return DecodeAnswer::Refused(Refusal::Beyond(bits));
+    }
+    let left = reached.left;
+    crate::finish::finish(values, precisions, left);
+    DecodeAnswer::Done(ReadTo {
+        used: bits,
+        finished: p - left,
+        error: (1u32 << left) - 1,
+    })
+}
+
+// Reads the first `usable` bits of a body, or all that it has, into the first I entries of the three tables.
+pub fn decode(
+    n: u32,
+    l: u32,
+    p: u32,
+    body: &[u8],
+    usable: u32,
+    values: &mut [i32],
+    precisions: &mut [u8],
+    marks: &mut [u8],
+) -> DecodeAnswer
+    ensures { λ r. ⌜ DecodesTo (firstOf (decodeChecks n l p (length (now (values .entry))) (length (now (precisions .entry))) (length (now (marks .entry))))) n l p (usableBits usable (now (body .entry))) (tables (now (values .entry)) (now (precisions .entry)) (now (marks .entry))) r (tables (now (values .exit)) (now (precisions .exit)) (now (marks .exit))) ⌝ }
+{
+    match room::check_decode(n, l, p, values.len(), precisions.len(), marks.len()) {
+        Outcome::Done => {
+            let all = sizes::all_of(n);
+            let most = room::usable_of(usable, body.len());
+            read(
+                n,
+                l,
+                p,
+                body,
+                most,
+                &mut values[..all],
+                &mut precisions[..all],
+                &mut marks[..all],
+            )
+        }
+        Outcome::Refused(why) => DecodeAnswer::Refused(why),
+    }
+}

@@ -1,0 +1,439 @@
+// The decoder's scan: visits, passes, planes.
+// While it runs a known value is kept as a code: twice its magnitude, and 1 more where it is below 0.
+use crate::Reached;
+use crate::Turn;
+use bits::Next;
+ghost use mathlib.Core.Path.{_≡_};
+ghost use mathlib.Core.Bool.{_&&_, false};
+ghost use mathlib.Core.List.{List};
+ghost use Prim.Native.Nat.{ℕ, _*_, _/_, _<_, _≤_};
+ghost use lib.IntN.{ℤ};
+ghost use lib.ListN.{length, getD, set};
+ghost use Rattle.sizes.specs.Sizes.{mostN, mostPlanes, allOf};
+ghost use Rattle.coef.specs.Coef.{at};
+ghost use Rattle.nls.specs.Scan.{pixels, bitOf, inDesc, inGrand};
+ghost use Rattle.walk.specs.Scans.{planes, leftOf};
+ghost use Rattle.marking.specs.Marking.{descSplit, grandSplit};
+ghost use Rattle.walk.specs.Visits.{oneSeen, testSeen, pixelsSeen, setsSeen, refiningSeen, visitSeen, scanOf};
+ghost use Rattle.decoder.specs.Reading.{newCode, moreCode, is, childClash, grandClash, lastClash, rootClash, descClash, reader, read, st, Does, Room, Sizes, Holds};
+
+// A coefficient that is found in plane b, as a code.
+fn found(values: &mut [i32], b: u32, place: usize, negative: bool)
+    requires { ⌜ (place < length (now values)) × (b < mostPlanes) ⌝ }
+    ensures { λ _. ⌜ now (values .exit) ≡ set (now (values .entry)) place (newCode negative b) ⌝ }
+{
+    values[place] = ((2u32 << b) + (negative as u32)) as i32;
+}
+
+// Bit b of a magnitude, put into its code. Its place there was 0 before.
+fn refined(values: &mut [i32], b: u32, place: usize, x: bool)
+    requires { ⌜ (place < length (now values)) × (b < mostPlanes) ⌝ }
+    ensures { λ _. ⌜ now (values .exit) ≡ set (now (values .entry)) place (moreCode x b (at (now (values .entry)) place)) ⌝ }
+{
+    let old = values[place];
+    values[place] = old | (((x as u32) << (b + 1)) as i32);
+}
+
+// Whether three marks are all of one code.
+fn three(marks: &[u8], p: usize, q: usize, r: usize, code: u8) -> bool
+    requires { ⌜ (p < length (now marks)) × (q < length (now marks)) × (r < length (now marks)) ⌝ }
+    ensures { λ z. ⌜ z ≡ (is (now (marks .entry)) p code && (is (now (marks .entry)) q code && is (now (marks .entry)) r code)) ⌝ }
+{
+    if marks[p] != code {
+        return false;
+    }
+    if marks[q] != code {
+        return false;
+    }
+    marks[r] == code
+}
+
+// Whether a child's 0 fits no array.
+fn child_clash(marks: &[u8], all: usize, place: usize) -> bool
+    requires { ⌜ (place < all) × (length (now marks) ≡ all) × (all ≤ allOf mostN) ⌝ }
+    ensures { λ r. ⌜ r ≡ childClash all place (now (marks .entry)) ⌝ }
+{
+    if place % 4 != 3 {
+        return false;
+    }
+    if 16 * (place / 4) < all {
+        return false;
+    }
+    three(marks, place - 1, place - 2, place - 3, 1)
+}
+
+// Whether the 0 of a GRAND fits no array.
+fn grand_clash(marks: &[u8], all: usize, place: usize) -> bool
+    requires { ⌜ (place < all) × (length (now marks) ≡ all) × (16 ≤ all) ⌝ }
+    ensures { λ r. ⌜ r ≡ grandClash place (now (marks .entry)) ⌝ }
+{
+    let up = 4 * (place / 16);
+    if marks[up] != 1 {
+        return false;
+    }
+    three(marks, up + 1, up + 2, up + 3, 1)
+}
+
+// Whether the 0 of the last DESC of a split GRAND fits no array.
+fn last_clash(marks: &[u8], all: usize, place: usize) -> bool
+    requires { ⌜ (place < all) × (length (now marks) ≡ all) ⌝ }
+    ensures { λ r. ⌜ r ≡ lastClash place (now (marks .entry)) ⌝ }
+{
+    let up = place / 4;
+    if up % 4 != 3 {
+        return false;
+    }
+    three(marks, 4 * (up - 1), 4 * (up - 2), 4 * (up - 3), 5)
+}
+
+// Whether the 0 of the last root fits no array.
+fn root_clash(coarsest: usize, top: u32, n: usize, b: u32, place: usize) -> bool
+    requires { ⌜ (place < allOf mostN) × (coarsest ≤ allOf mostN) × (4 ≤ coarsest) × (b < mostPlanes) ⌝ }
+    ensures { λ r. ⌜ r ≡ rootClash coarsest top b n place ⌝ }
+{
+    if place + 4 != 4 * coarsest {
+        return false;
+    }
+    if b + 1 != top {
+        return false;
+    }
+    n == coarsest + 3 * coarsest / 4 - 1
+}
+
+// Whether the 0 of a DESC fits no array.
+fn desc_clash(
+    marks: &[u8],
+    all: usize,
+    coarsest: usize,
+    top: u32,
+    n: usize,
+    b: u32,
+    place: usize,
+) -> bool
+    requires { ⌜ (place < all) × (length (now marks) ≡ all) × (b < mostPlanes) × Sizes all coarsest top ⌝ }
+    ensures { λ r. ⌜ r ≡ descClash coarsest top b n place (now (marks .entry)) ⌝ }
+{
+    if 4 * coarsest <= place {
+        return last_clash(marks, all, place);
+    }
+    root_clash(coarsest, top, n, b, place)
+}
+
+// Whether a coefficient's 0 fits no array: in the set pass it may not.
+fn one_clash(marks: &[u8], all: usize, place: usize, in_sets: bool) -> bool
+    requires { ⌜ (place < all) × (length (now marks) ≡ all) × (all ≤ allOf mostN) ⌝ }
+    ensures { λ r. ⌜ r ≡ (in_sets && childClash all place (now (marks .entry))) ⌝ }
+{
+    if in_sets {
+        return child_clash(marks, all, place);
+    }
+    false
+}
+
+// A coefficient by itself: its bit, and after a 1 its sign.
+fn coefficient(
+    body: &[u8],
+    marks: &mut [u8],
+    values: &mut [i32],
+    precisions: &mut [u8],
+    all: usize,
+    usable: usize,
+    n: usize,
+    b: u32,
+    place: usize,
+    in_sets: bool,
+) -> Turn
+    requires { ⌜ Room (now body) (now marks) (now values) (now precisions) all usable place n b ⌝ }
+    ensures { λ r. ⌜ Does (oneSeen (reader (now (body .entry)) usable all 0 0) pixels b place (in_sets && childClash all place (now (marks .entry))) (now (marks .entry)) (read (now (values .entry)) (now (precisions .entry)) n)) usable place n r (now (marks .exit)) (now (values .exit)) (now (precisions .exit)) ⌝ }
+{
+    match view::read(body, n, usable) {
+        Next::Bit(x) => {
+            let k = n + 1;
+            if x {
+                return match view::read(body, k, usable) {
+                    Next::Bit(negative) => {
+                        found(values, b, place, negative);
+                        precisions[place] = b as u8;
+                        marks[place] = 2;
+                        Turn::Go(k + 1, place + 1)
+                    }
+                    Next::NoMore => Turn::Stop(k, place),
+                };
+            }
+            if one_clash(marks, all, place, in_sets) {
+                return Turn::Bad(n, place);
+            }
+            precisions[place] = b as u8;
+            marks[place] = 1;
+            Turn::Go(k, place + 1)
+        }
+        Next::NoMore => Turn::Stop(n, place),
+    }
+}
+
+// A place of the pixel pass.
+fn pixel(
+    body: &[u8],
+    marks: &mut [u8],
+    values: &mut [i32],
+    precisions: &mut [u8],
+    all: usize,
+    usable: usize,
+    n: usize,
+    b: u32,
+    place: usize,
+) -> Turn
+    requires { ⌜ Room (now body) (now marks) (now values) (now precisions) all usable place n b ⌝ }
+    ensures { λ r. ⌜ Does (pixelsSeen (reader (now (body .entry)) usable all 0 0) b place (getD (now (marks .entry)) place 0) (now (marks .entry)) (read (now (values .entry)) (now (precisions .entry)) n)) usable place n r (now (marks .exit)) (now (values .exit)) (now (precisions .exit)) ⌝ }
+{
+    let mark = marks[place];
+    if mark == 1 {
+        return coefficient(
+            body,
+            marks,
+            values,
+            precisions,
+            all,
+            usable,
+            n,
+            b,
+            place,
+            false,
+        );
+    }
+    let next = place + marking::skip(mark);
+    Turn::Go(n, next)
+}
+
+// A place of the refinement pass.
+fn refine(
+    body: &[u8],
+    marks: &mut [u8],
+    values: &mut [i32],
+    precisions: &mut [u8],
+    all: usize,
+    usable: usize,
+    n: usize,
+    b: u32,
+    place: usize,
+) -> Turn
+    requires { ⌜ Room (now body) (now marks) (now values) (now precisions) all usable place n b ⌝ }
+    ensures { λ r. ⌜ Does (refiningSeen (reader (now (body .entry)) usable all 0 0) b place (getD (now (marks .entry)) place 0) (now (marks .entry)) (read (now (values .entry)) (now (precisions .entry)) n)) usable place n r (now (marks .exit)) (now (values .exit)) (now (precisions .exit)) ⌝ }
+{
+    let mark = marks[place];
+    if mark == 3 {
+        return match view::read(body, n, usable) {
+            Next::Bit(x) => {
+                refined(values, b, place, x);
+                precisions[place] = b as u8;
+                Turn::Go(n + 1, place + 1)
+            }
+            Next::NoMore => Turn::Stop(n, place),
+        };
+    }
+    if 3 < mark {
+        let next = place + marking::skip(mark);
+        return Turn::Go(n, next);
+    }
+    if mark == 2 {
+        marks[place] = 3;
+        return Turn::Go(n, place + 1);
+    }
+    Turn::Go(n, place + 1)
+}
+
+// The test of a DESC.
+fn test_desc(
+    body: &[u8],
+    marks: &mut [u8],
+    all: usize,
+    coarsest: usize,
+    top: u32,
+    usable: usize,
+    n: usize,
+    b: u32,
+    place: usize,
+) -> Turn
+    requires { ⌜ (place < all) × (length (now marks) ≡ all) × (b < mostPlanes) × (n ≤ usable) × (usable ≤ 8 * length (now body)) × Sizes all coarsest top ⌝ }
+    ensures { λ r. ⌜ ((v : List ℤ) (p : List ℕ) → Does (testSeen (reader (now (body .entry)) usable all coarsest top) b place (inDesc (place / 4) b) 4 (descClash coarsest top b n place (now (marks .entry))) (descSplit all place (now (marks .entry))) (now (marks .entry)) (read v p n)) usable place n r (now (marks .exit)) v p) ⌝ }
+{
+    match view::read(body, n, usable) {
+        Next::Bit(x) => {
+            if x {
+                marking::split_desc(marks, place);
+                return Turn::Go(n + 1, place);
+            }
+            if desc_clash(marks, all, coarsest, top, n, b, place) {
+                return Turn::Bad(n, place);
+            }
+            Turn::Go(n + 1, place + 4)
+        }
+        Next::NoMore => Turn::Stop(n, place),
+    }
+}
+
+// The test of a GRAND.
+fn test_grand(
+    body: &[u8],
+    marks: &mut [u8],
+    all: usize,
+    usable: usize,
+    n: usize,
+    b: u32,
+    place: usize,
+) -> Turn
+    requires { ⌜ (place < all) × (length (now marks) ≡ all) × (all ≤ allOf mostN) × (16 ≤ all) × (n ≤ usable) × (usable ≤ 8 * length (now body)) ⌝ }
+    ensures { λ r. ⌜ ((v : List ℤ) (p : List ℕ) → Does (testSeen (reader (now (body .entry)) usable all 0 0) b place (inGrand (place / 16) b) 16 (grandClash place (now (marks .entry))) (grandSplit all place (now (marks .entry))) (now (marks .entry)) (read v p n)) usable place n r (now (marks .exit)) v p) ⌝ }
+{
+    match view::read(body, n, usable) {
+        Next::Bit(x) => {
+            if x {
+                marking::split_grand(marks, place);
+                return Turn::Go(n + 1, place);
+            }
+            if grand_clash(marks, all, place) {
+                return Turn::Bad(n, place);
+            }
+            Turn::Go(n + 1, place + 16)
+        }
+        Next::NoMore => Turn::Stop(n, place),
+    }
+}
+
+// A place of the set pass.
+fn sets(
+    body: &[u8],
+    marks: &mut [u8],
+    values: &mut [i32],
+    precisions: &mut [u8],
+    all: usize,
+    coarsest: usize,
+    top: u32,
+    usable: usize,
+    n: usize,
+    b: u32,
+    place: usize,
+) -> Turn
+    requires { ⌜ Room (now body) (now marks) (now values) (now precisions) all usable place n b × Sizes all coarsest top ⌝ }
+    ensures { λ r. ⌜ Does (setsSeen (reader (now (body .entry)) usable all coarsest top) all b place (getD (now (marks .entry)) place 0) (now (marks .entry)) (read (now (values .entry)) (now (precisions .entry)) n)) usable place n r (now (marks .exit)) (now (values .exit)) (now (precisions .exit)) ⌝ }
+{
+    let mark = marks[place];
+    if mark == 4 {
+        return coefficient(
+            body,
+            marks,
+            values,
+            precisions,
+            all,
+            usable,
+            n,
+            b,
+            place,
+            true,
+        );
+    }
+    if mark == 5 {
+        return test_desc(body, marks, all, coarsest, top, usable, n, b, place);
+    }
+    if mark == 6 {
+        return test_grand(body, marks, all, usable, n, b, place);
+    }
+    let next = place + marking::set_skip(mark);
+    Turn::Go(n, next)
+}
+
+// A place of a pass.
+fn visit(
+    body: &[u8],
+    marks: &mut [u8],
+    values: &mut [i32],
+    precisions: &mut [u8],
+    all: usize,
+    coarsest: usize,
+    top: u32,
+    usable: usize,
+    n: usize,
+    b: u32,
+    pass: u32,
+    place: usize,
+) -> Turn
+    requires { ⌜ Room (now body) (now marks) (now values) (now precisions) all usable place n b × Sizes all coarsest top ⌝ }
+    ensures { λ r. ⌜ Does (visitSeen (reader (now (body .entry)) usable all coarsest top) all b pass place (st (now (marks .entry)) (now (values .entry)) (now (precisions .entry)) n)) usable place n r (now (marks .exit)) (now (values .exit)) (now (precisions .exit)) ⌝ }
+{
+    if pass == 0 {
+        return pixel(body, marks, values, precisions, all, usable, n, b, place);
+    }
+    if pass == 1 {
+        return sets(
+            body,
+            marks,
+            values,
+            precisions,
+            all,
+            coarsest,
+            top,
+            usable,
+            n,
+            b,
+            place,
+        );
+    }
+    refine(body, marks, values, precisions, all, usable, n, b, place)
+}
+
+// The scan of `top` planes, left where no usable bit is left or the next one fits no array.
+pub(crate) fn scan(
+    body: &[u8],
+    marks: &mut [u8],
+    values: &mut [i32],
+    precisions: &mut [u8],
+    all: usize,
+    coarsest: usize,
+    top: u32,
+    usable: usize,
+) -> Reached
+    requires { ⌜ (length (now marks) ≡ all) × (length (now values) ≡ all) × (length (now precisions) ≡ all) × (usable ≤ 8 * length (now body)) × Sizes all coarsest top ⌝ }
+    ensures { λ r. ⌜ Holds (planes (scanOf (reader (now (body .entry)) usable all coarsest top) all) top (st (now (marks .entry)) (now (values .entry)) (now (precisions .entry)) 0)) (leftOf (scanOf (reader (now (body .entry)) usable all coarsest top) all) top (st (now (marks .entry)) (now (values .entry)) (now (precisions .entry)) 0)) (r .bits) (r .left) (r .bad) (now (marks .exit)) (now (values .exit)) (now (precisions .exit)) ⌝ }
+{
+    let mut n = 0;
+    let mut left = top;
+    let mut bad = false;
+    'scan: while 0 < left {
+        let b = left - 1;
+        for pass in 0..3 {
+            let mut place = 0;
+            while place < all {
+                match visit(
+                    body,
+                    marks,
+                    values,
+                    precisions,
+                    all,
+                    coarsest,
+                    top,
+                    usable,
+                    n,
+                    b,
+                    pass,
+                    place,
+                ) {
+                    Turn::Stop(k, _) => {
+                        n = k;
+                        break 'scan;
+                    }
+                    Turn::Bad(k, _) => {
+                        n = k;
+                        bad = true;
+                        break 'scan;
+                    }
+                    Turn::Go(k, p) => {
+                        place = p;
+                        n = k;
+                    }
+                }
+            }
+        }
+        left = b;
+    }
+    Reached { bits: n, left, bad }
+}

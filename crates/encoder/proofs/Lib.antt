@@ -1,0 +1,5 @@
+pub mod WriteLaws
+pub mod WriteTurns
+pub mod Sent
+pub mod EncodeLaws
+pub mod Decided

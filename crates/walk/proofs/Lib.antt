@@ -1,0 +1,5 @@
+pub mod Turns
+pub mod Good
+pub mod Whole
+pub mod VisitLaws
+pub mod Led

@@ -1,0 +1,124 @@
+-- The whole scan: what the machine keeps holds where the scan ends.
+use Prim.Native.Nat.{ℕ, zero, suc, _+_, _-_, _^_, _≤_, _<_}
+use mathlib.Core.Path.{_≡_, refl, subst}
+use mathlib.Core.List.{List}
+use mathlib.Core.Bool.{Bool, true, false}
+use native.Mathlib.Omega.{arith}
+use lib.ListN.{getD}
+use lib.Dec.{ltb, eqb}
+use borrow.Author.Tests.{le-ltb, ltb-true, ltb-false, ne-eqb}
+use Rattle.nls.specs.Scan.{Pass, pixels, sets, refining, State, at}
+use Rattle.nls.proofs.Joined.Codes.{Codes}
+use Rattle.walk.specs.Scans.{Seen, halt, refuse, move, Scan, Ran, out, bad, on, then, follow, places, passes, planes, leftOf}
+use Rattle.walk.specs.Visits.{Source, Sv, sv, visitSeen, scanOf}
+use Rattle.walk.proofs.Good.{Keeps, Stopped, Barred, Stands, Good, pixels-good, sets-good, refining-good}
+
+abbrev pub passOf : ℕ → Pass
+passOf zero = pixels
+passOf (suc zero) = sets
+passOf (suc (suc n)) = refining
+
+module _ {O : Type 0} (K : Source O) (N : ℕ) (P : State → O → Type 0) where
+  abbrev Here : ℕ → Pass → ℕ → Sv O → Type 0
+  Here l p i v = Stands K N P l p i v
+
+  pub record Past (b pass : ℕ) (v : Sv O) : Type 0 where
+    pub place : ℕ
+    pub beyond : 4 ^ N ≤ place
+    pub here : Here (suc b) (passOf pass) place v
+
+  abbrev PlacesGood : ℕ → ℕ → Ran (Sv O) → Type 0
+  PlacesGood b pass (out v) = Stopped K (4 ^ N) P (suc b) v
+  PlacesGood b pass (bad v) = Barred K (4 ^ N) P (suc b) v
+  PlacesGood b pass (on v) = Past b pass v
+
+  abbrev PassesGood : ℕ → Ran (Sv O) → Type 0
+  PassesGood b (out v) = Stopped K (4 ^ N) P (suc b) v
+  PassesGood b (bad v) = Barred K (4 ^ N) P (suc b) v
+  PassesGood b (on v) = Here b pixels 0 v
+
+  -- how a scan ends, with l planes not finished: for want of a bit, at a refused 0, or after plane 0
+  abbrev pub Ended : ℕ → Ran (Sv O) → Type 0
+  Ended l (out v) = Stopped K (4 ^ N) P l v
+  Ended l (bad v) = Barred K (4 ^ N) P l v
+  Ended l (on v) = (l ≡ 0) × Here 0 pixels 0 v
+
+module _ {O : Type 0} (K : Source O) (N : ℕ) (P : State → O → Type 0) (w : Keeps K (4 ^ N) P) (two : 2 ≤ N) (eight : N ≤ 8) where
+  abbrev I : ℕ
+  I = 4 ^ N
+
+  abbrev E : Scan (Sv O)
+  E = scanOf K I
+
+  visit-good : (b pass i : ℕ) (v : Sv O) → Here K N P (suc b) (passOf pass) i v → i < I → Good K N P b (passOf pass) i (K .used (v .rest)) (visitSeen K I b pass i v)
+  unfolding visitSeen
+  visit-good b zero i v h l = pixels-good K N P w two eight b i (v .marks) (v .rest) (h .codes) l (h .cap) (h .held)
+  visit-good b (suc zero) i v h l = sets-good K N P w two eight b i (v .marks) (v .rest) (h .codes) l (h .cap) (h .held)
+  visit-good b (suc (suc n)) i v h l =
+      let z0 : eqb (suc (suc n)) 0 ≡ false = ne-eqb (suc (suc n)) 0 (λ e. absurd (omega (arith, e))) in
+      let z1 : eqb (suc (suc n)) 1 ≡ false = ne-eqb (suc (suc n)) 1 (λ e. absurd (omega (arith, e))) in
+      rw (z0, z1) (refining-good K N P w two eight b i (v .marks) (v .rest) (h .codes) l (h .cap) (h .held))
+
+  places-good : (f b pass i : ℕ) (v : Sv O) → Here K N P (suc b) (passOf pass) i v → (I - i) + (K .budget - K .used (v .rest)) ≤ f
+      → PlacesGood K N P b pass (places E b pass f i v)
+  unfolding places
+  places-good zero b pass i v h e = record { place = i; beyond = omega (arith, e); here = h }
+  places-good (suc f) b pass i v h e = go (ltb i I) refl (λ j u. places-good f b pass j u)
+    where
+      on-seen : (s : Seen (Sv O)) → Good K N P b (passOf pass) i (K .used (v .rest)) s → i < I
+          → ((j : ℕ) (u : Sv O) → Here K N P (suc b) (passOf pass) j u → (I - j) + (K .budget - K .used (u .rest)) ≤ f → PlacesGood K N P b pass (places E b pass f j u))
+          → PlacesGood K N P b pass (follow (λ p u. places E b pass f p u) s)
+      on-seen (halt u) g l ih = g
+      on-seen (refuse u) g l ih = g
+      on-seen (move j u) g l ih = ih j u (g .stands) (omega (arith, e, l, g .forth, g .spent, g .falls, g .stands .cap, h .cap))
+
+      go : (x : Bool) → ltb i I ≡ x
+          → ((j : ℕ) (u : Sv O) → Here K N P (suc b) (passOf pass) j u → (I - j) + (K .budget - K .used (u .rest)) ≤ f → PlacesGood K N P b pass (places E b pass f j u))
+          → PlacesGood K N P b pass (elim x as (λ _. Ran (Sv O)) [ false ↦ on v | true ↦ follow (λ p u. places E b pass f p u) (visitSeen K I b pass i v) ])
+      go true y ih = on-seen (visitSeen K I b pass i v) (visit-good b pass i v h (ltb-true i I y)) (ltb-true i I y) ih
+      go false y ih = record { place = i; beyond = ltb-false i I y; here = h }
+
+  -- the end of each pass is a silent move
+  turn-pixels : (b : ℕ) (v : Sv O) → Past K N P b 0 v → Here K N P (suc b) sets 0 v
+  turn-pixels b v h = record { held = w .silence _ _ (v .rest) (h .here .held) (rw (le-ltb (h .place) I (h .beyond))); codes = h .here .codes; cap = h .here .cap }
+
+  turn-sets : (b : ℕ) (v : Sv O) → Past K N P b 1 v → Here K N P (suc b) refining 0 v
+  turn-sets b v h = record { held = w .silence _ _ (v .rest) (h .here .held) (rw (le-ltb (h .place) I (h .beyond))); codes = h .here .codes; cap = h .here .cap }
+
+  turn-refining : (b : ℕ) (v : Sv O) → Past K N P b 2 v → Here K N P b pixels 0 v
+  turn-refining b v h = record { held = w .silence _ _ (v .rest) (h .here .held) (rw (le-ltb (h .place) I (h .beyond))); codes = h .here .codes; cap = h .here .cap }
+
+  pass-good : (b pass : ℕ) (v : Sv O) → Here K N P (suc b) (passOf pass) 0 v → PlacesGood K N P b pass (places E b pass (I + K .budget) 0 v)
+  pass-good b pass v h = places-good (I + K .budget) b pass 0 v h (omega arith)
+
+  passes-good : (b : ℕ) (v : Sv O) → Here K N P (suc b) pixels 0 v → PassesGood K N P b (passes E b 3 0 v)
+  unfolding passes
+  passes-good b v h = first (places E b 0 (I + K .budget) 0 v) (pass-good b 0 v h)
+    where
+      third : (r : Ran (Sv O)) → PlacesGood K N P b 2 r → PassesGood K N P b (then r (λ u. on u))
+      third (out u) g = g
+      third (bad u) g = g
+      third (on u) g = turn-refining b u g
+
+      second : (r : Ran (Sv O)) → PlacesGood K N P b 1 r → PassesGood K N P b (then r (λ u. then (places E b 2 (I + K .budget) 0 u) (λ x. on x)))
+      second (out u) g = g
+      second (bad u) g = g
+      second (on u) g = third (places E b 2 (I + K .budget) 0 u) (pass-good b 2 u (turn-sets b u g))
+
+      first : (r : Ran (Sv O)) → PlacesGood K N P b 0 r
+          → PassesGood K N P b (then r (λ u. then (places E b 1 (I + K .budget) 0 u) (λ x. then (places E b 2 (I + K .budget) 0 x) (λ y. on y))))
+      first (out u) g = g
+      first (bad u) g = g
+      first (on u) g = second (places E b 1 (I + K .budget) 0 u) (pass-good b 1 u (turn-pixels b u g))
+
+  -- for any source, and any P that the machine keeps
+  pub scan-good : (b : ℕ) (v : Sv O) → Stands K N P b pixels 0 v → Ended K N P (leftOf E b v) (planes E b v)
+  unfolding planes leftOf
+  scan-good zero v h = (refl, h)
+  scan-good (suc b) v h = go (passes E b 3 0 v) (passes-good b v h) (λ u. scan-good b u)
+    where
+      go : (r : Ran (Sv O)) → PassesGood K N P b r → ((u : Sv O) → Here K N P b pixels 0 u → Ended K N P (leftOf E b u) (planes E b u))
+          → Ended K N P (elim r as (λ _. ℕ) [ out u ↦ suc b | bad u ↦ suc b | on u ↦ leftOf E b u ]) (then r (λ u. planes E b u))
+      go (out u) g ih = g
+      go (bad u) g ih = g
+      go (on u) g ih = ih u g
