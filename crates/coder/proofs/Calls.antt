@@ -25,33 +25,33 @@ use Rattle.nls.specs.Reading.{midpoint, valueBy, highBits, precisionAt, valuesB
 use Rattle.nls.specs.Judging.{Begins, Fits, Contradicts, IsBeyond, Verdict, taken, contradiction, beyond, Judged}
 use Rattle.nls.proofs.Demands as demands
 use Rattle.nls.proofs.Verdicts.{judged-only}
-use Rattle.room.specs.Room.{encodeChecks, decodeChecks, usableBits}
+use Rattle.room.specs.Room.{writeChecks, readChecks, bodyBits}
 use Rattle.room.specs.Ready.{EncodeReady}
 use Rattle.room.proofs.Laws.{encode-ready, decode-well}
-use Rattle.encoder.specs.Body.{sentBits, encodeAnswer, encodeEnd, sentMarks, outputAfter}
-use Rattle.decoder.specs.Body.{decodeAnswer, Tables, tables, ownTables, over, Decoded, DecodesTo}
+use Rattle.encoder.specs.Body.{sentBits, writeAnswer, writeEnd, sentMarks, outputAfter}
+use Rattle.decoder.specs.Body.{readAnswer, Tables, tables, ownTables, over, BodyRead, ReadsTo}
 use Rattle.encoder.specs.declared.body.Written.{Written}
-use Rattle.encoder.specs.declared.body.EncodeAnswer.{EncodeAnswer}
-use Rattle.encoder.specs.declared.body.EncodeAnswer.the-variants as encode
+use Rattle.encoder.specs.declared.body.WriteAnswer.{WriteAnswer}
+use Rattle.encoder.specs.declared.body.WriteAnswer.the-variants as encode
 use Rattle.decoder.specs.declared.body.ReadTo.{ReadTo}
-use Rattle.decoder.specs.declared.body.DecodeAnswer.{DecodeAnswer}
-use Rattle.decoder.specs.declared.body.DecodeAnswer.the-variants as decode
+use Rattle.decoder.specs.declared.body.ReadAnswer.{ReadAnswer}
+use Rattle.decoder.specs.declared.body.ReadAnswer.the-variants as decode
 use Rattle.encoder.proofs.EncodeLaws.{planes-so}
 
 -- ---- a call of `decode` whose checks hold
 
-module _ (N L P : ℕ) (z : Sized N L) (u : List Bool) (held : Tables) (answer : DecodeAnswer) (left : Tables) (d : Decoded N L P u held answer left) where
+module _ (N L P : ℕ) (z : Sized N L) (u : List Bool) (held : Tables) (answer : ReadAnswer) (left : Tables) (d : BodyRead N L P u held answer left) where
   -- the bits fit some array: what they give
-  pub taken-so : Fits N L P u → (answer ≡ decodeAnswer N L P u taken) × (left ≡ over (allOf N) (ownTables N L P u taken) held)
+  pub taken-so : Fits N L P u → (answer ≡ readAnswer N L P u taken) × (left ≡ over (allOf N) (ownTables N L P u taken) held)
   taken-so f =
       let e : d .verdict ≡ taken = judged-only N L z P u (d .verdict) taken (d .judged) f in
-      (d .answered ∙ ap (λ (v : Verdict). decodeAnswer N L P u v) e, d .filled ∙ ap (λ (v : Verdict). over (allOf N) (ownTables N L P u v) held) e)
+      (d .answered ∙ ap (λ (v : Verdict). readAnswer N L P u v) e, d .filled ∙ ap (λ (v : Verdict). over (allOf N) (ownTables N L P u v) held) e)
 
   -- REFUSED EXACTLY: a body is taken if and only if some array fits, and refused as 12 or 13 at the bit that document 01 says
   pub done-fits : (r : ReadTo) → answer ≡ decode.Done r → Fits N L P u
   done-fits r e = go (d .verdict) (d .judged) (sym (d .answered) ∙ e)
     where
-      go : (v : Verdict) → Judged N L P u v → decodeAnswer N L P u v ≡ decode.Done r → Fits N L P u
+      go : (v : Verdict) → Judged N L P u v → readAnswer N L P u v ≡ decode.Done r → Fits N L P u
       go taken j f = j
       go (contradiction k) j f = absurd (let z : _≡_ {A = ℕ} 0 1 = cc in omega arith)
       go (beyond k) j f = absurd (let z : _≡_ {A = ℕ} 0 1 = cc in omega arith)
@@ -62,7 +62,7 @@ module _ (N L P : ℕ) (z : Sized N L) (u : List Bool) (held : Tables) (answer :
   pub twelve : (k : ℕ) → answer ≡ decode.Refused (Contradiction k) → Contradicts N L P u k
   twelve k e = go (d .verdict) (d .judged) (sym (d .answered) ∙ e)
     where
-      go : (v : Verdict) → Judged N L P u v → decodeAnswer N L P u v ≡ decode.Refused (Contradiction k) → Contradicts N L P u k
+      go : (v : Verdict) → Judged N L P u v → readAnswer N L P u v ≡ decode.Refused (Contradiction k) → Contradicts N L P u k
       go taken j f = absurd (let z : _≡_ {A = ℕ} 0 1 = cc in omega arith)
       go (contradiction n) j f = let e : n ≡ k = cc in subst (λ (x : ℕ). Contradicts N L P u x) e j
       go (beyond n) j f = absurd (let z : _≡_ {A = ℕ} 0 1 = cc in omega arith)
@@ -70,7 +70,7 @@ module _ (N L P : ℕ) (z : Sized N L) (u : List Bool) (held : Tables) (answer :
   pub thirteen : (k : ℕ) → answer ≡ decode.Refused (Beyond k) → IsBeyond N L P u k
   thirteen k e = go (d .verdict) (d .judged) (sym (d .answered) ∙ e)
     where
-      go : (v : Verdict) → Judged N L P u v → decodeAnswer N L P u v ≡ decode.Refused (Beyond k) → IsBeyond N L P u k
+      go : (v : Verdict) → Judged N L P u v → readAnswer N L P u v ≡ decode.Refused (Beyond k) → IsBeyond N L P u k
       go taken j f = absurd (let z : _≡_ {A = ℕ} 0 1 = cc in omega arith)
       go (contradiction n) j f = absurd (let z : _≡_ {A = ℕ} 0 1 = cc in omega arith)
       go (beyond n) j f = let e : n ≡ k = cc in subst (λ (x : ℕ). IsBeyond N L P u x) e j
@@ -89,16 +89,16 @@ module _ (N L P : ℕ) (z : Sized N L) (u : List Bool) (held : Tables) (answer :
 
 -- ---- `decode` of what `encode` wrote
 
-module _ (N L : ℕ) (A : List ℤ) (descs grands marks offset budget : ℕ) (out₀ out : List ℕ) (wrote : EncodeAnswer)
-    (encoded : wrote ≡ encodeAnswer N L A budget (firstOf (encodeChecks N L A descs grands marks (length out₀) offset budget)))
-    (written : out ≡ outputAfter (encodeEnd wrote) offset (packed (sentBits N L A budget)) out₀)
+module _ (N L : ℕ) (A : List ℤ) (descs grands marks offset budget : ℕ) (out₀ out : List ℕ) (wrote : WriteAnswer)
+    (encoded : wrote ≡ writeAnswer N L A budget (firstOf (writeChecks N L A descs grands marks (length out₀) offset budget)))
+    (written : out ≡ outputAfter (writeEnd wrote) offset (packed (sentBits N L A budget)) out₀)
     (w : Written) (done : wrote ≡ encode.Done w) where
-  done-so : (o : Outcome) → encodeAnswer N L A budget o ≡ encode.Done w → (o ≡ outcome.Done) × (w ≡ record { planes = planesOf A; bits = length (sentBits N L A budget) })
+  done-so : (o : Outcome) → writeAnswer N L A budget o ≡ encode.Done w → (o ≡ outcome.Done) × (w ≡ record { planes = planesOf A; bits = length (sentBits N L A budget) })
   done-so outcome.Done e = (refl, cc)
   done-so (outcome.Refused why) e = absurd (let z : _≡_ {A = ℕ} 0 1 = cc in omega arith)
 
-  checked : (firstOf (encodeChecks N L A descs grands marks (length out₀) offset budget) ≡ outcome.Done) × (w ≡ record { planes = planesOf A; bits = length (sentBits N L A budget) })
-  checked = done-so (firstOf (encodeChecks N L A descs grands marks (length out₀) offset budget)) (sym encoded ∙ done)
+  checked : (firstOf (writeChecks N L A descs grands marks (length out₀) offset budget) ≡ outcome.Done) × (w ≡ record { planes = planesOf A; bits = length (sentBits N L A budget) })
+  checked = done-so (firstOf (writeChecks N L A descs grands marks (length out₀) offset budget)) (sym encoded ∙ done)
 
   ready : EncodeReady N L A descs grands (length out₀ - offset) budget × (allOf N ≤ marks) × (offset ≤ length out₀)
   ready = encode-ready N L A descs grands marks (length out₀) offset budget (sym (checked .0))
@@ -124,26 +124,26 @@ module _ (N L : ℕ) (A : List ℤ) (descs grands marks offset budget : ℕ) (ou
       go (no h) = take-all (length u) S (omega (arith, length-take budget S)) ∙ sym (take-all budget S (omega arith))
 
   -- and they are what `decode` reads where they were put
-  pub same-bits : usableBits (w .bits) (drop offset out) ≡ sentBits N L A budget
+  pub same-bits : bodyBits (w .bits) (drop offset out) ≡ sentBits N L A budget
   same-bits =
       let rest : List ℕ = drop (offset + length (packed u)) out₀ in
-      let put : out ≡ take offset out₀ ++ (packed u ++ rest) = written ∙ ap (λ (r : EncodeAnswer). outputAfter (encodeEnd r) offset (packed u) out₀) done in
+      let put : out ≡ take offset out₀ ++ (packed u ++ rest) = written ∙ ap (λ (r : WriteAnswer). outputAfter (writeEnd r) offset (packed u) out₀) done in
       let there : drop offset out ≡ packed u ++ rest = ap (λ (l : List ℕ). drop offset l) put ∙ drop-at (take offset out₀) (packed u ++ rest) offset (length-take-le offset out₀ (ready .2)) in
       let bits : w .bits ≡ length u = ap (λ (x : Written). x .bits) (checked .1) in
       let most : min (length u) (8 * length (packed u ++ rest)) ≡ length u = omega (arith, length-append (packed u) rest, packed-length u) in
       rw (bits, there, most) (bitsOf-append (length u) (packed u) rest (omega (arith, packed-length u)) ∙ bitsOf-packed u)
 
-  module _ (held left : Tables) (read : DecodeAnswer) (hv : allOf N ≤ length (held .values)) (hp : allOf N ≤ length (held .precisions)) (hm : allOf N ≤ length (held .marks))
-      (decoded : DecodesTo (firstOf (decodeChecks N L (w .planes) (length (held .values)) (length (held .precisions)) (length (held .marks)))) N L (w .planes) (usableBits (w .bits) (drop offset out)) held read left) where
-    so : Decoded N L P u held read left
+  module _ (held left : Tables) (read : ReadAnswer) (hv : allOf N ≤ length (held .values)) (hp : allOf N ≤ length (held .precisions)) (hm : allOf N ≤ length (held .marks))
+      (decoded : ReadsTo (firstOf (readChecks N L (w .planes) (length (held .values)) (length (held .precisions)) (length (held .marks)))) N L (w .planes) (bodyBits (w .bits) (drop offset out)) held read left) where
+    so : BodyRead N L P u held read left
     so =
         let planes : w .planes ≡ P = ap (λ (x : Written). x .planes) (checked .1) in
         let few = planes-so N L A descs grands (length out₀ - offset) budget (ready .0) P (planes-of A) .1 in
-        let well : firstOf (decodeChecks N L P (length (held .values)) (length (held .precisions)) (length (held .marks))) ≡ outcome.Done =
+        let well : firstOf (readChecks N L P (length (held .values)) (length (held .precisions)) (length (held .marks))) ≡ outcome.Done =
         sym (decode-well N L P (length (held .values)) (length (held .precisions)) (length (held .marks)) (ready .0 .side) (ready .0 .levels) few hv hp hm) in
-        subst (λ (o : Outcome). DecodesTo o N L P u held read left) well
-        (subst (λ (b : List Bool). DecodesTo (firstOf (decodeChecks N L P (length (held .values)) (length (held .precisions)) (length (held .marks)))) N L P b held read left) same-bits
-        (subst (λ (p : ℕ). DecodesTo (firstOf (decodeChecks N L p (length (held .values)) (length (held .precisions)) (length (held .marks)))) N L p (usableBits (w .bits) (drop offset out)) held read left) planes decoded))
+        subst (λ (o : Outcome). ReadsTo o N L P u held read left) well
+        (subst (λ (b : List Bool). ReadsTo (firstOf (readChecks N L P (length (held .values)) (length (held .precisions)) (length (held .marks)))) N L P b held read left) same-bits
+        (subst (λ (p : ℕ). ReadsTo (firstOf (readChecks N L p (length (held .values)) (length (held .precisions)) (length (held .marks)))) N L p (bodyBits (w .bits) (drop offset out)) held read left) planes decoded))
 
     -- IN STEP: what was written is taken, whatever the budget, and the decoder's marks are the encoder's
     pub back : (read ≡ decode.Done (record { used = length (sentBits N L A budget); finished = planesFinished N L (planesOf A) (sentBits N L A budget); error = worstError N L (planesOf A) (sentBits N L A budget) }))

@@ -15,7 +15,7 @@ use Rattle.refusals.proofs.Decided.{OneOutcome}
 use Rattle.sizes.specs.Sizes.{Sized}
 use Rattle.nls.specs.Judging.{Verdict}
 use Rattle.nls.proofs.Verdicts.{judged-only}
-use Rattle.room.specs.Room.{usableBits}
+use Rattle.room.specs.Room.{bodyBits}
 use Rattle.decoder.specs.Body.{Tables, tables}
 use Rattle.decoder.proofs.Decided.{decodes-one}
 use Rattle.txp.specs.declared.Header.{Header}
@@ -189,7 +189,7 @@ file-one bytes held r r' a a' left left' p q =
 body-one : (N L P usable : ℕ) (bytes : List ℕ) (held : Tables) (r r' : ℕ) (a a' : List ℕ) (left left' : Tables)
     → BodyDecoded N L P usable bytes held r a left → BodyDecoded N L P usable bytes held r' a' left' → (r ≡ r') × (a ≡ a') × (left ≡ left')
 body-one N L P usable bytes held r r' a a' left left' p q =
-    let one = decodes-one N L P (length (held .values)) (length (held .precisions)) (length (held .marks)) (usableBits usable bytes) held (p .said) (q .said) left left' (p .decodes) (q .decodes) in
+    let one = decodes-one N L P (length (held .values)) (length (held .precisions)) (length (held .marks)) (bodyBits usable bytes) held (p .said) (q .said) left left' (p .decodes) (q .decodes) in
     let said = one-answer (ap read (one .0)) (p .answers) (q .answers) in
     (said .0, said .1, one .1)
 

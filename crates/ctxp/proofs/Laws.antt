@@ -12,7 +12,7 @@ use Rattle.refusals.specs.declared.Outcome.the-variants.{Done, Refused}
 use Rattle.sizes.specs.Sizes.{sideFits, levelsFit, allOf, coarsestOf}
 use Rattle.sizes.proofs.Laws.{side-most, all-most, both-left}
 use Rattle.encoder.specs.Body as body
-use Rattle.encoder.specs.declared.body.EncodeAnswer as sent
+use Rattle.encoder.specs.declared.body.WriteAnswer as sent
 use Rattle.encoder.proofs.EncodeLaws.{sent-most}
 use Rattle.places.specs.Answers.{rasterIf, linearIf}
 use Rattle.places.specs.declared.Raster.{Raster}
@@ -38,15 +38,15 @@ module _ (N L : ℕ) (A : List ℤ) (budget : ℕ) where
   file-end Done = refl
   file-end (Refused why) = refl
 
-  body-end : (o : Outcome) → body.encodeEnd (body.encodeAnswer N L A budget o) ≡ o
+  body-end : (o : Outcome) → body.writeEnd (body.writeAnswer N L A budget o) ≡ o
   body-end Done = refl
   body-end (Refused why) = refl
 
   pub file-ends : (o : Outcome) {r : EncodeAnswer} → r ≡ encodeAnswer N L A budget o → encodeEnd r ≡ o
   file-ends o e = ap encodeEnd e ∙ file-end o
 
-  pub body-ends : (o : Outcome) {r : sent.EncodeAnswer} → r ≡ body.encodeAnswer N L A budget o → body.encodeEnd r ≡ o
-  body-ends o e = ap body.encodeEnd e ∙ body-end o
+  pub body-ends : (o : Outcome) {r : sent.WriteAnswer} → r ≡ body.writeAnswer N L A budget o → body.writeEnd r ≡ o
+  body-ends o e = ap body.writeEnd e ∙ body-end o
 
   -- a file's bytes fit 32 bits, as its budget does
   short-by : budget < 2 ^ 32 → (o : Outcome) → Short (encodeAnswer N L A budget o)

@@ -25,10 +25,10 @@ use Rattle.figures.specs.declared.FiguresAnswer.{FiguresAnswer}
 use Rattle.figures.specs.declared.FiguresAnswer.the-variants as figures
 use Rattle.room.specs.declared.WorstAnswer.{WorstAnswer}
 use Rattle.room.specs.declared.WorstAnswer.the-variants as worsts
-use Rattle.encoder.specs.declared.body.EncodeAnswer as body
-use Rattle.encoder.specs.declared.body.EncodeAnswer.the-variants as writtens
-use Rattle.decoder.specs.declared.body.DecodeAnswer as cut
-use Rattle.decoder.specs.declared.body.DecodeAnswer.the-variants as reads
+use Rattle.encoder.specs.declared.body.WriteAnswer as body
+use Rattle.encoder.specs.declared.body.WriteAnswer.the-variants as writtens
+use Rattle.decoder.specs.declared.body.ReadAnswer as cut
+use Rattle.decoder.specs.declared.body.ReadAnswer.the-variants as reads
 use Rattle.txp.specs.declared.EncodeAnswer.{EncodeAnswer}
 use Rattle.txp.specs.declared.EncodeAnswer.the-variants as encodeds
 use Rattle.txp.specs.declared.DecodeAnswer.{DecodeAnswer}
@@ -76,12 +76,12 @@ worst (worsts.Bits b) =
     record { refusal = 0; place = 0; n = 0; l = 0; planes = 0; declared = 0; bits = b; bytes = 0; finished = 0; error = 0; parts = 0; splits = 0; found = 0; negative = 0; value = 0 }
 worst (worsts.Refused why) = refused why
 
-abbrev pub written : body.EncodeAnswer → Answer
+abbrev pub written : body.WriteAnswer → Answer
 written (writtens.Done w) =
     record { refusal = 0; place = 0; n = 0; l = 0; planes = w .planes; declared = 0; bits = w .bits; bytes = 0; finished = 0; error = 0; parts = 0; splits = 0; found = 0; negative = 0; value = 0 }
 written (writtens.Refused why) = refused why
 
-abbrev pub read : cut.DecodeAnswer → Answer
+abbrev pub read : cut.ReadAnswer → Answer
 read (reads.Done d) =
     record { refusal = 0; place = 0; n = 0; l = 0; planes = 0; declared = 0; bits = d .used; bytes = 0; finished = d .finished; error = d .error; parts = 0; splits = 0; found = 0; negative = 0; value = 0 }
 read (reads.Refused why) = refused why

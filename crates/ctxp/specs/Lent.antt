@@ -13,10 +13,10 @@ use Rattle.coef.specs.declared.Joined.the-variants as joineds
 use Rattle.coef.specs.declared.Float.{Float}
 use Rattle.coef.specs.declared.Float.the-variants as floats
 use Rattle.room.specs.Room as room
-use Rattle.room.specs.Room.{usableBits}
+use Rattle.room.specs.Room.{bodyBits}
 use Rattle.decoder.specs.Body as cutBody
 use Rattle.decoder.specs.Body.{Tables}
-use Rattle.decoder.specs.declared.body.DecodeAnswer as cut
+use Rattle.decoder.specs.declared.body.ReadAnswer as cut
 use Rattle.txp.specs.declared.DecodeAnswer.{DecodeAnswer}
 use Rattle.txp.specs.Calls.{Decodes}
 use Rattle.ctxp.specs.Answers.{decoded, read, Answers}
@@ -45,6 +45,6 @@ pub record FileDecoded (file : List ℕ) (held : Tables) (r : ℕ) (answer : Lis
 
 -- the same of a body
 pub record BodyDecoded (N L P usable : ℕ) (bytes : List ℕ) (held : Tables) (r : ℕ) (answer : List ℕ) (left : Tables) : Type 0 where
-  pub said : cut.DecodeAnswer
-  pub decodes : cutBody.DecodesTo (firstOf (room.decodeChecks N L P (length (held .values)) (length (held .precisions)) (length (held .marks)))) N L P (usableBits usable bytes) held said left
+  pub said : cut.ReadAnswer
+  pub decodes : cutBody.ReadsTo (firstOf (room.readChecks N L P (length (held .values)) (length (held .precisions)) (length (held .marks)))) N L P (bodyBits usable bytes) held said left
   pub answers : Answers r answer (read said)

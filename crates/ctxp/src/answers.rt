@@ -158,11 +158,11 @@ pub(crate) fn of_worst(w: room::WorstAnswer) -> Answer
     }
 }
 
-pub(crate) fn of_written(e: encoder::EncodeAnswer) -> Answer
+pub(crate) fn of_written(e: encoder::WriteAnswer) -> Answer
     ensures { λ r. ⌜ r ≡ written e ⌝ }
 {
     match e {
-        encoder::EncodeAnswer::Done(w) => {
+        encoder::WriteAnswer::Done(w) => {
             let mut a = nothing();
             let planes = w.planes;
             let bits = w.bits;
@@ -170,15 +170,15 @@ pub(crate) fn of_written(e: encoder::EncodeAnswer) -> Answer
             a.bits = bits;
             a
         }
-        encoder::EncodeAnswer::Refused(why) => refused(why),
+        encoder::WriteAnswer::Refused(why) => refused(why),
     }
 }
 
-pub(crate) fn of_read(d: decoder::DecodeAnswer) -> Answer
+pub(crate) fn of_read(d: decoder::ReadAnswer) -> Answer
     ensures { λ r. ⌜ r ≡ read d ⌝ }
 {
     match d {
-        decoder::DecodeAnswer::Done(to) => {
+        decoder::ReadAnswer::Done(to) => {
             let mut a = nothing();
             let bits = to.used;
             let finished = to.finished;
@@ -188,7 +188,7 @@ pub(crate) fn of_read(d: decoder::DecodeAnswer) -> Answer
             a.error = error;
             a
         }
-        decoder::DecodeAnswer::Refused(why) => refused(why),
+        decoder::ReadAnswer::Refused(why) => refused(why),
     }
 }
 

@@ -89,11 +89,11 @@ pub extern "C" fn txp_encode_body(
     budget: u32,
     answer: &mut [u32; 15],
 ) -> u32
-    ensures answer { λ r. ⌜ Answers r (now (answer .exit)) (written (body.encodeAnswer n l (now (coefs .entry)) budget (firstOf (room.encodeChecks n l (now (coefs .entry)) (length (now (desc .entry))) (length (now (grand .entry))) (length (now (marks .entry))) (length (now (out .entry))) offset budget)))) ⌝ }
-    ensures descs { λ r. ⌜ now (desc .exit) ≡ lentAfter (firstOf (room.encodeChecks n l (now (coefs .entry)) (length (now (desc .entry))) (length (now (grand .entry))) (length (now (marks .entry))) (length (now (out .entry))) offset budget)) (descTable n l (now (coefs .entry))) (now (desc .entry)) ⌝ }
-    ensures grands { λ r. ⌜ now (grand .exit) ≡ lentAfter (firstOf (room.encodeChecks n l (now (coefs .entry)) (length (now (desc .entry))) (length (now (grand .entry))) (length (now (marks .entry))) (length (now (out .entry))) offset budget)) (grandTable n l (now (coefs .entry))) (now (grand .entry)) ⌝ }
-    ensures marked { λ r. ⌜ now (marks .exit) ≡ lentAfter (firstOf (room.encodeChecks n l (now (coefs .entry)) (length (now (desc .entry))) (length (now (grand .entry))) (length (now (marks .entry))) (length (now (out .entry))) offset budget)) (sentMarks n l (now (coefs .entry)) budget) (now (marks .entry)) ⌝ }
-    ensures written { λ r. ⌜ now (out .exit) ≡ body.outputAfter (firstOf (room.encodeChecks n l (now (coefs .entry)) (length (now (desc .entry))) (length (now (grand .entry))) (length (now (marks .entry))) (length (now (out .entry))) offset budget)) offset (packed (sentBits n l (now (coefs .entry)) budget)) (now (out .entry)) ⌝ }
+    ensures answer { λ r. ⌜ Answers r (now (answer .exit)) (written (body.writeAnswer n l (now (coefs .entry)) budget (firstOf (room.writeChecks n l (now (coefs .entry)) (length (now (desc .entry))) (length (now (grand .entry))) (length (now (marks .entry))) (length (now (out .entry))) offset budget)))) ⌝ }
+    ensures descs { λ r. ⌜ now (desc .exit) ≡ lentAfter (firstOf (room.writeChecks n l (now (coefs .entry)) (length (now (desc .entry))) (length (now (grand .entry))) (length (now (marks .entry))) (length (now (out .entry))) offset budget)) (descTable n l (now (coefs .entry))) (now (desc .entry)) ⌝ }
+    ensures grands { λ r. ⌜ now (grand .exit) ≡ lentAfter (firstOf (room.writeChecks n l (now (coefs .entry)) (length (now (desc .entry))) (length (now (grand .entry))) (length (now (marks .entry))) (length (now (out .entry))) offset budget)) (grandTable n l (now (coefs .entry))) (now (grand .entry)) ⌝ }
+    ensures marked { λ r. ⌜ now (marks .exit) ≡ lentAfter (firstOf (room.writeChecks n l (now (coefs .entry)) (length (now (desc .entry))) (length (now (grand .entry))) (length (now (marks .entry))) (length (now (out .entry))) offset budget)) (sentMarks n l (now (coefs .entry)) budget) (now (marks .entry)) ⌝ }
+    ensures written { λ r. ⌜ now (out .exit) ≡ body.outputAfter (firstOf (room.writeChecks n l (now (coefs .entry)) (length (now (desc .entry))) (length (now (grand .entry))) (length (now (marks .entry))) (length (now (out .entry))) offset budget)) offset (packed (sentBits n l (now (coefs .entry)) budget)) (now (out .entry)) ⌝ }
 {
     let done = encoder::encode(n, l, coefs, desc, grand, marks, out, offset, budget);
     put(answer, answers::of_written(done))

@@ -13,27 +13,27 @@ use Rattle.sizes.specs.Sizes.{Sized, allOf}
 use Rattle.sizes.proofs.Laws.{sized}
 use Rattle.nls.specs.Judging.{Verdict}
 use Rattle.nls.proofs.Verdicts.{judged-only}
-use Rattle.room.specs.Room.{decodeChecks, usableBits}
+use Rattle.room.specs.Room.{readChecks, bodyBits}
 use Rattle.room.proofs.Laws.{decode-ready}
-use Rattle.decoder.specs.Body.{decodeAnswer, Tables, tables, ownTables, over, Decoded, DecodesTo}
-use Rattle.decoder.specs.declared.body.DecodeAnswer.{DecodeAnswer}
+use Rattle.decoder.specs.Body.{readAnswer, Tables, tables, ownTables, over, BodyRead, ReadsTo}
+use Rattle.decoder.specs.declared.body.ReadAnswer.{ReadAnswer}
 use Rattle.decoder.proofs.body.decode.Reads as decode
 
 -- two readings of one body have one verdict
-decoded-one : (N L P : ℕ) (u : List Bool) (held : Tables) → Sized N L → (r r' : DecodeAnswer) (t t' : Tables) → Decoded N L P u held r t → Decoded N L P u held r' t' → (r ≡ r') × (t ≡ t')
+decoded-one : (N L P : ℕ) (u : List Bool) (held : Tables) → Sized N L → (r r' : ReadAnswer) (t t' : Tables) → BodyRead N L P u held r t → BodyRead N L P u held r' t' → (r ≡ r') × (t ≡ t')
 decoded-one N L P u held z r r' t t' p q =
     let same : p .verdict ≡ q .verdict = judged-only N L z P u (p .verdict) (q .verdict) (p .judged) (q .judged) in (
-      p .answered ∙ ap (λ (v : Verdict). decodeAnswer N L P u v) same ∙ sym (q .answered),
+      p .answered ∙ ap (λ (v : Verdict). readAnswer N L P u v) same ∙ sym (q .answered),
       p .filled ∙ ap (λ (v : Verdict). over (allOf N) (ownTables N L P u v) held) same ∙ sym (q .filled),
     )
 
-pub decodes-one : (N L P values precisions marks : ℕ) (u : List Bool) (held : Tables) (r r' : DecodeAnswer) (t t' : Tables)
-    → DecodesTo (firstOf (decodeChecks N L P values precisions marks)) N L P u held r t
-    → DecodesTo (firstOf (decodeChecks N L P values precisions marks)) N L P u held r' t'
+pub decodes-one : (N L P values precisions marks : ℕ) (u : List Bool) (held : Tables) (r r' : ReadAnswer) (t t' : Tables)
+    → ReadsTo (firstOf (readChecks N L P values precisions marks)) N L P u held r t
+    → ReadsTo (firstOf (readChecks N L P values precisions marks)) N L P u held r' t'
     → (r ≡ r') × (t ≡ t')
-decodes-one N L P values precisions marks u held r r' t t' = go (firstOf (decodeChecks N L P values precisions marks)) refl
+decodes-one N L P values precisions marks u held r r' t t' = go (firstOf (readChecks N L P values precisions marks)) refl
   where
-    go : (o : Outcome) → firstOf (decodeChecks N L P values precisions marks) ≡ o → DecodesTo o N L P u held r t → DecodesTo o N L P u held r' t' → (r ≡ r') × (t ≡ t')
+    go : (o : Outcome) → firstOf (readChecks N L P values precisions marks) ≡ o → ReadsTo o N L P u held r t → ReadsTo o N L P u held r' t' → (r ≡ r') × (t ≡ t')
     go outcome.Done e p q = decoded-one N L P u held (sized N L (decode-ready N L P values precisions marks (sym e) .levels)) r r' t t' p q
     go (outcome.Refused why) e p q = (p .0 ∙ sym (q .0), p .1 ∙ sym (q .1))
 
@@ -43,6 +43,6 @@ decode-decided k args r r' s s' p q =
     let v = now (args .1 .1 .1 .1 .1 .0) in
     let w = now (args .1 .1 .1 .1 .1 .1 .0) in
     let m = now (args .1 .1 .1 .1 .1 .1 .1 .0) in
-    decodes-one (args .0) (args .1 .0) (args .1 .1 .0) (length v) (length w) (length m) (usableBits (args .1 .1 .1 .1 .0) (now (args .1 .1 .1 .0))) (tables v w m) r r'
+    decodes-one (args .0) (args .1 .0) (args .1 .1 .0) (length v) (length w) (length m) (bodyBits (args .1 .1 .1 .1 .0) (now (args .1 .1 .1 .0))) (tables v w m) r r'
     (tables (now (s .1 .1 .1 .1 .1 .0)) (now (s .1 .1 .1 .1 .1 .1 .0)) (now (s .1 .1 .1 .1 .1 .1 .1 .0)))
     (tables (now (s' .1 .1 .1 .1 .1 .0)) (now (s' .1 .1 .1 .1 .1 .1 .0)) (now (s' .1 .1 .1 .1 .1 .1 .1 .0))) p q

@@ -23,14 +23,14 @@ use Rattle.nls.specs.Judging.{Verdict, taken, contradiction, beyond, Judged}
 use Rattle.nls.proofs.Known.{left-most}
 use Rattle.nls.proofs.Values.{midpoint-between, value-range}
 use Rattle.nls.proofs.Verdicts.{verdict, verdict-judged}
-use Rattle.room.specs.Room.{usableBits}
+use Rattle.room.specs.Room.{bodyBits}
 use Rattle.walk.specs.Scans.{Ran, last, isBad, planes, leftOf}
 use Rattle.walk.specs.Visits.{Sv, scanOf}
 use Rattle.decoder.specs.Reading.{Read, plainOf, reader, st, Holds}
-use Rattle.decoder.specs.Body.{Tables, tables, zeros, ownTables, over, Decoded}
+use Rattle.decoder.specs.Body.{Tables, tables, zeros, ownTables, over, BodyRead}
 use Rattle.decoder.specs.Calls.{ReadReady}
-use Rattle.decoder.specs.declared.body.DecodeAnswer.{DecodeAnswer}
-use Rattle.decoder.specs.declared.body.DecodeAnswer.the-variants.{Done, Refused}
+use Rattle.decoder.specs.declared.body.ReadAnswer.{ReadAnswer}
+use Rattle.decoder.specs.declared.body.ReadAnswer.the-variants.{Done, Refused}
 use Rattle.decoder.proofs.Coded.{codes, codes-at, plain-coded}
 use Rattle.decoder.proofs.FinishLaws.{whole}
 use Rattle.decoder.proofs.Received.{Matches, reads}
@@ -141,10 +141,10 @@ module _ (N L P values precisions marks : ℕ) (ready : ReadReady N L P values p
         cleared =
             same-tables w _ q _ o _ (ew ∙ sym (whole (allOf N) (replicate (allOf N) (pos 0)) (held .values) hv)) (eq ∙ sym (whole (allOf N) (replicate (allOf N) 0) (held .precisions) hp)) (eo ∙ sym (whole (allOf N) (replicate (allOf N) 0) (held .marks) hm))
 
-        pub refused-12 : bad ≡ true → Decoded N L P (bitsOf usable body) held (Refused (Contradiction n)) (tables w q o)
+        pub refused-12 : bad ≡ true → BodyRead N L P (bitsOf usable body) held (Refused (Contradiction n)) (tables w q o)
         refused-12 b = record { verdict = contradiction n; judged = judged-12 b; answered = refl; filled = cleared }
 
-        pub refused-13 : bad ≡ false → n < usable → Decoded N L P (bitsOf usable body) held (Refused (Beyond n)) (tables w q o)
+        pub refused-13 : bad ≡ false → n < usable → BodyRead N L P (bitsOf usable body) held (Refused (Beyond n)) (tables w q o)
         refused-13 b h = record { verdict = beyond n; judged = judged-13 b h; answered = refl; filled = cleared }
 
     -- taken
@@ -173,7 +173,7 @@ module _ (N L P values precisions marks : ℕ) (ready : ReadReady N L P values p
       pub accepted : Judged N L P (bitsOf usable body) taken → (held : Tables) → length (held .values) ≡ allOf N → length (held .precisions) ≡ allOf N → length (held .marks) ≡ allOf N
           → (w : List ℤ) (q : List ℕ) (vs ps : ℕ) → vs ≡ allOf N → ps ≡ allOf N
           → w ≡ table vs (λ i. valueBy midpoint (min (getD p i 0) left) (plainOf (at v i))) → q ≡ table ps (λ i. min (getD p i 0) left)
-          → Decoded N L P (bitsOf usable body) held (Done (record { used = n; finished = P - left; error = (1 * 2 ^ left) % 4294967296 - 1 })) (tables w q m)
+          → BodyRead N L P (bitsOf usable body) held (Done (record { used = n; finished = P - left; error = (1 * 2 ^ left) % 4294967296 - 1 })) (tables w q m)
       accepted j held hv hp hm w q vs ps es eps ew eq =
           record {
             verdict = taken;
@@ -193,7 +193,7 @@ module _ (N L P values precisions marks : ℕ) (ready : ReadReady N L P values p
           error = ap (λ (x : ℕ). x - 1) power ∙ ap (λ (x : ℕ). 2 ^ x - 1) (t .lefts)
 
 -- the lent parts put back into the wholes
-module _ (N L P most usable all : ℕ) (body : List ℕ) (v : List ℤ) (p m : List ℕ) (answer : DecodeAnswer) (w : List ℤ) (q o : List ℕ) where
+module _ (N L P most usable all : ℕ) (body : List ℕ) (v : List ℤ) (p m : List ℕ) (answer : ReadAnswer) (w : List ℤ) (q o : List ℕ) where
   part-back : {A : Type 0} (own part held : List A) → all ≡ allOf N → all ≤ length held → part ≡ own ++ drop (allOf N) (take all held)
       → part ++ drop all held ≡ own ++ drop (allOf N) held
   part-back {A} own part held e h is =
@@ -201,10 +201,10 @@ module _ (N L P most usable all : ℕ) (body : List ℕ) (v : List ℤ) (p m : L
       ap (λ (l : List A). l ++ drop all held) part-is ∙ ap (λ (k : ℕ). own ++ drop k held) e
 
   pub decoded-back : most ≡ min usable (8 * length body) → all ≡ allOf N → all ≤ length v → all ≤ length p → all ≤ length m
-      → Decoded N L P (bitsOf most body) (tables (take all v) (take all p) (take all m)) answer (tables w q o)
-      → Decoded N L P (usableBits usable body) (tables v p m) answer (tables (w ++ drop all v) (q ++ drop all p) (o ++ drop all m))
+      → BodyRead N L P (bitsOf most body) (tables (take all v) (take all p) (take all m)) answer (tables w q o)
+      → BodyRead N L P (bodyBits usable body) (tables v p m) answer (tables (w ++ drop all v) (q ++ drop all p) (o ++ drop all m))
   decoded-back em ea hv hp hm d =
-      subst (λ (k : ℕ). Decoded N L P (bitsOf k body) (tables v p m) answer (tables (w ++ drop all v) (q ++ drop all p) (o ++ drop all m))) em
+      subst (λ (k : ℕ). BodyRead N L P (bitsOf k body) (tables v p m) answer (tables (w ++ drop all v) (q ++ drop all p) (o ++ drop all m))) em
       (record {
         verdict = d .verdict;
         judged = d .judged;

@@ -16,7 +16,7 @@ use Rattle.sizes.proofs.Tables.{table-length}
 use Rattle.coef.specs.Coef.{magnitude, negative, signed}
 use Rattle.coef.proofs.Laws.{signed-back, magnitude-signed, negative-signed}
 use Rattle.nls.specs.Reading.{midpoint, valueBy}
-use Rattle.decoder.specs.Reading.{joined, uncoded}
+use Rattle.decoder.specs.Reading.{joinedOr0, uncoded}
 
 half-rule : (z : ℤ) (k : ℕ) → (magnitude z ≡ 0 → ⊥) → (k ≡ 0 → ⊥) → signed (negative z) (magnitude z + 2 ^ (k - 1)) ≡ valueBy midpoint k z
 unfolding valueBy
@@ -52,13 +52,13 @@ module _ (n : ℕ) (k : ℕ) where
         by-rule : signed (negative (uncoded n)) (magnitude (uncoded n) + 2 ^ (k - 1)) ≡ valueBy midpoint k (uncoded n)
         by-rule = half-rule (uncoded n) k not-zero e
 
-    pub value-all : k ≡ 0 → joined (eqb (n % 2) 1) (n / 2) ≡ valueBy midpoint k (uncoded n)
+    pub value-all : k ≡ 0 → joinedOr0 (eqb (n % 2) 1) (n / 2) ≡ valueBy midpoint k (uncoded n)
     value-all e = rw (le-leb (n / 2) limit (omega (arith, within, ap magnitude (all-is e), size))) (all-is e)
 
     pub half-in : (k ≡ 0 → ⊥) → n / 2 + 2 ^ (k - 1) ≤ limit
     half-in e = omega (arith, within, ap magnitude (half-is e), magnitude-signed s (n / 2 + 2 ^ (k - 1)))
 
-    pub value-half : (k ≡ 0 → ⊥) → joined (eqb (n % 2) 1) (n / 2 + 2 ^ (k - 1)) ≡ valueBy midpoint k (uncoded n)
+    pub value-half : (k ≡ 0 → ⊥) → joinedOr0 (eqb (n % 2) 1) (n / 2 + 2 ^ (k - 1)) ≡ valueBy midpoint k (uncoded n)
     value-half e = rw (le-leb (n / 2 + 2 ^ (k - 1)) limit (half-in e)) (half-is e)
 
 -- 2^(k-1) as the machine shifts it

@@ -18,7 +18,7 @@ use Rattle.coef.specs.Coef.{at}
 use Rattle.nls.specs.Scan.{Question, bitOf, signOf, inDesc, inGrand, Pass, pixels, sets, refining}
 use Rattle.nls.specs.Reading.{Known}
 use Rattle.walk.specs.Scans.{Seen, halt, refuse, move}
-use Rattle.marking.specs.Marking.{skipOf, setSkipOf, descSplit, grandSplit}
+use Rattle.marking.specs.Marking.{skipOf, setSkipOf, descSplitMarks, grandSplitMarks}
 use Rattle.walk.specs.Visits.{Source, got, Sv, sv, oneSeen, testSeen, pixelsSeen, setsSeen, refiningSeen, visitSeen}
 use Rattle.decoder.specs.Reading.{Read, read, newCode, moreCode, keep, is, childClash, grandClash, lastClash, rootClash, descClash, reader, st, Does}
 use Rattle.decoder.specs.declared.Turn.{Turn}
@@ -283,15 +283,15 @@ module _ (body : List ℕ) (usable I D P b i : ℕ) (m : List ℕ) (v : List ℤ
   set-one r m₁ v₁ p₁ e d = by-way _ _ usable i n r m₁ v₁ p₁ (sets-one (reader body usable I D P) I b i (getD m i 0) m (read v p n) e ∙ alike true (childClash I i m)) d
 
   pub set-desc : (r : Turn) (m₁ : List ℕ) → (getD m i 0 ≡ 4 → ⊥) → getD m i 0 ≡ 5
-      → ((v : List ℤ) (p : List ℕ) → Does (testSeen (reader body usable I D P) b i (inDesc (i / 4) b) 4 (descClash D P b n i m) (descSplit I i m) m (read v p n)) usable i n r m₁ v p) → Sets r m₁ v p
+      → ((v : List ℤ) (p : List ℕ) → Does (testSeen (reader body usable I D P) b i (inDesc (i / 4) b) 4 (descClash D P b n i m) (descSplitMarks I i m) m (read v p n)) usable i n r m₁ v p) → Sets r m₁ v p
   set-desc r m₁ e f d = by-way _ _ usable i n r m₁ v p (sets-desc (reader body usable I D P) I b i (getD m i 0) m (read v p n) e f) (d v p)
 
-  grand-alone : testSeen (reader body usable I D P) b i (inGrand (i / 16) b) 16 (grandClash i m) (grandSplit I i m) m (read v p n) ≡ testSeen (reader body usable I 0 0) b i (inGrand (i / 16) b) 16 (grandClash i m) (grandSplit I i m) m (read v p n)
+  grand-alone : testSeen (reader body usable I D P) b i (inGrand (i / 16) b) 16 (grandClash i m) (grandSplitMarks I i m) m (read v p n) ≡ testSeen (reader body usable I 0 0) b i (inGrand (i / 16) b) 16 (grandClash i m) (grandSplitMarks I i m) m (read v p n)
   unfolding testSeen
   grand-alone = refl
 
   pub set-grand : (r : Turn) (m₁ : List ℕ) → (getD m i 0 ≡ 4 → ⊥) → (getD m i 0 ≡ 5 → ⊥) → getD m i 0 ≡ 6
-      → ((v : List ℤ) (p : List ℕ) → Does (testSeen (reader body usable I 0 0) b i (inGrand (i / 16) b) 16 (grandClash i m) (grandSplit I i m) m (read v p n)) usable i n r m₁ v p) → Sets r m₁ v p
+      → ((v : List ℤ) (p : List ℕ) → Does (testSeen (reader body usable I 0 0) b i (inGrand (i / 16) b) 16 (grandClash i m) (grandSplitMarks I i m) m (read v p n)) usable i n r m₁ v p) → Sets r m₁ v p
   set-grand r m₁ e f g d = by-way _ _ usable i n r m₁ v p (sets-grand (reader body usable I D P) I b i (getD m i 0) m (read v p n) e f g ∙ grand-alone) (d v p)
 
   pub set-skip : (far : ℕ) → (getD m i 0 ≡ 4 → ⊥) → (getD m i 0 ≡ 5 → ⊥) → (getD m i 0 ≡ 6 → ⊥) → far ≡ setSkipOf (getD m i 0) → n ≤ usable → Sets (Go n (i + far)) m v p

@@ -7,13 +7,13 @@ use lib.IntN.{ℤ}
 use lib.ListN.{length}
 use Rattle.walk.specs.Scans.{Seen, halt, refuse, move, Scan, Ran, out, bad}
 use Rattle.walk.specs.Visits.{Sv, visitSeen, scanOf}
-use Rattle.decoder.specs.Reading.{Read, reader, st, after, answer, Falls, Does}
+use Rattle.decoder.specs.Reading.{Read, reader, st, leftBy, turnOf, Falls, Does}
 use Rattle.decoder.specs.declared.Turn.{Turn}
 use Rattle.decoder.specs.declared.Turn.the-variants.{Stop, Bad, Go}
 use Rattle.walk.proofs.Turns.{At, at-go, at-stop, at-bad}
 
 module _ (r : Turn) (m : List ℕ) (v : List ℤ) (p : List ℕ) (at k : ℕ) where
-  seen-go : (S : Seen (Sv Read)) (q : ℕ) → r ≡ answer at S → m ≡ after S .marks → v ≡ after S .rest .known .bits → p ≡ after S .rest .known .planes → r ≡ Go k q → S ≡ move q (st m v p k)
+  seen-go : (S : Seen (Sv Read)) (q : ℕ) → r ≡ turnOf at S → m ≡ leftBy S .marks → v ≡ leftBy S .rest .known .bits → p ≡ leftBy S .rest .known .planes → r ≡ Go k q → S ≡ move q (st m v p k)
   seen-go (halt t) q e em ev ep g = let z : _≡_ {A = ℕ} 0 1 = cc in absurd (omega arith)
   seen-go (refuse t) q e em ev ep g = let z : _≡_ {A = ℕ} 0 1 = cc in absurd (omega arith)
   seen-go (move w t) q e em ev ep g =
@@ -21,14 +21,14 @@ module _ (r : Turn) (m : List ℕ) (v : List ℤ) (p : List ℕ) (at k : ℕ) wh
       let ek : t .rest .n ≡ k = cc in
       λ i. move (eq i) (st (sym em i) (sym ev i) (sym ep i) (ek i))
 
-  seen-stop : (S : Seen (Sv Read)) (q : ℕ) → r ≡ answer at S → m ≡ after S .marks → v ≡ after S .rest .known .bits → p ≡ after S .rest .known .planes → r ≡ Stop k q → S ≡ halt (st m v p k)
+  seen-stop : (S : Seen (Sv Read)) (q : ℕ) → r ≡ turnOf at S → m ≡ leftBy S .marks → v ≡ leftBy S .rest .known .bits → p ≡ leftBy S .rest .known .planes → r ≡ Stop k q → S ≡ halt (st m v p k)
   seen-stop (halt t) q e em ev ep g =
       let ek : t .rest .n ≡ k = cc in
       λ i. halt (st (sym em i) (sym ev i) (sym ep i) (ek i))
   seen-stop (refuse t) q e em ev ep g = let z : _≡_ {A = ℕ} 0 1 = cc in absurd (omega arith)
   seen-stop (move w t) q e em ev ep g = let z : _≡_ {A = ℕ} 0 1 = cc in absurd (omega arith)
 
-  seen-bad : (S : Seen (Sv Read)) (q : ℕ) → r ≡ answer at S → m ≡ after S .marks → v ≡ after S .rest .known .bits → p ≡ after S .rest .known .planes → r ≡ Bad k q → S ≡ refuse (st m v p k)
+  seen-bad : (S : Seen (Sv Read)) (q : ℕ) → r ≡ turnOf at S → m ≡ leftBy S .marks → v ≡ leftBy S .rest .known .bits → p ≡ leftBy S .rest .known .planes → r ≡ Bad k q → S ≡ refuse (st m v p k)
   seen-bad (halt t) q e em ev ep g = let z : _≡_ {A = ℕ} 0 1 = cc in absurd (omega arith)
   seen-bad (refuse t) q e em ev ep g =
       let ek : t .rest .n ≡ k = cc in

@@ -16,7 +16,7 @@ use Rattle.sizes.specs.Tables.{table}
 use Rattle.bits.specs.Bits.{bitAt, bitsOf}
 use Rattle.bits.proofs.Laws.{bitsOf-length, bitsOf-at, bitsOf-suc}
 use Rattle.nls.specs.Marks.{startMarks}
-use Rattle.nls.specs.Scan.{Question, bitOf, signOf, inDesc, inGrand, Pass, pixels, sets, refining, State, at, Look, over, silent, asks, look, lookSets, tell, settle, ask, next, reach}
+use Rattle.nls.specs.Scan.{Question, bitOf, signOf, inDesc, inGrand, Pass, pixels, sets, refining, State, stateAt, Look, over, silent, asks, look, lookSets, tell, settle, ask, next, reach}
 use Rattle.nls.specs.Stream.{begin, after}
 use Rattle.nls.specs.Reading.{Known, nothing, learn, learnAt, learned, known}
 use Rattle.nls.specs.Judging.{Verdict, taken, contradiction, beyond}
@@ -71,7 +71,7 @@ module _ (I D P b i used : ℕ) (m : List ℕ) where
   bars-is true false false true ed eg ec q e = let y : bitOf i b ≡ q = cc in subst (λ (q : Question). bars I D P b q i m used ≡ clash-by I D P b i m none-yet) y (child-is (eqb-true (getD m i 0) 4 ec))
   bars-is true false false false ed eg ec q e = let z : _≡_ {A = ℕ} 0 1 = cc in absurd (omega (arith, z))
 
-  bars-clash : (q : Question) → look I (at (suc b) sets i m) ≡ asks q → bars I D P b q i m used ≡ clash-count I D P used (at (suc b) sets i m)
+  bars-clash : (q : Question) → look I (stateAt (suc b) sets i m) ≡ asks q → bars I D P b q i m used ≡ clash-count I D P used (stateAt (suc b) sets i m)
   unfolding clash-count
   bars-clash q e = bars-is (ltb i I) (eqb (getD m i 0) 5) (eqb (getD m i 0) 6) (eqb (getD m i 0) 4) refl refl refl q e
 
@@ -224,7 +224,7 @@ module _ (N L P : ℕ) (most : P ≤ 24) (body : List ℕ) (usable : ℕ) where
   more-left s o g t u =
       g .same ∙ ap (λ (v : State). verdictFrom N L P (o .n) v (drop (o .n) B)) t ∙ ap (λ (v : List Bool). verdictFrom N L P (o .n) s v) (next-bit (o .n) u)
 
-  first : Going (at P pixels 0 (startMarks I D)) (read (replicate I (pos 0)) (replicate I P) 0)
+  first : Going (stateAt P pixels 0 (startMarks I D)) (read (replicate I (pos 0)) (replicate I P) 0)
   unfolding reach learned table
   first =
       record {
@@ -247,14 +247,14 @@ module _ (N L P : ℕ) (most : P ≤ 24) (body : List ℕ) (usable : ℕ) where
       go : (l : ℕ) (r : Ran (Sv Read)) → Ended K N Going l r → Matches (verdict N L P B) r l
       go l (out v) (dry s q o g e b c _ h) = used-up (out (sv (s .marks) o)) s l o g (settle-asks I s q e) (omega (arith, b, c)) refl refl (sym h)
       go l (bad v) (barred b i q m o g e li u x z) =
-          let s : State = at (suc b) sets i m in
+          let s : State = stateAt (suc b) sets i m in
           let f : (not (bitAt body (o .n)) && clash-count I D P (o .n) s) ≡ true = rw x (sym (bars-clash I D P b i (o .n) m q e) ∙ z) in
           subst (λ (w : Verdict). Matches w (bad (sv m o)) l)
           (sym (more-left s o g (settle-asks I s q e) u ∙ verdict-no N L P (o .n) s (bitAt body (o .n)) (drop (suc (o .n)) B) q (asks-some I s q e) f)) (refl, refl, u)
       go l (on v) (z, h) = end (ltb (v .rest .n) usable) refl
         where
           s : State
-          s = at 0 pixels 0 (v .marks)
+          s = stateAt 0 pixels 0 (v .marks)
 
           t : settle I s ≡ s
           t = settle-over I s refl

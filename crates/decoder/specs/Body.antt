@@ -12,14 +12,14 @@ use Rattle.sizes.specs.Sizes.{allOf}
 use Rattle.nls.specs.Stream.{after}
 use Rattle.nls.specs.Reading.{midpoint, valuesBy, precisions, planesFinished, worstError}
 use Rattle.nls.specs.Judging.{Verdict, taken, contradiction, beyond, Judged}
-use Rattle.decoder.specs.declared.body.DecodeAnswer.{DecodeAnswer}
-use Rattle.decoder.specs.declared.body.DecodeAnswer.the-variants as decode
+use Rattle.decoder.specs.declared.body.ReadAnswer.{ReadAnswer}
+use Rattle.decoder.specs.declared.body.ReadAnswer.the-variants as decode
 
 -- "The answer also gives bits used (all usable bits ..), planes finished and the worst error 2^k - 1"
-abbrev pub decodeAnswer : ℕ → ℕ → ℕ → List Bool → Verdict → DecodeAnswer
-decodeAnswer N L P u taken = decode.Done (record { used = length u; finished = planesFinished N L P u; error = worstError N L P u })
-decodeAnswer N L P u (contradiction bit) = decode.Refused (Contradiction bit)
-decodeAnswer N L P u (beyond bit) = decode.Refused (Beyond bit)
+abbrev pub readAnswer : ℕ → ℕ → ℕ → List Bool → Verdict → ReadAnswer
+readAnswer N L P u taken = decode.Done (record { used = length u; finished = planesFinished N L P u; error = worstError N L P u })
+readAnswer N L P u (contradiction bit) = decode.Refused (Contradiction bit)
+readAnswer N L P u (beyond bit) = decode.Refused (Beyond bit)
 
 -- the three tables that decoding fills
 pub record Tables : Type 0 where
@@ -44,13 +44,13 @@ abbrev pub over : ℕ → Tables → Tables → Tables
 over I own held = tables (own .values ++ drop I (held .values)) (own .precisions ++ drop I (held .precisions)) (own .marks ++ drop I (held .marks))
 
 -- a call whose checks all hold: the verdict on the usable bits decides the answer and the tables
-pub record Decoded (N L P : ℕ) (u : List Bool) (held : Tables) (answer : DecodeAnswer) (left : Tables) : Type 0 where
+pub record BodyRead (N L P : ℕ) (u : List Bool) (held : Tables) (answer : ReadAnswer) (left : Tables) : Type 0 where
   pub verdict : Verdict
   pub judged : Judged N L P u verdict
-  pub answered : answer ≡ decodeAnswer N L P u verdict
+  pub answered : answer ≡ readAnswer N L P u verdict
   pub filled : left ≡ over (allOf N) (ownTables N L P u verdict) held
 
 -- any call; "Numbers 1 to 11 touch no lent byte"
-abbrev pub DecodesTo : Outcome → ℕ → ℕ → ℕ → List Bool → Tables → DecodeAnswer → Tables → Type 0
-DecodesTo outcome.Done N L P u held answer left = Decoded N L P u held answer left
-DecodesTo (outcome.Refused why) N L P u held answer left = (answer ≡ decode.Refused why) × (left ≡ held)
+abbrev pub ReadsTo : Outcome → ℕ → ℕ → ℕ → List Bool → Tables → ReadAnswer → Tables → Type 0
+ReadsTo outcome.Done N L P u held answer left = BodyRead N L P u held answer left
+ReadsTo (outcome.Refused why) N L P u held answer left = (answer ≡ decode.Refused why) × (left ≡ held)

@@ -28,8 +28,8 @@ abbrev pub read : List ℤ → List ℕ → ℕ → Read
 read v p n = record { known = record { bits = v; planes = p }; n = n }
 
 -- A value as the final pass makes it of a sign and a magnitude, which there is within the limit.
-abbrev pub joined : Bool → ℕ → ℤ
-joined below size = cond (leb size limit) (signed below size) (pos 0)
+abbrev pub joinedOr0 : Bool → ℕ → ℤ
+joinedOr0 below size = cond (leb size limit) (signed below size) (pos 0)
 
 -- While the scan runs a value is kept as a code: twice its magnitude, and 1 more where it is below 0.
 -- the code of a coefficient found in plane b
@@ -100,16 +100,16 @@ reader body usable I D P =
 abbrev pub st : List ℕ → List ℤ → List ℕ → ℕ → Sv Read
 st m v p n = sv m (read v p n)
 
-abbrev pub after : Seen (Sv Read) → Sv Read
-after (halt t) = t
-after (refuse t) = t
-after (move p t) = t
+abbrev pub leftBy : Seen (Sv Read) → Sv Read
+leftBy (halt t) = t
+leftBy (refuse t) = t
+leftBy (move p t) = t
 
 -- the bits used, and the place: where it stopped, or where to go on
-abbrev pub answer : ℕ → Seen (Sv Read) → Turn
-answer place (halt t) = Stop (t .rest .n) place
-answer place (refuse t) = Bad (t .rest .n) place
-answer place (move p t) = Go (t .rest .n) p
+abbrev pub turnOf : ℕ → Seen (Sv Read) → Turn
+turnOf place (halt t) = Stop (t .rest .n) place
+turnOf place (refuse t) = Bad (t .rest .n) place
+turnOf place (move p t) = Go (t .rest .n) p
 
 abbrev pub Falls : ℕ → ℕ → ℕ → Turn → Type 0
 Falls usable place n (Stop k p) = (n ≤ k) × (k ≤ usable)
@@ -118,10 +118,10 @@ Falls usable place n (Go k p) = (place ≤ p) × (n ≤ k) × (k ≤ usable) × 
 
 -- the answer r, and the marks, values and precisions left behind, are those of s
 pub record Does (s : Seen (Sv Read)) (usable place n : ℕ) (r : Turn) (m : List ℕ) (v : List ℤ) (p : List ℕ) : Type 0 where
-  pub answered : r ≡ answer place s
-  pub marked : m ≡ after s .marks
-  pub valued : v ≡ after s .rest .known .bits
-  pub known : p ≡ after s .rest .known .planes
+  pub answered : r ≡ turnOf place s
+  pub marked : m ≡ leftBy s .marks
+  pub valued : v ≡ leftBy s .rest .known .bits
+  pub known : p ≡ leftBy s .rest .known .planes
   pub falls : Falls usable place n r
 
 -- what a visit asks of its room

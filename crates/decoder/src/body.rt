@@ -7,8 +7,8 @@ ghost use lib.IntN.{pos};
 ghost use lib.ListN.{length, replicate};
 ghost use Rattle.refusals.specs.Checks.{firstOf};
 ghost use Rattle.bits.specs.Bits.{bitsOf};
-ghost use Rattle.room.specs.Room.{decodeChecks, usableBits};
-ghost use Rattle.decoder.specs.Body.{tables, Decoded, DecodesTo};
+ghost use Rattle.room.specs.Room.{readChecks, bodyBits};
+ghost use Rattle.decoder.specs.Body.{tables, BodyRead, ReadsTo};
 ghost use Rattle.decoder.specs.Calls.{ReadReady};
 
 // The bits used, the planes finished and the worst error.
@@ -19,7 +19,7 @@ pub struct ReadTo {
 }
 
 // What `decode` answers.
-pub enum DecodeAnswer {
+pub enum ReadAnswer {
     Done(ReadTo),
     Refused(Refusal),
 }
@@ -45,9 +45,9 @@ fn read(
     values: &mut [i32],
     precisions: &mut [u8],
     marks: &mut [u8],
-) -> DecodeAnswer
+) -> ReadAnswer
     requires { ⌜ ReadReady n l p (length (now values)) (length (now precisions)) (length (now marks)) × (usable ≤ 8 * length (now body)) ⌝ }
-    ensures { λ r. ⌜ Decoded n l p (bitsOf usable (now (body .entry))) (tables (now (values .entry)) (now (precisions .entry)) (now (marks .entry))) r (tables (now (values .exit)) (now (precisions .exit)) (now (marks .exit))) ⌝ }
+    ensures { λ r. ⌜ BodyRead n l p (bitsOf usable (now (body .entry))) (tables (now (values .entry)) (now (precisions .entry)) (now (marks .entry))) r (tables (now (values .exit)) (now (precisions .exit)) (now (marks .exit))) ⌝ }
 {
     let all = sizes::all_of(n);
     let coarsest = sizes::coarsest_of(n, l);
@@ -67,15 +67,15 @@ fn read(
     let bits = reached.bits as u32;
     if reached.bad {
         clear(values, precisions, marks);
-        return DecodeAnswer::Refused(Refusal::Contradiction(bits));
+        return ReadAnswer::Refused(Refusal::Contradiction(bits));
     }
     if bits < usable {
         clear(values, precisions, marks);
-        return DecodeAnswer::Refused(Refusal::Beyond(bits));
+        return ReadAnswer::Refused(Refusal::Beyond(bits));
     }
     let left = reached.left;
     crate::finish::finish(values, precisions, left);
-    DecodeAnswer::Done(ReadTo {
+    ReadAnswer::Done(ReadTo {
         used: bits,
         finished: p - left,
         error: (1u32 << left) - 1,
@@ -92,8 +92,8 @@ pub fn decode(
     values: &mut [i32],
     precisions: &mut [u8],
     marks: &mut [u8],
-) -> DecodeAnswer
-    ensures { λ r. ⌜ DecodesTo (firstOf (decodeChecks n l p (length (now (values .entry))) (length (now (precisions .entry))) (length (now (marks .entry))))) n l p (usableBits usable (now (body .entry))) (tables (now (values .entry)) (now (precisions .entry)) (now (marks .entry))) r (tables (now (values .exit)) (now (precisions .exit)) (now (marks .exit))) ⌝ }
+) -> ReadAnswer
+    ensures { λ r. ⌜ ReadsTo (firstOf (readChecks n l p (length (now (values .entry))) (length (now (precisions .entry))) (length (now (marks .entry))))) n l p (bodyBits usable (now (body .entry))) (tables (now (values .entry)) (now (precisions .entry)) (now (marks .entry))) r (tables (now (values .exit)) (now (precisions .exit)) (now (marks .exit))) ⌝ }
 {
     match room::check_decode(n, l, p, values.len(), precisions.len(), marks.len()) {
         Outcome::Done => {
@@ -110,6 +110,6 @@ pub fn decode(
                 &mut marks[..all],
             )
         }
-        Outcome::Refused(why) => DecodeAnswer::Refused(why),
+        Outcome::Refused(why) => ReadAnswer::Refused(why),
     }
 }

@@ -8,7 +8,7 @@ ghost use Rattle.sizes.specs.Sizes.{limit, mostPlanes};
 ghost use Rattle.sizes.specs.Tables.{table};
 ghost use Rattle.coef.specs.Coef.{at, magnitude, negative};
 ghost use Rattle.nls.specs.Reading.{midpoint, valueBy};
-ghost use Rattle.decoder.specs.Reading.{joined, uncoded, plainOf};
+ghost use Rattle.decoder.specs.Reading.{joinedOr0, uncoded, plainOf};
 
 // Every entry becomes 0.
 pub(crate) fn clear(dst: &mut [i32])
@@ -21,7 +21,7 @@ pub(crate) fn clear(dst: &mut [i32])
 
 // A value of a sign and a magnitude; 0 for one over the limit.
 fn value_of(negative: bool, magnitude: u32) -> i32
-    ensures { λ r. ⌜ r ≡ joined negative magnitude ⌝ }
+    ensures { λ r. ⌜ r ≡ joinedOr0 negative magnitude ⌝ }
 {
     match coef::join_of(coef::Signed {
         negative,

@@ -3,7 +3,7 @@ mod body;
 mod finish;
 mod reading;
 
-pub use body::DecodeAnswer;
+pub use body::ReadAnswer;
 pub use body::ReadTo;
 pub use body::decode;
 

@@ -13,7 +13,7 @@ ghost use Rattle.sizes.specs.Sizes.{mostN, mostPlanes, allOf};
 ghost use Rattle.coef.specs.Coef.{at};
 ghost use Rattle.nls.specs.Scan.{pixels, bitOf, inDesc, inGrand};
 ghost use Rattle.walk.specs.Scans.{planes, leftOf};
-ghost use Rattle.marking.specs.Marking.{descSplit, grandSplit};
+ghost use Rattle.marking.specs.Marking.{descSplitMarks, grandSplitMarks};
 ghost use Rattle.walk.specs.Visits.{oneSeen, testSeen, pixelsSeen, setsSeen, refiningSeen, visitSeen, scanOf};
 ghost use Rattle.decoder.specs.Reading.{newCode, moreCode, is, childClash, grandClash, lastClash, rootClash, descClash, reader, read, st, Does, Room, Sizes, Holds};
 
@@ -255,7 +255,7 @@ fn test_desc(
     place: usize,
 ) -> Turn
     requires { ⌜ (place < all) × (length (now marks) ≡ all) × (b < mostPlanes) × (n ≤ usable) × (usable ≤ 8 * length (now body)) × Sizes all coarsest top ⌝ }
-    ensures { λ r. ⌜ ((v : List ℤ) (p : List ℕ) → Does (testSeen (reader (now (body .entry)) usable all coarsest top) b place (inDesc (place / 4) b) 4 (descClash coarsest top b n place (now (marks .entry))) (descSplit all place (now (marks .entry))) (now (marks .entry)) (read v p n)) usable place n r (now (marks .exit)) v p) ⌝ }
+    ensures { λ r. ⌜ ((v : List ℤ) (p : List ℕ) → Does (testSeen (reader (now (body .entry)) usable all coarsest top) b place (inDesc (place / 4) b) 4 (descClash coarsest top b n place (now (marks .entry))) (descSplitMarks all place (now (marks .entry))) (now (marks .entry)) (read v p n)) usable place n r (now (marks .exit)) v p) ⌝ }
 {
     match view::read(body, n, usable) {
         Next::Bit(x) => {
@@ -283,7 +283,7 @@ fn test_grand(
     place: usize,
 ) -> Turn
     requires { ⌜ (place < all) × (length (now marks) ≡ all) × (all ≤ allOf mostN) × (16 ≤ all) × (n ≤ usable) × (usable ≤ 8 * length (now body)) ⌝ }
-    ensures { λ r. ⌜ ((v : List ℤ) (p : List ℕ) → Does (testSeen (reader (now (body .entry)) usable all 0 0) b place (inGrand (place / 16) b) 16 (grandClash place (now (marks .entry))) (grandSplit all place (now (marks .entry))) (now (marks .entry)) (read v p n)) usable place n r (now (marks .exit)) v p) ⌝ }
+    ensures { λ r. ⌜ ((v : List ℤ) (p : List ℕ) → Does (testSeen (reader (now (body .entry)) usable all 0 0) b place (inGrand (place / 16) b) 16 (grandClash place (now (marks .entry))) (grandSplitMarks all place (now (marks .entry))) (now (marks .entry)) (read v p n)) usable place n r (now (marks .exit)) v p) ⌝ }
 {
     match view::read(body, n, usable) {
         Next::Bit(x) => {

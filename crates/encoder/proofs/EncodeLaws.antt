@@ -23,7 +23,7 @@ use Rattle.nls.specs.Stream.{stream, worstBody}
 use Rattle.room.specs.Ready.{EncodeReady}
 use Rattle.walk.specs.Scans.{Ran, last, planes}
 use Rattle.walk.specs.Visits.{Sv, scanOf}
-use Rattle.encoder.specs.Writing.{Bytes, writer, st, Tables, Holds}
+use Rattle.encoder.specs.Writing.{Bytes, writer, st, Summed, Holds}
 use Rattle.encoder.specs.Body.{sentBits, sentMarks}
 use Rattle.encoder.proofs.Sent.{Says, sends}
 
@@ -54,7 +54,7 @@ module _ (N L : ℕ) (A : List ℤ) (descs grands outs budget : ℕ) (ready : En
   pub room-so : (P cap : ℕ) → P ≡ planesOf A → cap ≡ min budget (worstBody N L P) → cap ≤ 8 * outs
   room-so P cap ep ek = let cut : cap ≡ min budget (worstBody N L (planesOf A)) = ek ∙ ap (λ (x : ℕ). min budget (worstBody N L x)) ep in omega (arith, cut, ready .outRoom)
 
-  pub tables-so : (all : ℕ) (d g : List ℕ) → all ≡ allOf N → length d ≡ descs → length g ≡ grands → Tables d g all
+  pub tables-so : (all : ℕ) (d g : List ℕ) → all ≡ allOf N → length d ≡ descs → length g ≡ grands → Summed d g all
   tables-so all d g ea ed eg =
       record { descs = omega (arith, ea, ed, ready .descRoom, all-sixteen N L z); grands = omega (arith, ea, eg, ready .grandRoom, all-sixteen N L z) }
 

@@ -15,7 +15,7 @@ use Rattle.bits.proofs.Laws.{packed-nil, put-packed}
 use Rattle.coef.specs.Coef.{magAt, negative}
 use Rattle.tree.specs.Summaries.{descOr, grandOr}
 use Rattle.nls.specs.Marks.{startMarks}
-use Rattle.nls.specs.Scan.{Question, bitOf, signOf, inDesc, inGrand, Pass, pixels, State, at, over, silent, asks, look, tell, settle, ask, next, reach}
+use Rattle.nls.specs.Scan.{Question, bitOf, signOf, inDesc, inGrand, Pass, pixels, State, stateAt, over, silent, asks, look, tell, settle, ask, next, reach}
 use Rattle.nls.specs.Stream.{answer, answers, begin, after, stream, worstBody}
 use Rattle.nls.proofs.Machine.Run.{settle-hush, settle-asks, settle-over}
 use Rattle.nls.proofs.Counting.Sums.{order}
@@ -116,13 +116,13 @@ module _ (N L P : ℕ) (A : List ℤ) (d g : List ℕ) (says : Says N L A d g) (
         counts = λ p b q x o. refl;
       }
 
-  first : Far (at P pixels 0 (startMarks I (coarsestOf N L))) (bytes held 0)
+  first : Far (stateAt P pixels 0 (startMarks I (coarsestOf N L))) (bytes held 0)
   unfolding stream reach
   first =
       record {
         bits = [];
         led = led-start N (coarsestOf N L) P;
-        rest = ap (λ (x : State). answers N L A most x) (sym (led-start N (coarsestOf N L) P)) ∙ ap (λ (k : ℕ). answers N L A k (settle I (at P pixels 0 (startMarks I (coarsestOf N L))))) {x = most} {y = most - 0} (omega arith);
+        rest = ap (λ (x : State). answers N L A most x) (sym (led-start N (coarsestOf N L) P)) ∙ ap (λ (k : ℕ). answers N L A k (settle I (stateAt P pixels 0 (startMarks I (coarsestOf N L))))) {x = most} {y = most - 0} (omega arith);
         count = refl;
         wrote = ap (λ (x : List ℕ). x ++ held) (sym packed-nil);
       }
@@ -166,10 +166,10 @@ module _ (N L P : ℕ) (A : List ℤ) (d g : List ℕ) (says : Says N L A d g) (
             (ap (λ (x : State). x .marks) (led-there N (begin N L P) s (f .bits) q (f .led) e))
         go l (bad v) (barred b i q m o f e li h x z) = absurd (false≢true z)
         go l (on v) (z, h) =
-            let f : Far (at 0 pixels 0 (v .marks)) (v .rest) = h .held in
-            let t : settle I (at 0 pixels 0 (v .marks)) ≡ at 0 pixels 0 (v .marks) = settle-over I (at 0 pixels 0 (v .marks)) refl in
+            let f : Far (stateAt 0 pixels 0 (v .marks)) (v .rest) = h .held in
+            let t : settle I (stateAt 0 pixels 0 (v .marks)) ≡ stateAt 0 pixels 0 (v .marks) = settle-over I (stateAt 0 pixels 0 (v .marks)) refl in
             let w : stream N L P A ≡ f .bits =
             f .rest ∙ ap (λ (x : State). f .bits ++ answers N L A (most - length (f .bits)) x) t
-            ∙ ap (λ (x : List Bool). f .bits ++ x) (answers-none N L A (most - length (f .bits)) (at 0 pixels 0 (v .marks)) (over-none I (v .marks))) ∙ append-nil (f .bits) in
+            ∙ ap (λ (x : List Bool). f .bits ++ x) (answers-none N L A (most - length (f .bits)) (stateAt 0 pixels 0 (v .marks)) (over-none I (v .marks))) ∙ append-nil (f .bits) in
             put (f .bits) (v .rest .n) (v .marks) (v .rest .out) (ap (λ (x : List Bool). take budget x) w ∙ take-all budget (f .bits) (omega (arith, f .count, h .cap, cut))) (f .count) (f .wrote)
-            (ap (λ (x : State). x .marks) (led-over N (begin N L P) (at 0 pixels 0 (v .marks)) (f .bits) (f .led) refl))
+            (ap (λ (x : State). x .marks) (led-over N (begin N L P) (stateAt 0 pixels 0 (v .marks)) (f .bits) (f .led) refl))

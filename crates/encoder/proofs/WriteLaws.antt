@@ -10,7 +10,7 @@ use Rattle.bits.specs.Bits.{bit, withBit}
 use Rattle.coef.specs.Coef.{at, magnitude, magAt, negative}
 use Rattle.nls.specs.Scan.{Question, bitOf, signOf, inDesc, inGrand, Pass, pixels, sets, refining}
 use Rattle.walk.specs.Scans.{Seen, halt, refuse, move}
-use Rattle.marking.specs.Marking.{skipOf, setSkipOf, descSplit, grandSplit}
+use Rattle.marking.specs.Marking.{skipOf, setSkipOf, descSplitMarks, grandSplitMarks}
 use Rattle.walk.specs.Visits.{Source, got, Sv, sv, oneSeen, testSeen, pixelsSeen, setsSeen, refiningSeen, visitSeen}
 use Rattle.encoder.specs.Writing.{Bytes, bytes, replies, writer, plain, st, Does}
 use Rattle.encoder.specs.declared.Step.{Step}
@@ -120,11 +120,11 @@ module _ (A : List ℤ) (d g : List ℕ) (I budget b i : ℕ) (m o : List ℕ) (
   unfolding oneSeen
   one-plain = refl
 
-  desc-alone : testSeen (writer A d g budget) b i (inDesc (i / 4) b) 4 false (descSplit I i m) m (bytes o n) ≡ testSeen (writer [] d [] budget) b i (inDesc (i / 4) b) 4 false (descSplit I i m) m (bytes o n)
+  desc-alone : testSeen (writer A d g budget) b i (inDesc (i / 4) b) 4 false (descSplitMarks I i m) m (bytes o n) ≡ testSeen (writer [] d [] budget) b i (inDesc (i / 4) b) 4 false (descSplitMarks I i m) m (bytes o n)
   unfolding testSeen
   desc-alone = refl
 
-  grand-alone : testSeen (writer A d g budget) b i (inGrand (i / 16) b) 16 false (grandSplit I i m) m (bytes o n) ≡ testSeen (writer [] [] g budget) b i (inGrand (i / 16) b) 16 false (grandSplit I i m) m (bytes o n)
+  grand-alone : testSeen (writer A d g budget) b i (inGrand (i / 16) b) 16 false (grandSplitMarks I i m) m (bytes o n) ≡ testSeen (writer [] [] g budget) b i (inGrand (i / 16) b) 16 false (grandSplitMarks I i m) m (bytes o n)
   unfolding testSeen
   grand-alone = refl
 
@@ -132,12 +132,12 @@ module _ (A : List ℤ) (d g : List ℕ) (I budget b i : ℕ) (m o : List ℕ) (
       → Does (setsSeen (writer A d g budget) I b i (getD m i 0) m (bytes o n)) budget i n r m₁ o₁
   set-one r m₁ o₁ e h = by-way _ _ budget i n r m₁ o₁ (sets-one (writer A d g budget) I b i (getD m i 0) m (bytes o n) e ∙ one-plain) h
 
-  pub set-desc : (r : Step) (m₁ o₁ : List ℕ) → (getD m i 0 ≡ 4 → ⊥) → getD m i 0 ≡ 5 → Does (testSeen (writer [] d [] budget) b i (inDesc (i / 4) b) 4 false (descSplit I i m) m (bytes o n)) budget i n r m₁ o₁
+  pub set-desc : (r : Step) (m₁ o₁ : List ℕ) → (getD m i 0 ≡ 4 → ⊥) → getD m i 0 ≡ 5 → Does (testSeen (writer [] d [] budget) b i (inDesc (i / 4) b) 4 false (descSplitMarks I i m) m (bytes o n)) budget i n r m₁ o₁
       → Does (setsSeen (writer A d g budget) I b i (getD m i 0) m (bytes o n)) budget i n r m₁ o₁
   set-desc r m₁ o₁ e f h = by-way _ _ budget i n r m₁ o₁ (sets-desc (writer A d g budget) I b i (getD m i 0) m (bytes o n) e f ∙ desc-alone) h
 
   pub set-grand : (r : Step) (m₁ o₁ : List ℕ) → (getD m i 0 ≡ 4 → ⊥) → (getD m i 0 ≡ 5 → ⊥) → getD m i 0 ≡ 6
-      → Does (testSeen (writer [] [] g budget) b i (inGrand (i / 16) b) 16 false (grandSplit I i m) m (bytes o n)) budget i n r m₁ o₁
+      → Does (testSeen (writer [] [] g budget) b i (inGrand (i / 16) b) 16 false (grandSplitMarks I i m) m (bytes o n)) budget i n r m₁ o₁
       → Does (setsSeen (writer A d g budget) I b i (getD m i 0) m (bytes o n)) budget i n r m₁ o₁
   set-grand r m₁ o₁ e f k h = by-way _ _ budget i n r m₁ o₁ (sets-grand (writer A d g budget) I b i (getD m i 0) m (bytes o n) e f k ∙ grand-alone) h
 

@@ -7,12 +7,12 @@ use lib.IntN.{ℤ}
 use lib.ListN.{length}
 use Rattle.walk.specs.Scans.{Seen, halt, refuse, move, Scan, Ran, out}
 use Rattle.walk.specs.Visits.{Source, Sv, sv, visitSeen, scanOf}
-use Rattle.encoder.specs.Writing.{Bytes, bytes, writer, st, after, answer, Falls, Clean, Does}
+use Rattle.encoder.specs.Writing.{Bytes, bytes, writer, st, leftBy, stepOf, Falls, Clean, Does}
 use Rattle.encoder.specs.declared.Step.{Step}
 use Rattle.encoder.specs.declared.Step.the-variants.{Stop, Go}
 use Rattle.walk.proofs.Turns.{At, at-go, at-stop}
 
-seen-go : (place : ℕ) (S : Seen (Sv Bytes)) (r : Step) (k p : ℕ) (m o : List ℕ) → r ≡ answer place S → m ≡ after S .marks → o ≡ after S .rest .out → Clean S → r ≡ Go k p → S ≡ move p (st m o k)
+seen-go : (place : ℕ) (S : Seen (Sv Bytes)) (r : Step) (k p : ℕ) (m o : List ℕ) → r ≡ stepOf place S → m ≡ leftBy S .marks → o ≡ leftBy S .rest .out → Clean S → r ≡ Go k p → S ≡ move p (st m o k)
 seen-go place (halt t) r k p m o e em eo z g = let z : _≡_ {A = ℕ} 0 1 = cc in absurd (omega arith)
 seen-go place (refuse t) r k p m o e em eo z g = absurd z
 seen-go place (move q t) r k p m o e em eo z g =
@@ -20,7 +20,7 @@ seen-go place (move q t) r k p m o e em eo z g =
     let ek : t .rest .n ≡ k = cc in
     λ i. move (ep i) (st (sym em i) (sym eo i) (ek i))
 
-seen-stop : (place : ℕ) (S : Seen (Sv Bytes)) (r : Step) (k p : ℕ) (m o : List ℕ) → r ≡ answer place S → m ≡ after S .marks → o ≡ after S .rest .out → Clean S → r ≡ Stop k p → S ≡ halt (st m o k)
+seen-stop : (place : ℕ) (S : Seen (Sv Bytes)) (r : Step) (k p : ℕ) (m o : List ℕ) → r ≡ stepOf place S → m ≡ leftBy S .marks → o ≡ leftBy S .rest .out → Clean S → r ≡ Stop k p → S ≡ halt (st m o k)
 seen-stop place (halt t) r k p m o e em eo z g =
     let ek : t .rest .n ≡ k = cc in
     λ i. halt (st (sym em i) (sym eo i) (ek i))

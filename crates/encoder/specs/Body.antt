@@ -8,20 +8,20 @@ use Rattle.refusals.specs.declared.Outcome.{Outcome}
 use Rattle.refusals.specs.declared.Outcome.the-variants as outcome
 use Rattle.coef.specs.Coef.{planesOf}
 use Rattle.nls.specs.Stream.{stream, after}
-use Rattle.encoder.specs.declared.body.EncodeAnswer.{EncodeAnswer}
-use Rattle.encoder.specs.declared.body.EncodeAnswer.the-variants as encode
+use Rattle.encoder.specs.declared.body.WriteAnswer.{WriteAnswer}
+use Rattle.encoder.specs.declared.body.WriteAnswer.the-variants as encode
 
 -- "The number of bits written is the smaller of the budget and the whole stream's length": the first of the stream
 abbrev pub sentBits : ℕ → ℕ → List ℤ → ℕ → List Bool
 sentBits N L A budget = take budget (stream N L (planesOf A) A)
 
-abbrev pub encodeAnswer : ℕ → ℕ → List ℤ → ℕ → Outcome → EncodeAnswer
-encodeAnswer N L A budget outcome.Done = encode.Done (record { planes = planesOf A; bits = length (sentBits N L A budget) })
-encodeAnswer N L A budget (outcome.Refused why) = encode.Refused why
+abbrev pub writeAnswer : ℕ → ℕ → List ℤ → ℕ → Outcome → WriteAnswer
+writeAnswer N L A budget outcome.Done = encode.Done (record { planes = planesOf A; bits = length (sentBits N L A budget) })
+writeAnswer N L A budget (outcome.Refused why) = encode.Refused why
 
-abbrev pub encodeEnd : EncodeAnswer → Outcome
-encodeEnd (encode.Done written) = outcome.Done
-encodeEnd (encode.Refused why) = outcome.Refused why
+abbrev pub writeEnd : WriteAnswer → Outcome
+writeEnd (encode.Done written) = outcome.Done
+writeEnd (encode.Refused why) = outcome.Refused why
 
 -- "After the same bits, encoder and decoder hold equal tables": the marks where the scan stopped
 abbrev pub sentMarks : ℕ → ℕ → List ℤ → ℕ → List ℕ

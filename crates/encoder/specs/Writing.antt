@@ -45,16 +45,16 @@ plain A budget = writer A [] [] budget
 abbrev pub st : List ℕ → List ℕ → ℕ → Sv Bytes
 st m o n = sv m (bytes o n)
 
-abbrev pub after : Seen (Sv Bytes) → Sv Bytes
-after (halt t) = t
-after (refuse t) = t
-after (move p t) = t
+abbrev pub leftBy : Seen (Sv Bytes) → Sv Bytes
+leftBy (halt t) = t
+leftBy (refuse t) = t
+leftBy (move p t) = t
 
 -- what a visit of a place answers
-abbrev pub answer : ℕ → Seen (Sv Bytes) → Step
-answer place (halt t) = Stop (t .rest .n) place
-answer place (refuse t) = Stop (t .rest .n) place
-answer place (move p t) = Go (t .rest .n) p
+abbrev pub stepOf : ℕ → Seen (Sv Bytes) → Step
+stepOf place (halt t) = Stop (t .rest .n) place
+stepOf place (refuse t) = Stop (t .rest .n) place
+stepOf place (move p t) = Go (t .rest .n) p
 
 -- a visit that goes on, goes on at a later place or has put a bit: what the scan's end rests on
 abbrev pub Falls : ℕ → ℕ → ℕ → Step → Type 0
@@ -69,9 +69,9 @@ Clean (move p t) = Unit {0}
 
 -- the answer r, and the marks m and bytes o left behind, are those of s
 pub record Does (s : Seen (Sv Bytes)) (budget place n : ℕ) (r : Step) (m o : List ℕ) : Type 0 where
-  pub answered : r ≡ answer place s
-  pub marked : m ≡ after s .marks
-  pub wrote : o ≡ after s .rest .out
+  pub answered : r ≡ stepOf place s
+  pub marked : m ≡ leftBy s .marks
+  pub wrote : o ≡ leftBy s .rest .out
   pub falls : Falls budget place n r
   pub clean : Clean s
 
@@ -84,7 +84,7 @@ pub record Room (A : List ℤ) (m o : List ℕ) (all budget place n : ℕ) : Typ
   pub spent : n ≤ budget
   pub room : budget ≤ 8 * length o
 
-pub record Tables (d g : List ℕ) (all : ℕ) : Type 0 where
+pub record Summed (d g : List ℕ) (all : ℕ) : Type 0 where
   pub descs : all ≤ length d * 4
   pub grands : all ≤ length g * 16
 

@@ -9,9 +9,9 @@ ghost use Rattle.sizes.specs.Sizes.{allOf};
 ghost use Rattle.bits.specs.Bits.{bytesFor, packed};
 ghost use Rattle.coef.specs.Coef.{planesOf};
 ghost use Rattle.tree.specs.Summaries.{descTable, grandTable};
-ghost use Rattle.room.specs.Room.{encodeChecks};
+ghost use Rattle.room.specs.Room.{writeChecks};
 ghost use Rattle.room.specs.Ready.{EncodeReady};
-ghost use Rattle.encoder.specs.Body.{encodeAnswer, encodeEnd, sentBits, sentMarks, outputAfter};
+ghost use Rattle.encoder.specs.Body.{writeAnswer, writeEnd, sentBits, sentMarks, outputAfter};
 
 // The planes of the array, and the bits written.
 pub struct Written {
@@ -20,7 +20,7 @@ pub struct Written {
 }
 
 // What `encode` answers.
-pub enum EncodeAnswer {
+pub enum WriteAnswer {
     Done(Written),
     Refused(Refusal),
 }
@@ -77,12 +77,12 @@ pub fn encode(
     out: &mut [u8],
     offset: usize,
     budget: u32,
-) -> EncodeAnswer
-    ensures answer { λ r. ⌜ r ≡ encodeAnswer n l (now (coefs .entry)) budget (firstOf (encodeChecks n l (now (coefs .entry)) (length (now (desc .entry))) (length (now (grand .entry))) (length (now (marks .entry))) (length (now (out .entry))) offset budget)) ⌝ }
-    ensures descs { λ r. ⌜ now (desc .exit) ≡ lentAfter (encodeEnd r) (descTable n l (now (coefs .entry))) (now (desc .entry)) ⌝ }
-    ensures grands { λ r. ⌜ now (grand .exit) ≡ lentAfter (encodeEnd r) (grandTable n l (now (coefs .entry))) (now (grand .entry)) ⌝ }
-    ensures marked { λ r. ⌜ now (marks .exit) ≡ lentAfter (encodeEnd r) (sentMarks n l (now (coefs .entry)) budget) (now (marks .entry)) ⌝ }
-    ensures written { λ r. ⌜ now (out .exit) ≡ outputAfter (encodeEnd r) offset (packed (sentBits n l (now (coefs .entry)) budget)) (now (out .entry)) ⌝ }
+) -> WriteAnswer
+    ensures answer { λ r. ⌜ r ≡ writeAnswer n l (now (coefs .entry)) budget (firstOf (writeChecks n l (now (coefs .entry)) (length (now (desc .entry))) (length (now (grand .entry))) (length (now (marks .entry))) (length (now (out .entry))) offset budget)) ⌝ }
+    ensures descs { λ r. ⌜ now (desc .exit) ≡ lentAfter (writeEnd r) (descTable n l (now (coefs .entry))) (now (desc .entry)) ⌝ }
+    ensures grands { λ r. ⌜ now (grand .exit) ≡ lentAfter (writeEnd r) (grandTable n l (now (coefs .entry))) (now (grand .entry)) ⌝ }
+    ensures marked { λ r. ⌜ now (marks .exit) ≡ lentAfter (writeEnd r) (sentMarks n l (now (coefs .entry)) budget) (now (marks .entry)) ⌝ }
+    ensures written { λ r. ⌜ now (out .exit) ≡ outputAfter (writeEnd r) offset (packed (sentBits n l (now (coefs .entry)) budget)) (now (out .entry)) ⌝ }
 {
     match room::check_encode(
         n,
@@ -107,8 +107,8 @@ pub fn encode(
                 &mut out[offset..],
                 budget,
             );
-            EncodeAnswer::Done(written)
+            WriteAnswer::Done(written)
         }
-        Outcome::Refused(why) => EncodeAnswer::Refused(why),
+        Outcome::Refused(why) => WriteAnswer::Refused(why),
     }
 }

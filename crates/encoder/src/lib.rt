@@ -2,7 +2,7 @@
 mod body;
 mod writing;
 
-pub use body::EncodeAnswer;
+pub use body::WriteAnswer;
 pub use body::Written;
 pub use body::encode;
 

@@ -10,9 +10,9 @@ ghost use Rattle.bits.specs.Bits.{bit, withBit};
 ghost use Rattle.coef.specs.Coef.{at, magAt, negative};
 ghost use Rattle.nls.specs.Scan.{pixels, inDesc, inGrand};
 ghost use Rattle.walk.specs.Scans.{planes};
-ghost use Rattle.marking.specs.Marking.{descSplit, grandSplit};
+ghost use Rattle.marking.specs.Marking.{descSplitMarks, grandSplitMarks};
 ghost use Rattle.walk.specs.Visits.{oneSeen, testSeen, pixelsSeen, setsSeen, refiningSeen, visitSeen, scanOf};
-ghost use Rattle.encoder.specs.Writing.{writer, plain, st, bytes, Does, Room, Tables, Holds};
+ghost use Rattle.encoder.specs.Writing.{writer, plain, st, bytes, Does, Room, Summed, Holds};
 
 // Bit b of the magnitude at a place.
 fn bit_at(coefs: &[i32], b: u32, place: usize) -> bool
@@ -141,7 +141,7 @@ fn test_desc(
     place: usize,
 ) -> Step
     requires { ⌜ (place < all) × (length (now marks) ≡ all) × (all ≤ allOf mostN) × (all ≤ length (now desc) * 4) × (n ≤ budget) × (budget ≤ 8 * length (now out)) ⌝ }
-    ensures { λ r. ⌜ Does (testSeen (writer [] (now (desc .entry)) [] budget) b place (inDesc (place / 4) b) 4 false (descSplit all place (now (marks .entry))) (now (marks .entry)) (bytes (now (out .entry)) n)) budget place n r (now (marks .exit)) (now (out .exit)) ⌝ }
+    ensures { λ r. ⌜ Does (testSeen (writer [] (now (desc .entry)) [] budget) b place (inDesc (place / 4) b) 4 false (descSplitMarks all place (now (marks .entry))) (now (marks .entry)) (bytes (now (out .entry)) n)) budget place n r (now (marks .exit)) (now (out .exit)) ⌝ }
 {
     if budget <= n {
         return Step::Stop(n, place);
@@ -168,7 +168,7 @@ fn test_grand(
     place: usize,
 ) -> Step
     requires { ⌜ (place < all) × (length (now marks) ≡ all) × (all ≤ allOf mostN) × (all ≤ length (now grand) * 16) × (n ≤ budget) × (budget ≤ 8 * length (now out)) ⌝ }
-    ensures { λ r. ⌜ Does (testSeen (writer [] [] (now (grand .entry)) budget) b place (inGrand (place / 16) b) 16 false (grandSplit all place (now (marks .entry))) (now (marks .entry)) (bytes (now (out .entry)) n)) budget place n r (now (marks .exit)) (now (out .exit)) ⌝ }
+    ensures { λ r. ⌜ Does (testSeen (writer [] [] (now (grand .entry)) budget) b place (inGrand (place / 16) b) 16 false (grandSplitMarks all place (now (marks .entry))) (now (marks .entry)) (bytes (now (out .entry)) n)) budget place n r (now (marks .exit)) (now (out .exit)) ⌝ }
 {
     if budget <= n {
         return Step::Stop(n, place);
@@ -196,7 +196,7 @@ fn sets(
     b: u32,
     place: usize,
 ) -> Step
-    requires { ⌜ Room (now coefs) (now marks) (now out) all budget place n × Tables (now desc) (now grand) all ⌝ }
+    requires { ⌜ Room (now coefs) (now marks) (now out) all budget place n × Summed (now desc) (now grand) all ⌝ }
     ensures { λ r. ⌜ Does (setsSeen (writer (now (coefs .entry)) (now (desc .entry)) (now (grand .entry)) budget) all b place (getD (now (marks .entry)) place 0) (now (marks .entry)) (bytes (now (out .entry)) n)) budget place n r (now (marks .exit)) (now (out .exit)) ⌝ }
 {
     let mark = marks[place];
@@ -227,7 +227,7 @@ fn visit(
     pass: u32,
     place: usize,
 ) -> Step
-    requires { ⌜ Room (now coefs) (now marks) (now out) all budget place n × Tables (now desc) (now grand) all ⌝ }
+    requires { ⌜ Room (now coefs) (now marks) (now out) all budget place n × Summed (now desc) (now grand) all ⌝ }
     ensures { λ r. ⌜ Does (visitSeen (writer (now (coefs .entry)) (now (desc .entry)) (now (grand .entry)) budget) all b pass place (st (now (marks .entry)) (now (out .entry)) n)) budget place n r (now (marks .exit)) (now (out .exit)) ⌝ }
 {
     if pass == 0 {
@@ -250,7 +250,7 @@ pub(crate) fn scan(
     budget: usize,
     count: u32,
 ) -> usize
-    requires { ⌜ (length (now marks) ≡ all) × (all ≤ allOf mostN) × (all ≤ length (now coefs)) × (budget ≤ 8 * length (now out)) × Tables (now desc) (now grand) all ⌝ }
+    requires { ⌜ (length (now marks) ≡ all) × (all ≤ allOf mostN) × (all ≤ length (now coefs)) × (budget ≤ 8 * length (now out)) × Summed (now desc) (now grand) all ⌝ }
     ensures { λ r. ⌜ Holds (planes (scanOf (writer (now (coefs .entry)) (now (desc .entry)) (now (grand .entry)) budget) all) count (st (now (marks .entry)) (now (out .entry)) 0)) r (now (marks .exit)) (now (out .exit)) ⌝ }
 {
     let mut n = 0;

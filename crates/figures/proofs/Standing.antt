@@ -17,7 +17,7 @@ use Rattle.bits.proofs.Laws.{digit-le}
 use Rattle.tree.specs.Tree.{fours, desc, grand}
 use Rattle.tree.specs.Summaries.{descOr, grandOr, descTable, grandTable}
 use Rattle.tree.proofs.Laws.{children-some, desc-is, desc-low, desc-high, grand-low, grand-high}
-use Rattle.nls.specs.Parts.{sumTo, some, standsAlone, descStands, grandStands, parts}
+use Rattle.nls.specs.Parts.{sumTo, notEmpty, standsAlone, descStands, grandStands, parts}
 use Rattle.figures.specs.Tables.{openBy, membersBy, descBy, grandBy, partsBy}
 use Rattle.figures.proofs.Sums.{sum-same, sum-add}
 use Rattle.figures.proofs.Levels.{desc-reaches, grand-reaches, desc-held, grand-held}
@@ -45,18 +45,18 @@ module _ (N L : ℕ) (z : Sized N L) where
         desc-some (4 * i) (omega arith) (omega (arith, all-sixteen N L z)),
       ))
 
-  pub desc-range : (i : ℕ) → some (desc N L i) ≡ (leb (coarsestOf N L / 4) i && ltb i (allOf N / 4))
+  pub desc-range : (i : ℕ) → notEmpty (desc N L i) ≡ (leb (coarsestOf N L / 4) i && ltb i (allOf N / 4))
   desc-range i = tell (decLt i (coarsestOf N L / 4)) (decLt i (allOf N / 4))
     where
-      tell : Dec (i < coarsestOf N L / 4) → Dec (i < allOf N / 4) → some (desc N L i) ≡ (leb (coarsestOf N L / 4) i && ltb i (allOf N / 4))
+      tell : Dec (i < coarsestOf N L / 4) → Dec (i < allOf N / 4) → notEmpty (desc N L i) ≡ (leb (coarsestOf N L / 4) i && ltb i (allOf N / 4))
       tell (yes p) q = rw (desc-low N L i p, lt-leb (coarsestOf N L / 4) i p)
       tell (no p) (yes q) = rw (le-leb (coarsestOf N L / 4) i (omega arith), lt-ltb i (allOf N / 4) q, lt-ltb 0 (length (desc N L i)) (desc-some i (omega arith) q))
       tell (no p) (no q) = rw (le-leb (coarsestOf N L / 4) i (omega arith), le-ltb i (allOf N / 4) (omega arith), desc-high N L i (omega arith))
 
-  pub grand-range : (i : ℕ) → some (grand N L i) ≡ (leb (coarsestOf N L / 4) i && ltb i (allOf N / 16))
+  pub grand-range : (i : ℕ) → notEmpty (grand N L i) ≡ (leb (coarsestOf N L / 4) i && ltb i (allOf N / 16))
   grand-range i = tell (decLt i (coarsestOf N L / 4)) (decLt i (allOf N / 16))
     where
-      tell : Dec (i < coarsestOf N L / 4) → Dec (i < allOf N / 16) → some (grand N L i) ≡ (leb (coarsestOf N L / 4) i && ltb i (allOf N / 16))
+      tell : Dec (i < coarsestOf N L / 4) → Dec (i < allOf N / 16) → notEmpty (grand N L i) ≡ (leb (coarsestOf N L / 4) i && ltb i (allOf N / 16))
       tell (yes p) q = rw (grand-low N L i p, lt-leb (coarsestOf N L / 4) i p)
       tell (no p) (yes q) = rw (le-leb (coarsestOf N L / 4) i (omega arith), lt-ltb i (allOf N / 16) q, lt-ltb 0 (length (grand N L i)) (grand-some i (omega arith) q))
       tell (no p) (no q) = rw (le-leb (coarsestOf N L / 4) i (omega arith), le-ltb i (allOf N / 16) (omega arith), grand-high N L z i (omega arith))

@@ -13,7 +13,7 @@ use lib.Seq.{drop-length, length-take-le}
 use Rattle.sizes.specs.Sizes.{mostN, allOf, sideFits}
 use Rattle.sizes.proofs.Laws.{both-left, both-right}
 use Rattle.nls.specs.Marks.{skip, setSkip, pushFrom, push, pushRoots, startMarks}
-use Rattle.marking.specs.Marking.{skipOf, setSkipOf, pushSix, newDesc, descSplit, grandSplit, inTable, startFits}
+use Rattle.marking.specs.Marking.{skipOf, setSkipOf, pushSix, newDesc, descSplitMarks, grandSplitMarks, inTable, startFits}
 
 -- ---- fills
 
@@ -286,10 +286,10 @@ module _ (I D : ℕ) where
 
 -- what a caller learns whose table has I marks, and whose place is one of them
 module _ (I i : ℕ) (m x : List ℕ) where
-  pub split-desc-so : x ≡ cond (inTable (length m) i) (descSplit (length m) i m) m → length m ≡ I → I ≤ allOf mostN → i < I → x ≡ descSplit I i m
+  pub split-desc-so : x ≡ cond (inTable (length m) i) (descSplitMarks (length m) i m) m → length m ≡ I → I ≤ allOf mostN → i < I → x ≡ descSplitMarks I i m
   split-desc-so e n h w = e ∙ rw (n, in-true I i h w)
 
-  pub split-grand-so : x ≡ cond (inTable (length m) i) (grandSplit (length m) i m) m → length m ≡ I → I ≤ allOf mostN → i < I → x ≡ grandSplit I i m
+  pub split-grand-so : x ≡ cond (inTable (length m) i) (grandSplitMarks (length m) i m) m → length m ≡ I → I ≤ allOf mostN → i < I → x ≡ grandSplitMarks I i m
   split-grand-so e n h w = e ∙ rw (n, in-true I i h w)
 
 pub start-so : (I D : ℕ) (m x : List ℕ) → x ≡ cond (startFits (length m) D) (startMarks (length m) D) m → length m ≡ I

@@ -21,11 +21,11 @@ pushSix I i m = pushFrom I 6 (4 * i) 7 m
 abbrev pub newDesc : ℕ → ℕ → List ℕ → List ℕ
 newDesc I i m = pushSix I i (set m i 5)
 
-abbrev pub grandSplit : ℕ → ℕ → List ℕ → List ℕ
-grandSplit I i m = newDesc I (i + 12) (newDesc I (i + 8) (newDesc I (i + 4) (newDesc I i m)))
+abbrev pub grandSplitMarks : ℕ → ℕ → List ℕ → List ℕ
+grandSplitMarks I i m = newDesc I (i + 12) (newDesc I (i + 8) (newDesc I (i + 4) (newDesc I i m)))
 
-abbrev pub descSplit : ℕ → ℕ → List ℕ → List ℕ
-descSplit I i m = splitDesc I i m (ltb (4 * i) I)
+abbrev pub descSplitMarks : ℕ → ℕ → List ℕ → List ℕ
+descSplitMarks I i m = splitDesc I i m (ltb (4 * i) I)
 
 -- a table of I marks is no larger than that of the largest N, and i is a place of it
 unfoldable pub inTable : ℕ → ℕ → Bool

@@ -5,7 +5,7 @@ ghost use Prim.Native.Nat.{_+_, _*_, _%_, _<_, _≤_};
 ghost use lib.ListN.{length, replicate, set};
 ghost use Rattle.sizes.specs.Sizes.{mostN, allOf};
 ghost use Rattle.nls.specs.Marks.{startMarks};
-ghost use Rattle.marking.specs.Marking.{skipOf, setSkipOf, pushSix, newDesc, descSplit, grandSplit, inTable, startFits};
+ghost use Rattle.marking.specs.Marking.{skipOf, setSkipOf, pushSix, newDesc, descSplitMarks, grandSplitMarks, inTable, startFits};
 
 // How far a mark is skipped in the pixel and the refinement pass.
 pub fn skip(mark: u8) -> usize
@@ -101,7 +101,7 @@ fn four_alone(marks: &mut [u8], place: usize)
 // DESC is split: four coefficients by themselves, and the GRAND below them, if there is one.
 fn open_desc(marks: &mut [u8], all: usize, place: usize)
     requires { ⌜ (length (now marks) ≡ all) × (all ≤ allOf mostN) × (place < allOf mostN) ⌝ }
-    ensures { λ _. ⌜ now (marks .exit) ≡ descSplit all place (now (marks .entry)) ⌝ }
+    ensures { λ _. ⌜ now (marks .exit) ≡ descSplitMarks all place (now (marks .entry)) ⌝ }
 {
     four_alone(marks, place);
     if 4 * place < all {
@@ -111,7 +111,7 @@ fn open_desc(marks: &mut [u8], all: usize, place: usize)
 
 // The same; a table that is too large, or that has no such place, stays as it is.
 pub fn split_desc(marks: &mut [u8], place: usize)
-    ensures { λ _. ⌜ now (marks .exit) ≡ cond (inTable (length (now (marks .entry))) place) (descSplit (length (now (marks .entry))) place (now (marks .entry))) (now (marks .entry)) ⌝ }
+    ensures { λ _. ⌜ now (marks .exit) ≡ cond (inTable (length (now (marks .entry))) place) (descSplitMarks (length (now (marks .entry))) place (now (marks .entry))) (now (marks .entry)) ⌝ }
 {
     let all = marks.len();
     if in_table(all, place) {
@@ -131,7 +131,7 @@ fn new_desc(marks: &mut [u8], all: usize, place: usize)
 // GRAND is split: four DESC, each pushed.
 fn open_grand(marks: &mut [u8], all: usize, place: usize)
     requires { ⌜ (length (now marks) ≡ all) × (all ≤ allOf mostN) × (place < allOf mostN) ⌝ }
-    ensures { λ _. ⌜ now (marks .exit) ≡ grandSplit all place (now (marks .entry)) ⌝ }
+    ensures { λ _. ⌜ now (marks .exit) ≡ grandSplitMarks all place (now (marks .entry)) ⌝ }
 {
     new_desc(marks, all, place);
     new_desc(marks, all, place + 4);
@@ -141,7 +141,7 @@ fn open_grand(marks: &mut [u8], all: usize, place: usize)
 
 // The same, under the same conditions.
 pub fn split_grand(marks: &mut [u8], place: usize)
-    ensures { λ _. ⌜ now (marks .exit) ≡ cond (inTable (length (now (marks .entry))) place) (grandSplit (length (now (marks .entry))) place (now (marks .entry))) (now (marks .entry)) ⌝ }
+    ensures { λ _. ⌜ now (marks .exit) ≡ cond (inTable (length (now (marks .entry))) place) (grandSplitMarks (length (now (marks .entry))) place (now (marks .entry))) (now (marks .entry)) ⌝ }
 {
     let all = marks.len();
     if in_table(all, place) {

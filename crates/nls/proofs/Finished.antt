@@ -88,11 +88,11 @@ module _ (N L : ℕ) (A B : List ℤ) (b : ℕ) (same : (i : ℕ) → found N L 
   desc-stands : (i : ℕ) → descStands N L A b i ≡ descStands N L B b i
   unfolding descStands
   desc-stands i =
-      ap₂ (λ (s t : Bool). spec.some (desc N L i) && (not s && (ltb i (coarsestOf N L) || t))) (desc-same i) (grand-same (i / 4))
+      ap₂ (λ (s t : Bool). spec.notEmpty (desc N L i) && (not s && (ltb i (coarsestOf N L) || t))) (desc-same i) (grand-same (i / 4))
 
   grand-stands : (i : ℕ) → grandStands N L A b i ≡ grandStands N L B b i
   unfolding grandStands
-  grand-stands i = ap₂ (λ (s t : Bool). spec.some (grand N L i) && (s && not t)) (desc-same i) (grand-same i)
+  grand-stands i = ap₂ (λ (s t : Bool). spec.notEmpty (grand N L i) && (s && not t)) (desc-same i) (grand-same i)
 
   parts-same : parts N L A b ≡ parts N L B b
   unfolding parts

@@ -11,7 +11,7 @@ use borrow.Author.Tests.{eqb-true}
 use lib.Dec.{ltb, eqb}
 use lib.ListN.{length, getD, set, replicate, length-set, length-replicate, length-append}
 use Rattle.nls.specs.Marks.{pushFrom, push, splitDesc, splitGrand, pushRoots, startMarks}
-use Rattle.nls.specs.Scan.{State, Look, over, silent, asks, Question, bitOf, signOf, inDesc, inGrand, Pass, pixels, sets, refining, at, look, lookAt, lookPixels, lookSets, lookRefining, tell, tellAt, tellSets, silently, settle, movesLeft, ask, asked, next, reach, start}
+use Rattle.nls.specs.Scan.{State, Look, over, silent, asks, Question, bitOf, signOf, inDesc, inGrand, Pass, pixels, sets, refining, stateAt, look, lookAt, lookPixels, lookSets, lookRefining, tell, tellAt, tellSets, silently, settle, movesLeft, ask, asked, next, reach, start}
 use Rattle.nls.proofs.Arrays.{four}
 use Rattle.nls.proofs.Joined.Codes.{set-cases}
 
@@ -174,7 +174,7 @@ module _ (D I : ℕ) where
   pub kept-start : (P : ℕ) → D ≤ I → Kept D I ((start I D P) .marks)
   unfolding start startMarks
   kept-start P h =
-      kept-settle (at P pixels 0 (pushRoots I (3 * D / 4) D first)) (kept-roots (3 * D / 4) D first (omega arith) bare)
+      kept-settle (stateAt P pixels 0 (pushRoots I (3 * D / 4) D first)) (kept-roots (3 * D / 4) D first (omega arith) bare)
     where
       first : List ℕ
       first = replicate D 1 ++ replicate (I - D) 0

@@ -163,11 +163,11 @@ module _ (I P : ℕ) where
   }
 
   -- to another place or pass of the same plane
-  passed : {k : Known} {l i n : ℕ} {p r : Pass} {m : List ℕ} → Sound I P (scan.at l p i m) k → ((j : ℕ) → Due r n j → Due p i j) → Sound I P (scan.at l r n m) k
+  passed : {k : Known} {l i n : ℕ} {p r : Pass} {m : List ℕ} → Sound I P (scan.stateAt l p i m) k → ((j : ℕ) → Due r n j → Due p i j) → Sound I P (scan.stateAt l r n m) k
   passed h f = moved h (omega arith) (λ e. absurd (false≢true e)) (λ j hj e d. h .fresh j hj e (f j d)) (λ j hj x y. (x, y))
 
   -- a split
-  parted : {k : Known} {l i : ℕ} {m n : List ℕ} → Sound I P (scan.at l sets i m) k → Old m n → Sound I P (scan.at l sets i n) k
+  parted : {k : Known} {l i : ℕ} {m n : List ℕ} → Sound I P (scan.stateAt l sets i m) k → Old m n → Sound I P (scan.stateAt l sets i n) k
   parted h o =
       moved h (omega arith) (λ e. absurd (false≢true e)) (λ j hj e d. h .fresh j hj (o .same j (omega arith) (omega arith) ∙ e) tt)
       (λ j hj x y. (omega (arith, o .same j (omega arith) y), omega (arith, o .same j (omega arith) y)))
@@ -175,19 +175,19 @@ module _ (I P : ℕ) where
   abbrev Quiet : Known → Look → Type 0
   Quiet k = AfterMove I (λ t. Sound I P t k)
 
-  quiet-pixels : (b i : ℕ) (m : List ℕ) (k : Known) (x y : Bool) → Sound I P (scan.at (suc b) pixels i m) k → Quiet k (lookPixels b i m x y)
+  quiet-pixels : (b i : ℕ) (m : List ℕ) (k : Known) (x y : Bool) → Sound I P (scan.stateAt (suc b) pixels i m) k → Quiet k (lookPixels b i m x y)
   quiet-pixels b i m k false y h = passed h (λ j d. tt)
   quiet-pixels b i m k true true h = tt
   quiet-pixels b i m k true false h = passed h (λ j d. tt)
 
-  quiet-sets : (b i : ℕ) (m : List ℕ) (k : Known) (x d g c : Bool) → Sound I P (scan.at (suc b) sets i m) k → Quiet k (lookSets b i m x d g c)
+  quiet-sets : (b i : ℕ) (m : List ℕ) (k : Known) (x d g c : Bool) → Sound I P (scan.stateAt (suc b) sets i m) k → Quiet k (lookSets b i m x d g c)
   quiet-sets b i m k false d g c h = passed h (λ j d. tt)
   quiet-sets b i m k true true g c h = tt
   quiet-sets b i m k true false true c h = tt
   quiet-sets b i m k true false false true h = tt
   quiet-sets b i m k true false false false h = passed h (λ j d. tt)
 
-  quiet-refining : (b i : ℕ) (m : List ℕ) (k : Known) (x s n : Bool) → eqb (getD m i 0) 2 ≡ n → Sound I P (scan.at (suc b) refining i m) k → Quiet k (lookRefining b i m x s n)
+  quiet-refining : (b i : ℕ) (m : List ℕ) (k : Known) (x s n : Bool) → eqb (getD m i 0) 2 ≡ n → Sound I P (scan.stateAt (suc b) refining i m) k → Quiet k (lookRefining b i m x s n)
   quiet-refining b i m k false s n en h = moved h (omega arith) (λ e. absurd (false≢true e)) (λ j hj e d. omega (arith, h .least j hj)) (λ j hj a b. (a, b))
   quiet-refining b i m k true true n en h = tt
   quiet-refining b i m k true false true en h = moved h (omega arith) (λ e. absurd (false≢true e)) fr fd
@@ -266,7 +266,7 @@ module _ (I P : ℕ) where
 
   -- a sign
   sign-sound : {k : Known} (b i : ℕ) (p : Pass) (w a : Bool) (m : List ℕ) → Sound I P (record { left = suc b; pass = p; place = i; pending = w; marks = m }) k → i < I
-      → Sound I P (scan.at (suc b) p (i + 1) (set m i 2)) (noted i (signed a (2 ^ b)) b k)
+      → Sound I P (scan.stateAt (suc b) p (i + 1) (set m i 2)) (noted i (signed a (2 ^ b)) b k)
   sign-sound {k} b i p w a m h hi =
       noted-sound i b (signed a (2 ^ b)) h hi refl refl refl
       (rw magnitude-signed (pow-lt (omega (arith, h .left)))) (rw magnitude-signed (ap (λ (x : ℕ). x % 2 ^ b) {x = 2 ^ b} {y = 1 * 2 ^ b} (omega arith) ∙ mul-mod-left 1 (2 ^ b)))
@@ -274,8 +274,8 @@ module _ (I P : ℕ) where
       (λ j hj x y. ((λ q. rw magnitude-signed (one-le-pow b 2 (omega arith))), λ q. (let e : getD (set m i 2) j 0 ≡ getD m j 0 = getD-set-other m i j 2 0 q in (omega arith, omega arith))))
 
   -- a refinement bit
-  refined-sound : {k : Known} (b i : ℕ) (a : Bool) (m : List ℕ) → Sound I P (scan.at (suc b) refining i m) k → i < I → getD m i 0 ≡ 3
-      → Sound I P (scan.at (suc b) refining (i + 1) m) (noted i (signed (negative (at (k .bits) i)) (magAt (k .bits) i + digit a * 2 ^ b)) b k)
+  refined-sound : {k : Known} (b i : ℕ) (a : Bool) (m : List ℕ) → Sound I P (scan.stateAt (suc b) refining i m) k → i < I → getD m i 0 ≡ 3
+      → Sound I P (scan.stateAt (suc b) refining (i + 1) m) (noted i (signed (negative (at (k .bits) i)) (magAt (k .bits) i + digit a * 2 ^ b)) b k)
   refined-sound {k} b i a m h hi e =
       noted-sound i b (signed (negative (at (k .bits) i)) (magAt (k .bits) i + digit a * 2 ^ b)) h hi refl refl refl
       (rw magnitude-signed small) (rw magnitude-signed whole)
@@ -307,7 +307,7 @@ module _ (I P : ℕ) where
   Answered b p a k t (silent r) = Unit {0}
   Answered b p a k t (asks q) = Sound I P t (learn p b q a k)
 
-  answered-pixels : (b i : ℕ) (m : List ℕ) (a : Bool) (k : Known) (x y : Bool) → ltb i I ≡ x → eqb (getD m i 0) 1 ≡ y → Sound I P (scan.at (suc b) pixels i m) k
+  answered-pixels : (b i : ℕ) (m : List ℕ) (a : Bool) (k : Known) (x y : Bool) → ltb i I ≡ x → eqb (getD m i 0) 1 ≡ y → Sound I P (scan.stateAt (suc b) pixels i m) k
       → Answered b pixels a k (tellAt I (suc b) pixels i false m a) (lookPixels b i m x y)
   answered-pixels b i m a k false y ex ey h = tt
   answered-pixels b i m a k true false ex ey h = tt
@@ -318,7 +318,7 @@ module _ (I P : ℕ) where
       not-here : (j : ℕ) → 2 ≤ getD m j 0 → j ≡ i → ⊥
       not-here j x q = omega (arith, eqb-true (getD m i 0) 1 ey, ap (λ (x : ℕ). getD m x 0) q)
 
-  answered-sets : (b i : ℕ) (m : List ℕ) (a : Bool) (k : Known) (x d g c : Bool) → ltb i I ≡ x → Sound I P (scan.at (suc b) sets i m) k
+  answered-sets : (b i : ℕ) (m : List ℕ) (a : Bool) (k : Known) (x d g c : Bool) → ltb i I ≡ x → Sound I P (scan.stateAt (suc b) sets i m) k
       → Answered b sets a k (tellSets I (suc b) i m a d g) (lookSets b i m x d g c)
   answered-sets b i m a k false d g c ex h = tt
   answered-sets b i m true k true true g c ex h = parted h (old-desc I i m (ltb (4 * i) I))
@@ -334,8 +334,8 @@ module _ (I P : ℕ) where
       (o .0, omega arith, omega arith))
   answered-sets b i m a k true false false false ex h = tt
 
-  answered-refining : (b i : ℕ) (m : List ℕ) (a : Bool) (k : Known) (x s n : Bool) → ltb i I ≡ x → eqb (getD m i 0) 3 ≡ s → Sound I P (scan.at (suc b) refining i m) k
-      → Answered b refining a k (scan.at (suc b) refining (i + 1) m) (lookRefining b i m x s n)
+  answered-refining : (b i : ℕ) (m : List ℕ) (a : Bool) (k : Known) (x s n : Bool) → ltb i I ≡ x → eqb (getD m i 0) 3 ≡ s → Sound I P (scan.stateAt (suc b) refining i m) k
+      → Answered b refining a k (scan.stateAt (suc b) refining (i + 1) m) (lookRefining b i m x s n)
   answered-refining b i m a k false s n ex es h = tt
   answered-refining b i m a k true true n ex es h = refined-sound b i a m h (ltb-true i I ex) (eqb-true (getD m i 0) 3 es)
   answered-refining b i m a k true false true ex es h = tt
@@ -413,7 +413,7 @@ module _ (N L P : ℕ) where
 
   pub sound-begin : Sound I P (begin N L P) (nothing N P)
   unfolding start
-  sound-begin = sound-settle I P (scan.at P pixels 0 (startMarks I D)) (nothing N P) (record {
+  sound-begin = sound-settle I P (scan.stateAt P pixels 0 (startMarks I D)) (nothing N P) (record {
     longBits = length-replicate I (pos 0);
     longPlanes = length-replicate I P;
     left = omega arith;
@@ -428,7 +428,7 @@ module _ (N L P : ℕ) where
 
   pub begin-settled : (t : State) → look I (begin N L P) ≡ silent t → ⊥
   unfolding start settle
-  begin-settled t e = quiet-settled I (movesLeft I (scan.at P pixels 0 (startMarks I D))) (scan.at P pixels 0 (startMarks I D)) t (omega arith) e
+  begin-settled t e = quiet-settled I (movesLeft I (scan.stateAt P pixels 0 (startMarks I D))) (scan.stateAt P pixels 0 (startMarks I D)) t (omega arith) e
 
   -- on any bits
   pub known-sound : (u : List Bool) → Sound I P (after N L P u) (known N L P u)

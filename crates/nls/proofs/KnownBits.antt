@@ -133,7 +133,7 @@ module _ (N L : ℕ) (size : Sized N L) (P : ℕ) (A : List ℤ) (under : (i : �
 
     -- a sign
     right-sign : (p : Pass) (a : Bool) → Sound I P (Stand p true) o → Right (Stand p true) o k → ans N B (signOf i) ≡ a
-        → Right (scan.at (suc b) p (i + 1) (set m i 2)) (noted i (signed a (2 ^ b)) b o) (know (signOf i) a k)
+        → Right (scan.stateAt (suc b) p (i + 1) (set m i 2)) (noted i (signed a (2 ^ b)) b o) (know (signOf i) a k)
     unfolding ans
     right-sign p a h r e =
         right-noted i b (signed a (2 ^ b)) h r (h .inside refl (omega arith)) refl refl refl
@@ -164,7 +164,7 @@ module _ (N L : ℕ) (size : Sized N L) (P : ℕ) (A : List ℤ) (under : (i : �
 
     -- a refinement bit
     right-refined : (a : Bool) → Good k (suc b) refining i false m → Sound I P (Stand refining false) o → Right (Stand refining false) o k → i < I → getD m i 0 ≡ 3 → bit (magAt A i) b ≡ a
-        → Right (scan.at (suc b) refining (i + 1) m) (noted i (signed (negative (at (o .bits) i)) (magAt (o .bits) i + digit a * 2 ^ b)) b o) (know (bitOf i b) a k)
+        → Right (scan.stateAt (suc b) refining (i + 1) m) (noted i (signed (negative (at (o .bits) i)) (magAt (o .bits) i + digit a * 2 ^ b)) b o) (know (bitOf i b) a k)
     right-refined a g h r hi v e =
         right-noted i b (signed (negative (at (o .bits) i)) (magAt (o .bits) i + digit a * 2 ^ b)) h r hi refl refl refl
         (subst (λ (c : Bool). signed (negative (at (o .bits) i)) (magAt (o .bits) i + digit c * 2 ^ b) ≡ highBits b (at A i)) e
@@ -186,7 +186,7 @@ module _ (N L : ℕ) (size : Sized N L) (P : ℕ) (A : List ℤ) (under : (i : �
   Learns b p a o k t (asks q) = ans N B q ≡ a → Right t (learn p b q a o) (know q a k)
 
   learns-pixels : (b i : ℕ) (m : List ℕ) (a : Bool) (o : Known) (k : Bits) (x y : Bool) → ltb i I ≡ x → eqb (getD m i 0) 1 ≡ y
-      → Good k (suc b) pixels i false m → Sound I P (scan.at (suc b) pixels i m) o → Right (scan.at (suc b) pixels i m) o k
+      → Good k (suc b) pixels i false m → Sound I P (scan.stateAt (suc b) pixels i m) o → Right (scan.stateAt (suc b) pixels i m) o k
       → Learns b pixels a o k (tellAt I (suc b) pixels i false m a) (lookPixels b i m x y)
   unfolding ans
   learns-pixels b i m a o k false y ex ey g h r = tt
@@ -196,7 +196,7 @@ module _ (N L : ℕ) (size : Sized N L) (P : ℕ) (A : List ℤ) (under : (i : �
   learns-pixels b i m false o k true true ex ey g h r = λ e. unfold know in right-zero o k b i m pixels g h r (ltb-true i I ex) refl e
 
   learns-sets : (b i : ℕ) (m : List ℕ) (a : Bool) (o : Known) (k : Bits) (x d n c : Bool) → ltb i I ≡ x → eqb (getD m i 0) 4 ≡ c
-      → Good k (suc b) sets i false m → Sound I P (scan.at (suc b) sets i m) o → Right (scan.at (suc b) sets i m) o k
+      → Good k (suc b) sets i false m → Sound I P (scan.stateAt (suc b) sets i m) o → Right (scan.stateAt (suc b) sets i m) o k
       → Learns b sets a o k (tellSets I (suc b) i m a d n) (lookSets b i m x d n c)
   unfolding ans know
   learns-sets b i m a o k false d n c ex ec g h r = tt
@@ -210,8 +210,8 @@ module _ (N L : ℕ) (size : Sized N L) (P : ℕ) (A : List ℤ) (under : (i : �
   learns-sets b i m a o k true false false false ex ec g h r = tt
 
   learns-refining : (b i : ℕ) (m : List ℕ) (a : Bool) (o : Known) (k : Bits) (x s n : Bool) → ltb i I ≡ x → eqb (getD m i 0) 3 ≡ s
-      → Good k (suc b) refining i false m → Sound I P (scan.at (suc b) refining i m) o → Right (scan.at (suc b) refining i m) o k
-      → Learns b refining a o k (scan.at (suc b) refining (i + 1) m) (lookRefining b i m x s n)
+      → Good k (suc b) refining i false m → Sound I P (scan.stateAt (suc b) refining i m) o → Right (scan.stateAt (suc b) refining i m) o k
+      → Learns b refining a o k (scan.stateAt (suc b) refining (i + 1) m) (lookRefining b i m x s n)
   unfolding ans
   learns-refining b i m a o k false s n ex es g h r = tt
   learns-refining b i m a o k true true n ex es g h r = λ e. right-refined o k b i m a g h r (ltb-true i I ex) (eqb-true (getD m i 0) 3 es) e
@@ -237,19 +237,19 @@ module _ (N L : ℕ) (size : Sized N L) (P : ℕ) (A : List ℤ) (under : (i : �
       subst (λ (c : ℕ). Learns c p a o k (tellAt I (suc b) p i w m a) (lookAt I (suc b) p i w m)) e (learns-in b p i w m a o k g h r)
 
   -- silent moves note nothing
-  right-pixels : (b i : ℕ) (m : List ℕ) (o : Known) (k : Bits) (x y : Bool) → Right (scan.at (suc b) pixels i m) o k → AfterMove I (λ t. Right t o k) (lookPixels b i m x y)
+  right-pixels : (b i : ℕ) (m : List ℕ) (o : Known) (k : Bits) (x y : Bool) → Right (scan.stateAt (suc b) pixels i m) o k → AfterMove I (λ t. Right t o k) (lookPixels b i m x y)
   right-pixels b i m o k false y r = right-on refl refl r
   right-pixels b i m o k true true r = tt
   right-pixels b i m o k true false r = right-on refl refl r
 
-  right-sets : (b i : ℕ) (m : List ℕ) (o : Known) (k : Bits) (x d g c : Bool) → Right (scan.at (suc b) sets i m) o k → AfterMove I (λ t. Right t o k) (lookSets b i m x d g c)
+  right-sets : (b i : ℕ) (m : List ℕ) (o : Known) (k : Bits) (x d g c : Bool) → Right (scan.stateAt (suc b) sets i m) o k → AfterMove I (λ t. Right t o k) (lookSets b i m x d g c)
   right-sets b i m o k false d g c r = right-on refl refl r
   right-sets b i m o k true true g c r = tt
   right-sets b i m o k true false true c r = tt
   right-sets b i m o k true false false true r = tt
   right-sets b i m o k true false false false r = right-on refl refl r
 
-  right-refining : (b i : ℕ) (m : List ℕ) (o : Known) (k : Bits) (x s n : Bool) → Right (scan.at (suc b) refining i m) o k → AfterMove I (λ t. Right t o k) (lookRefining b i m x s n)
+  right-refining : (b i : ℕ) (m : List ℕ) (o : Known) (k : Bits) (x s n : Bool) → Right (scan.stateAt (suc b) refining i m) o k → AfterMove I (λ t. Right t o k) (lookRefining b i m x s n)
   right-refining b i m o k false s n r = right-on refl refl r
   right-refining b i m o k true true n r = tt
   right-refining b i m o k true false true r = right-on refl refl r

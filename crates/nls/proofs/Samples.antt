@@ -17,7 +17,7 @@ use Rattle.nls.specs.Stream.{answer, answers, worstBody, stream, during}
 use Rattle.nls.specs.Parts.{sumTo, found, descSplit, grandSplit, standsAlone, descStands, grandStands, parts, splits, nonzeros}
 use Rattle.nls.specs.Reading.{learned, valueBy}
 use Rattle.nls.specs.Judging.{Verdict, contradiction, Judged}
-use Rattle.nls.specs.Samples.{raster, linear, whole, valuesAt, errorAt, samples, Each}
+use Rattle.nls.specs.Samples.{raster, linear, whole, valuesAt, errorAt, scanSamples, Each}
 use Rattle.nls.proofs.Verdicts.{no-one-found, no-child-found, verdict-judged}
 
 small : Sized 2 1
@@ -34,8 +34,8 @@ eight : Judged 2 1 1 body (contradiction 8)
 unfolding body
 eight = subst (λ (v : Verdict). Judged 2 1 1 body v) no-child-found (verdict-judged 2 1 small 1 body)
 
-pub all-samples : Each samples
-unfolding body raster linear whole valuesAt errorAt samples table bit packed number linearly toRaster rowOf colOf planesOf largest digits
+pub all-samples : Each scanSamples
+unfolding body raster linear whole valuesAt errorAt scanSamples table bit packed number linearly toRaster rowOf colOf planesOf largest digits
     children descendants desc grand anyIn flatMap orAll descOr grandOr skip setSkip pushFrom pushRoots startMarks
     silently settle ask next reach start answer answers worstBody stream during
     sumTo found descSplit grandSplit standsAlone descStands grandStands parts splits nonzeros learned valueBy

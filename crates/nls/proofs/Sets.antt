@@ -17,7 +17,7 @@ use Rattle.tree.specs.Tree.{desc, grand, anyIn}
 use Rattle.tree.proofs.Laws.{desc-low, desc-high, grand-low, grand-high}
 use Rattle.tree.proofs.Sums.{sumOver}
 use Rattle.tree.proofs.Sums as over
-use Rattle.nls.specs.Parts.{sumTo, countTo, some, found, descSplit, grandSplit, standsAlone, descStands, grandStands, parts, partSizes, splits, founds, nonzeros}
+use Rattle.nls.specs.Parts.{sumTo, countTo, notEmpty, found, descSplit, grandSplit, standsAlone, descStands, grandStands, parts, partSizes, splits, founds, nonzeros}
 use Rattle.nls.specs.Stream.{worstBody}
 use Rattle.nls.proofs.Counting.Sums.{sum, sum-cong, sum-zero, sum-split, sum-at, sum-last, order}
 use Rattle.nls.proofs.Counting.Tree as tree
@@ -160,12 +160,12 @@ module _ (N L : ℕ) (s : Sized N L) where
   pub grand-none-high : (i : ℕ) → sizeOf .j ≤ i → grand N L i ≡ []
   grand-none-high i p = grand-high N L s i (omega (arith, all-sixteen))
 
-  pub desc-some : (i : ℕ) → sizeOf .e ≤ i → i < Q sizeOf → some (desc N L i) ≡ true
+  pub desc-some : (i : ℕ) → sizeOf .e ≤ i → i < Q sizeOf → notEmpty (desc N L i) ≡ true
   desc-some i p q =
       lt-ltb 0 (length (desc N L i))
       (omega (arith, desc-length i p, child-le sizeOf (λ _. 1) i (4 * i) (omega (arith, sizeOf .some)) q (omega arith) (omega arith)))
 
-  pub grand-some : (i : ℕ) → sizeOf .e ≤ i → i < sizeOf .j → some (grand N L i) ≡ true
+  pub grand-some : (i : ℕ) → sizeOf .e ≤ i → i < sizeOf .j → notEmpty (grand N L i) ≡ true
   grand-some i p q =
       lt-ltb 0 (length (grand N L i))
       (omega (

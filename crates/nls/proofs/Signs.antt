@@ -84,7 +84,7 @@ module _ (N : ℕ) (B : Bits) where
 
   pub waits-start : (D P : ℕ) → Waits (start I D P)
   unfolding start
-  waits-start D P = waits-settle (Scan.at P pixels 0 (startMarks I D)) (λ e. absurd (false≢true e))
+  waits-start D P = waits-settle (Scan.stateAt P pixels 0 (startMarks I D)) (λ e. absurd (false≢true e))
 
   -- a sign is waited for after a bit that B answered 1
   waits-tell : (l : ℕ) (p : Pass) (i : ℕ) (w : Bool) (m : List ℕ) (a : Bool) → told N B (asked I (lookAt I l p i w m)) a → Waits (tellAt I l p i w m a)

@@ -11,7 +11,7 @@ use lib.ListN.{length, take, drop, length-take, take-append-drop}
 use lib.Seq.{take-all}
 use Rattle.sizes.specs.Sizes.{allOf, coarsestOf, Sized}
 use Rattle.coef.specs.Coef.{magAt, IsPlanes}
-use Rattle.nls.specs.Scan.{Question, State, over, pixels, at, look, ask, next, reach}
+use Rattle.nls.specs.Scan.{Question, State, over, pixels, stateAt, look, ask, next, reach}
 use Rattle.nls.specs.Stream.{answer, answers, sent, begin, after, stream}
 use Rattle.nls.specs.Judging.{Begins}
 use Rattle.nls.proofs.Arrays.{bits-of, answersOf, Fit}
@@ -55,7 +55,7 @@ module _ (N L : ℕ) (z : Sized N L) (P : ℕ) where
         subst (Answered N L P A) (sym (stream-same N L z A P)) (stream-fits N (bits-of (arrOf A)) (Whole.bound N L P) (begin N L P))
 
     module _ (below : (i : ℕ) → magAt A i < 2 ^ P) where
-      whole-end : (m : List ℕ) × (after N L P (stream N L P A) ≡ at 0 pixels 0 m)
+      whole-end : (m : List ℕ) × (after N L P (stream N L P A) ≡ stateAt 0 pixels 0 m)
       whole-end =
           let w = Whole.whole-ends N L (z .least) (z .most) P (arrOf A) (λ i h. below i) in
           (w .0, ap (λ (u : List Bool). after N L P u) (stream-same N L z A P) ∙ w .1)

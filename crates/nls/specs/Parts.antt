@@ -19,8 +19,8 @@ abbrev pub countTo : ℕ → (ℕ → Bool) → ℕ
 countTo n p = sumTo n (λ i. digit (p i))
 
 -- "not empty"
-abbrev pub some : List ℕ → Bool
-some l = ltb 0 (length l)
+abbrev pub notEmpty : List ℕ → Bool
+notEmpty l = ltb 0 (length l)
 
 module _ (N L : ℕ) (A : List ℤ) where
   -- the coefficient at i is found: it is at least 2^b
@@ -40,11 +40,11 @@ module _ (N L : ℕ) (A : List ℤ) where
 
   -- "DESC(i) stands if it is not empty, is unsplit and either i is below D or the GRAND of i's parent is split."
   unfoldable pub descStands : ℕ → ℕ → Bool
-  descStands b i = some (desc N L i) && (not (descSplit b i) && (ltb i (coarsestOf N L) || grandSplit b (i / 4)))
+  descStands b i = notEmpty (desc N L i) && (not (descSplit b i) && (ltb i (coarsestOf N L) || grandSplit b (i / 4)))
 
   -- "GRAND(i) stands if it is not empty, DESC(i) is split and it isn't."
   unfoldable pub grandStands : ℕ → ℕ → Bool
-  grandStands b i = some (grand N L i) && (descSplit b i && not (grandSplit b i))
+  grandStands b i = notEmpty (grand N L i) && (descSplit b i && not (grandSplit b i))
 
   -- the number of parts that stand after plane b, and the sum of their sizes
   unfoldable pub parts : ℕ → ℕ

@@ -51,8 +51,8 @@ abbrev pub Each : List Sample → Type 0
 Each [] = Unit {0}
 Each (s ∷ rest) = Holds s × Each rest
 
-unfoldable pub samples : List Sample
-samples =
+unfoldable pub scanSamples : List Sample
+scanSamples =
     coefficients (linearly 2 raster) linear
     ∷ numbers (planesOf linear ∷ []) (3 ∷ [])
     -- "planes take 8, 13, 16 bits; 7, 10, 13 parts stand; 0, 1, 1 sets are split; 37 = 30 + 2 + 5"

@@ -6,7 +6,7 @@ use mathlib.Core.List.{List, [], _∷_}
 use Prim.Native.Nat.{ℕ, zero, suc, _+_, _*_, _-_, _/_}
 use lib.ListN.{getD, set}
 use lib.Dec.{ltb, eqb}
-use Rattle.nls.specs.Marks.{skip, setSkip, splitDesc, splitGrand, startMarks}
+use Rattle.nls.specs.Marks.{MIP, MNP, MSP, MCP, MD, MG, skip, setSkip, splitDesc, splitGrand, startMarks}
 
 -- What the scan asks: bit b of the magnitude at i; the sign at i; whether DESC(g) or GRAND(g) has bit b.
 pub data Question : Type 0 where
@@ -27,8 +27,8 @@ pub record State : Type 0 where
   pub pending : Bool
   pub marks : List ℕ
 
-abbrev pub at : ℕ → Pass → ℕ → List ℕ → State
-at left pass place m = record { left = left; pass = pass; place = place; pending = false; marks = m }
+abbrev pub stateAt : ℕ → Pass → ℕ → List ℕ → State
+stateAt left pass place m = record { left = left; pass = pass; place = place; pending = false; marks = m }
 
 -- What the scan does next.
 pub data Look : Type 0 where
@@ -39,53 +39,53 @@ pub data Look : Type 0 where
 -- Place i of plane b, by whether i is below I and by the mark there.
 -- "Pixel pass: at MIP write the magnitude's bit b .. Other marks: skip."
 abbrev pub lookPixels : ℕ → ℕ → List ℕ → Bool → Bool → Look
-lookPixels b i m false isMIP = silent (at (suc b) sets 0 m)
+lookPixels b i m false isMIP = silent (stateAt (suc b) sets 0 m)
 lookPixels b i m true true = asks (bitOf i b)
-lookPixels b i m true false = silent (at (suc b) pixels (i + skip (getD m i 0)) m)
+lookPixels b i m true false = silent (stateAt (suc b) pixels (i + skip (getD m i 0)) m)
 
 -- "Set pass. MD at i: write whether DESC(i/4) has bit b. .. MG at i: write whether GRAND(i/16) has bit b. .. MCP: write bit b ..
 -- Other marks: set-pass skip."
 abbrev pub lookSets : ℕ → ℕ → List ℕ → Bool → Bool → Bool → Bool → Look
-lookSets b i m false isMD isMG isMCP = silent (at (suc b) refining 0 m)
+lookSets b i m false isMD isMG isMCP = silent (stateAt (suc b) refining 0 m)
 lookSets b i m true true isMG isMCP = asks (inDesc (i / 4) b)
 lookSets b i m true false true isMCP = asks (inGrand (i / 16) b)
 lookSets b i m true false false true = asks (bitOf i b)
-lookSets b i m true false false false = silent (at (suc b) sets (i + setSkip (getD m i 0)) m)
+lookSets b i m true false false false = silent (stateAt (suc b) sets (i + setSkip (getD m i 0)) m)
 
 -- "Refinement pass: MSP writes bit b. MNP becomes MSP and writes nothing. Other marks: skip."
 abbrev pub lookRefining : ℕ → ℕ → List ℕ → Bool → Bool → Bool → Look
-lookRefining b i m false isMSP isMNP = silent (at b pixels 0 m)
+lookRefining b i m false isMSP isMNP = silent (stateAt b pixels 0 m)
 lookRefining b i m true true isMNP = asks (bitOf i b)
-lookRefining b i m true false true = silent (at (suc b) refining (i + 1) (set m i 3))
-lookRefining b i m true false false = silent (at (suc b) refining (i + skip (getD m i 0)) m)
+lookRefining b i m true false true = silent (stateAt (suc b) refining (i + 1) (set m i MSP))
+lookRefining b i m true false false = silent (stateAt (suc b) refining (i + skip (getD m i 0)) m)
 
 module _ (I : ℕ) where
   abbrev pub lookAt : ℕ → Pass → ℕ → Bool → List ℕ → Look
   lookAt zero pass i pending m = over
   lookAt (suc b) pass i true m = asks (signOf i)
-  lookAt (suc b) pixels i false m = lookPixels b i m (ltb i I) (eqb (getD m i 0) 1)
-  lookAt (suc b) sets i false m = lookSets b i m (ltb i I) (eqb (getD m i 0) 5) (eqb (getD m i 0) 6) (eqb (getD m i 0) 4)
-  lookAt (suc b) refining i false m = lookRefining b i m (ltb i I) (eqb (getD m i 0) 3) (eqb (getD m i 0) 2)
+  lookAt (suc b) pixels i false m = lookPixels b i m (ltb i I) (eqb (getD m i 0) MIP)
+  lookAt (suc b) sets i false m = lookSets b i m (ltb i I) (eqb (getD m i 0) MD) (eqb (getD m i 0) MG) (eqb (getD m i 0) MCP)
+  lookAt (suc b) refining i false m = lookRefining b i m (ltb i I) (eqb (getD m i 0) MSP) (eqb (getD m i 0) MNP)
 
   abbrev pub look : State → Look
   look s = lookAt (s .left) (s .pass) (s .place) (s .pending) (s .marks)
 
   -- What follows an answer in the set pass, by whether the mark is MD or MG; else it is MCP.
   abbrev pub tellSets : ℕ → ℕ → List ℕ → Bool → Bool → Bool → State
-  tellSets l i m true true isMG = at l sets i (splitDesc I i m (ltb (4 * i) I))
-  tellSets l i m false true isMG = at l sets (i + 4) m
-  tellSets l i m true false true = at l sets i (splitGrand I i m)
-  tellSets l i m false false true = at l sets (i + 16) m
+  tellSets l i m true true isMG = stateAt l sets i (splitDesc I i m (ltb (4 * i) I))
+  tellSets l i m false true isMG = stateAt l sets (i + 4) m
+  tellSets l i m true false true = stateAt l sets i (splitGrand I i m)
+  tellSets l i m false false true = stateAt l sets (i + 16) m
   tellSets l i m true false false = record { left = l; pass = sets; place = i; pending = true; marks = m }
-  tellSets l i m false false false = at l sets (i + 1) (set m i 1)
+  tellSets l i m false false false = stateAt l sets (i + 1) (set m i MIP)
 
   -- What follows an answer. "A test bit 1 whose sign is missing has changed no mark": the sign sets MNP.
   abbrev pub tellAt : ℕ → Pass → ℕ → Bool → List ℕ → Bool → State
-  tellAt l pass i true m a = at l pass (i + 1) (set m i 2)
+  tellAt l pass i true m a = stateAt l pass (i + 1) (set m i MNP)
   tellAt l pixels i false m true = record { left = l; pass = pixels; place = i; pending = true; marks = m }
-  tellAt l pixels i false m false = at l pixels (i + 1) m
-  tellAt l sets i false m a = tellSets l i m a (eqb (getD m i 0) 5) (eqb (getD m i 0) 6)
-  tellAt l refining i false m a = at l refining (i + 1) m
+  tellAt l pixels i false m false = stateAt l pixels (i + 1) m
+  tellAt l sets i false m a = tellSets l i m a (eqb (getD m i 0) MD) (eqb (getD m i 0) MG)
+  tellAt l refining i false m a = stateAt l refining (i + 1) m
 
   abbrev pub tell : State → Bool → State
   tell s a = tellAt (s .left) (s .pass) (s .place) (s .pending) (s .marks) a
@@ -125,4 +125,4 @@ module _ (I : ℕ) where
 
   -- "Planes run from P-1 down to 0 .. Each pass starts at place 0": the scan before its first bit
   unfoldable pub start : ℕ → ℕ → State
-  start D P = settle (at P pixels 0 (startMarks I D))
+  start D P = settle (stateAt P pixels 0 (startMarks I D))

@@ -8,7 +8,8 @@ use lib.ListN.{getD}
 use lib.Pow.{pow-mono, high, low}
 use Rattle.sizes.proofs.Tables.{table-at}
 use Rattle.places.specs.Spread.{Spreads, spread, spreader}
-use Rattle.places.specs.Order.{rowOf, colOf, toLinear, toRaster, gatherer}
+use Rattle.places.specs.Order.{rowOf, colOf, toLinear, toRaster}
+use Rattle.places.specs.Gather.{gatherer}
 use Rattle.places.proofs.Laws.{spread-rule, spread-below, spread-longer, interleaved-spread, raster-row, raster-col, raster-below, row-longer, col-longer, row-below, col-below, row-parts, col-parts}
 
 -- An entry of a table that was tested whole.

@@ -1,3 +1,4 @@
 pub mod Spread
 pub mod Order
+pub mod Gather
 pub mod Answers

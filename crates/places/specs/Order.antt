@@ -33,7 +33,3 @@ linearly N A = table (allOf N) (λ q. getD A (toRaster N q) (pos 0))
 
 unfoldable pub rasterly : ℕ → List ℤ → List ℤ
 rasterly N A = table (allOf N) (λ p. getD A (toLinear N p) (pos 0))
-
--- the table for the way back: the row and the column of each byte of a linear place
-unfoldable pub gatherer : List ℕ
-gatherer = table 256 (λ x. rowOf 4 x * 16 + colOf 4 x)

@@ -9,7 +9,8 @@ ghost use lib.ListN.{length};
 ghost use Rattle.refusals.specs.Checks.{firstOf, lentAfter};
 ghost use Rattle.refusals.specs.declared.Outcome.the-variants.{Done};
 ghost use Rattle.places.specs.Spread.{spreader};
-ghost use Rattle.places.specs.Order.{gatherer, toLinear, toRaster, linearly, rasterly};
+ghost use Rattle.places.specs.Gather.{gatherer};
+ghost use Rattle.places.specs.Order.{toLinear, toRaster, linearly, rasterly};
 ghost use Rattle.places.specs.Answers.{placeChecks, reorderChecks, rasterIf, linearIf};
 
 // A place in raster order, and one in linear order.

@@ -2,7 +2,8 @@
 ghost use mathlib.Core.Path.{_≡_};
 ghost use Prim.Native.Nat.{_+_, _*_, _<_};
 ghost use Rattle.places.specs.Spread.{spread, spreader};
-ghost use Rattle.places.specs.Order.{rowOf, colOf, gatherer};
+ghost use Rattle.places.specs.Gather.{gatherer};
+ghost use Rattle.places.specs.Order.{rowOf, colOf};
 
 // The spread of each byte.
 const SPREAD: [u16; 256] = [

@@ -23,7 +23,7 @@ use Rattle.coef.specs.Coef.{firstOver, planesOf}
 use Rattle.nls.specs.Stream.{worstBody}
 use Rattle.room.specs.Ready.{EncodeReady}
 use Rattle.tree.specs.Summaries.{summaryChecks}
-use Rattle.room.specs.Room.{worstChecks, worstAnswer, mostBits, roomChecks, encodeChecks, decodeChecks}
+use Rattle.room.specs.Room.{worstChecks, worstAnswer, mostBits, roomChecks, writeChecks, readChecks}
 
 -- ---- the worst body
 
@@ -68,7 +68,7 @@ module _ (first more : List Check) {r : Outcome} (is : r ≡ firstOf first) wher
 
 module _ (N L P values precisions marks : ℕ) where
   pub decode-well : sideFits N ≡ true → levelsFit N L ≡ true → P ≤ mostPlanes → allOf N ≤ values → allOf N ≤ precisions → allOf N ≤ marks
-      → Done ≡ firstOf (decodeChecks N L P values precisions marks)
+      → Done ≡ firstOf (readChecks N L P values precisions marks)
   unfolding firstOf
   decode-well s l p v k m = rw (s, l, le-leb P mostPlanes p, le-leb (allOf N) values v, le-leb (allOf N) precisions k, le-leb (allOf N) marks m)
 
@@ -81,10 +81,10 @@ module _ (N L P values precisions marks : ℕ) where
     pub precisionsRoom : allOf N ≤ precisions
     pub marksRoom : allOf N ≤ marks
 
-  pub decode-ready : Done ≡ firstOf (decodeChecks N L P values precisions marks) → DecodeReady
+  pub decode-ready : Done ≡ firstOf (readChecks N L P values precisions marks) → DecodeReady
   unfolding AllHold
   decode-ready is =
-      let all = passed (decodeChecks N L P values precisions marks) (sym is) in
+      let all = passed (readChecks N L P values precisions marks) (sym is) in
       let rooms = all .1 .1 .1 .0 in
       let others = both-right (leb (allOf N) values) (leb (allOf N) precisions && leb (allOf N) marks) rooms in
       record {
@@ -118,10 +118,10 @@ module _ (N L : ℕ) (A : List ℤ) (descs grands marks out offset budget : ℕ)
   unfolding AllHold
   summaries-met is = let all = passed (summaryChecks N L A descs grands) is in (all .0, all .1 .0, eqb-true (firstOver A) (length A) (all .1 .1 .1 .0))
 
-  pub encode-ready : Done ≡ firstOf (encodeChecks N L A descs grands marks out offset budget) → EncodeReady N L A descs grands (out - offset) budget × (allOf N ≤ marks) × (offset ≤ out)
+  pub encode-ready : Done ≡ firstOf (writeChecks N L A descs grands marks out offset budget) → EncodeReady N L A descs grands (out - offset) budget × (allOf N ≤ marks) × (offset ≤ out)
   unfolding AllHold
   encode-ready is =
-      let all = passed (encodeChecks N L A descs grands marks out offset budget) (sym is) in
+      let all = passed (writeChecks N L A descs grands marks out offset budget) (sym is) in
       let rooms = all .1 .1 .1 .1 .0 in
       let fits = leb-true (offset + bytesFor (min budget (worstBody N L (planesOf A)))) out (all .1 .1 .1 .1 .1 .1 .0) in (
         record {

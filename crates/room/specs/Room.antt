@@ -39,16 +39,16 @@ abbrev pub roomChecks : ℕ → ℕ → List ℤ → ℕ → ℕ → ℕ → ℕ
 roomChecks N L A marks out offset budget =
     need (leb (allOf N) marks) Lent ∷ need (leb (offset + bytesFor (min budget (worstBody N L (planesOf A)))) out) Output ∷ []
 
-abbrev pub encodeChecks : ℕ → ℕ → List ℤ → ℕ → ℕ → ℕ → ℕ → ℕ → ℕ → List Check
-encodeChecks N L A descs grands marks out offset budget = summaryChecks N L A descs grands ++ roomChecks N L A marks out offset budget
+abbrev pub writeChecks : ℕ → ℕ → List ℤ → ℕ → ℕ → ℕ → ℕ → ℕ → ℕ → List Check
+writeChecks N L A descs grands marks out offset budget = summaryChecks N L A descs grands ++ roomChecks N L A marks out offset budget
 
 -- ---- decoding
 
 -- of decoding's checks those of a body: 1, 2, 9, 5, by the lengths of what is lent
-abbrev pub decodeChecks : ℕ → ℕ → ℕ → ℕ → ℕ → ℕ → List Check
-decodeChecks N L P values precisions marks =
+abbrev pub readChecks : ℕ → ℕ → ℕ → ℕ → ℕ → ℕ → List Check
+readChecks N L P values precisions marks =
     worstChecks N L P ++ (need (leb (allOf N) values && (leb (allOf N) precisions && leb (allOf N) marks)) Lent ∷ [])
 
 -- "usable bits are the smaller of declared and 8 times the bytes present"
-abbrev pub usableBits : ℕ → List ℕ → List Bool
-usableBits usable body = bitsOf (min usable (8 * length body)) body
+abbrev pub bodyBits : ℕ → List ℕ → List Bool
+bodyBits usable body = bitsOf (min usable (8 * length body)) body

@@ -13,7 +13,7 @@ ghost use Rattle.sizes.specs.Sizes.{sideFits, levelsFit, mostPlanes};
 ghost use Rattle.bits.specs.Bits.{bytesFor};
 ghost use Rattle.nls.specs.Stream.{worstBody};
 ghost use Rattle.coef.specs.Coef.{firstOver};
-ghost use Rattle.room.specs.Room.{worstChecks, worstAnswer, mostBits, roomChecks, encodeChecks, decodeChecks};
+ghost use Rattle.room.specs.Room.{worstChecks, worstAnswer, mostBits, roomChecks, writeChecks, readChecks};
 
 // What `worst_body` answers.
 pub enum WorstAnswer {
@@ -128,7 +128,7 @@ pub fn check_encode(
     offset: usize,
     budget: u32,
 ) -> Outcome
-    ensures { λ r. ⌜ r ≡ firstOf (encodeChecks n l (now (coefs .entry)) descs grands marks out offset budget) ⌝ }
+    ensures { λ r. ⌜ r ≡ firstOf (writeChecks n l (now (coefs .entry)) descs grands marks out offset budget) ⌝ }
 {
     let checked = tree::check(n, l, coefs, descs, grands);
     match checked {
@@ -162,7 +162,7 @@ pub fn check_decode(
     precisions: usize,
     marks: usize,
 ) -> Outcome
-    ensures { λ r. ⌜ r ≡ firstOf (decodeChecks n l p values precisions marks) ⌝ }
+    ensures { λ r. ⌜ r ≡ firstOf (readChecks n l p values precisions marks) ⌝ }
 {
     let checked = check_worst(n, l, p);
     match checked {

@@ -18,8 +18,6 @@ use Rattle.nls.specs.Judging.{Verdict, taken, contradiction, beyond, Judged}
 use Rattle.room.specs.Room as room
 use Rattle.encoder.specs.Body.{sentBits}
 use Rattle.decoder.specs.Body.{Tables, ownTables, over}
-use Rattle.decoder.specs.declared.body.DecodeAnswer as answer
-use Rattle.decoder.specs.declared.body.DecodeAnswer.the-variants as read
 use Rattle.txp.specs.declared.Header.{Header}
 use Rattle.txp.specs.declared.EncodeAnswer.{EncodeAnswer}
 use Rattle.txp.specs.declared.EncodeAnswer.the-variants as encode
@@ -32,7 +30,7 @@ use Rattle.txp.specs.File.{usableBits}
 
 -- "Encoding checks 1 to 6 in that order": those of its body, which begins behind the header
 abbrev pub encodeChecks : ℕ → ℕ → List ℤ → ℕ → ℕ → ℕ → ℕ → ℕ → List Check
-encodeChecks N L A descs grands marks out budget = room.encodeChecks N L A descs grands marks out headerSize budget
+encodeChecks N L A descs grands marks out budget = room.writeChecks N L A descs grands marks out headerSize budget
 
 abbrev pub encodeAnswer : ℕ → ℕ → List ℤ → ℕ → Outcome → EncodeAnswer
 encodeAnswer N L A budget outcome.Done =
@@ -85,12 +83,6 @@ decodeAnswer h u taken =
     })
 decodeAnswer h u (contradiction bit) = decode.Refused (Contradiction bit)
 decodeAnswer h u (beyond bit) = decode.Refused (Beyond bit)
-
--- what a body's answer becomes under its header
-abbrev pub withHeader : Header → answer.DecodeAnswer → DecodeAnswer
-withHeader h (read.Done r) =
-    decode.Done (record { n = h .n; l = h .l; p = h .p; declared = h .declared; used = r .used; finished = r .finished; error = r .error })
-withHeader h (read.Refused why) = decode.Refused why
 
 -- a call whose checks all hold: the verdict on the usable bits decides the answer and the tables
 pub record DecodedFile (h : Header) (u : List Bool) (held : Tables) (answer : DecodeAnswer) (left : Tables) : Type 0 where

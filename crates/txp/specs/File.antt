@@ -21,4 +21,4 @@ fileOf N L A budget = headerBytes (headerFor N L A budget) ++ packed (sentBits N
 
 -- the usable bits of a file: of its declared bits those that are present
 abbrev pub usableBits : List ℕ → List Bool
-usableBits file = room.usableBits (headerOf file .declared) (bodyOf file)
+usableBits file = room.bodyBits (headerOf file .declared) (bodyOf file)

@@ -1,4 +1,5 @@
 pub mod Header
 pub mod File
 pub mod Calls
+pub mod Under
 pub mod Samples

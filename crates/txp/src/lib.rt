@@ -12,7 +12,8 @@ ghost use Rattle.tree.specs.Summaries.{descTable, grandTable};
 ghost use Rattle.encoder.specs.Body.{sentMarks};
 ghost use Rattle.decoder.specs.Body.{tables};
 ghost use Rattle.txp.specs.File.{fileOf};
-ghost use Rattle.txp.specs.Calls.{encodeChecks, encodeAnswer, encodeEnd, paddingFits, roomIn, restChecks, decodeChecks, withHeader, Decodes};
+ghost use Rattle.txp.specs.Calls.{encodeChecks, encodeAnswer, encodeEnd, paddingFits, roomIn, restChecks, decodeChecks, Decodes};
+ghost use Rattle.txp.specs.Under.{withHeader};
 ghost use Rattle.txp.specs.Header.{bodyOf, headerSize, headerBytes, twoAt, twoBytes, lettersFit, versionFits, headerOf};
 
 // The bytes before the body.
@@ -244,7 +245,7 @@ pub fn encode(
 {
     let body = encoder::encode(n, l, coefs, desc, grand, marks, out, HEADER_SIZE, budget);
     match body {
-        encoder::EncodeAnswer::Done(written) => {
+        encoder::WriteAnswer::Done(written) => {
             let h = Header {
                 n,
                 l,
@@ -258,16 +259,16 @@ pub fn encode(
                 bytes: HEADER_SIZE + bytes_for(written.bits),
             })
         }
-        encoder::EncodeAnswer::Refused(why) => EncodeAnswer::Refused(why),
+        encoder::WriteAnswer::Refused(why) => EncodeAnswer::Refused(why),
     }
 }
 
 // The answer on a body under its header.
-fn with_header(h: Header, body: decoder::DecodeAnswer) -> DecodeAnswer
+fn with_header(h: Header, body: decoder::ReadAnswer) -> DecodeAnswer
     ensures { λ r. ⌜ r ≡ withHeader h body ⌝ }
 {
     match body {
-        decoder::DecodeAnswer::Done(read) => DecodeAnswer::Done(Decoded {
+        decoder::ReadAnswer::Done(read) => DecodeAnswer::Done(Decoded {
             n: h.n,
             l: h.l,
             p: h.p,
@@ -276,7 +277,7 @@ fn with_header(h: Header, body: decoder::DecodeAnswer) -> DecodeAnswer
             finished: read.finished,
             error: read.error,
         }),
-        decoder::DecodeAnswer::Refused(why) => DecodeAnswer::Refused(why),
+        decoder::ReadAnswer::Refused(why) => DecodeAnswer::Refused(why),
     }
 }
 

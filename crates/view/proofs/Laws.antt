@@ -16,7 +16,7 @@ use Rattle.bits.specs.declared.Next.the-variants.{Bit, NoMore}
 use Rattle.bits.specs.Bits.{bitAt, bitsOf, fetched}
 use Rattle.bits.proofs.Laws.{bitsOf-suc}
 use Rattle.view.specs.declared.BitView.{BitView}
-use Rattle.view.specs.View.{viewed, after, movedTo, viewOf, past}
+use Rattle.view.specs.View.{viewed, nextAfter, movedTo, viewOf, past}
 
 -- how many bits a view gives
 abbrev pub span : List ℕ → ℕ → ℕ
@@ -49,10 +49,10 @@ module _ (body : List ℕ) (at end : ℕ) where
       tell (no l) = absurd (true≢false (ap isBit (sym e ∙ viewed-none (omega arith))))
 
   pub moved-bit : at < span body end → movedTo body at end ≡ at + 1
-  moved-bit h = ap (λ (n : Next). after n at) (viewed-bit h)
+  moved-bit h = ap (λ (n : Next). nextAfter n at) (viewed-bit h)
 
   pub moved-none : span body end ≤ at → movedTo body at end ≡ at
-  moved-none h = ap (λ (n : Next). after n at) (viewed-none h)
+  moved-none h = ap (λ (n : Next). nextAfter n at) (viewed-none h)
 
 pub viewed-end : (body : List ℕ) (end : ℕ) → viewed body (span body end) end ≡ NoMore
 viewed-end body end = viewed-none body (span body end) end (omega arith)

@@ -14,12 +14,12 @@ unfoldable pub viewed : List ℕ → ℕ → ℕ → Next
 viewed body at end = cond (ltb at end) (fetched body at) NoMore
 
 -- the number of the next bit, after a read at number `at`: one more after a bit, else the same
-abbrev pub after : Next → ℕ → ℕ
-after (Bit x) at = at + 1
-after NoMore at = at
+abbrev pub nextAfter : Next → ℕ → ℕ
+nextAfter (Bit x) at = at + 1
+nextAfter NoMore at = at
 
 abbrev pub movedTo : List ℕ → ℕ → ℕ → ℕ
-movedTo body at end = after (viewed body at end) at
+movedTo body at end = nextAfter (viewed body at end) at
 
 -- a view of a body's first `end` bits, at the first of them
 abbrev pub viewOf : RefT (List ℕ) → ℕ → BitView

@@ -10,11 +10,11 @@ use lib.Seq.{set-getD}
 use lib.Dec.{ltb, eqb}
 use borrow.Author.Tests.{lt-ltb, le-ltb, ltb-true, ltb-false, eqb-true, eqb-false, eq-eqb, ne-eqb}
 use Rattle.nls.specs.Marks.{skip, setSkip, push, splitDesc, splitGrand}
-use Rattle.nls.specs.Scan.{Question, bitOf, signOf, inDesc, inGrand, Pass, pixels, sets, refining, State, at, Look, over, silent, asks, look, tell}
+use Rattle.nls.specs.Scan.{Question, bitOf, signOf, inDesc, inGrand, Pass, pixels, sets, refining, State, stateAt, Look, over, silent, asks, look, tell}
 use Rattle.nls.proofs.Machine.Run.{skip-pos, sskip-pos}
 use Rattle.nls.proofs.Joined.Codes.{Codes, set-low, codes-desc, codes-grand, far}
 use Rattle.walk.specs.Scans.{Seen, halt, refuse, move}
-use Rattle.marking.specs.Marking.{skipOf, setSkipOf, newDesc, descSplit, grandSplit}
+use Rattle.marking.specs.Marking.{skipOf, setSkipOf, newDesc, descSplitMarks, grandSplitMarks}
 use Rattle.walk.specs.Visits.{Source, more, got, Sv, sv, oneSeen, testSeen, pixelsSeen, setsSeen, refiningSeen}
 use Rattle.marking.proofs.Laws.{push-six}
 
@@ -49,12 +49,12 @@ pub data Stopped {O : Type 0} (K : Source O) (I : ℕ) (P : State → O → Type
 
 -- or the 0 that would answer it is refused
 pub data Barred {O : Type 0} (K : Source O) (I : ℕ) (P : State → O → Type 0) : ℕ → Sv O → Type 0 where
-  barred : (b i : ℕ) (q : Question) (m : List ℕ) (o : O) → P (at (suc b) sets i m) o → look I (at (suc b) sets i m) ≡ asks q → i < I → K .used o < K .budget → K .next q o ≡ false
+  barred : (b i : ℕ) (q : Question) (m : List ℕ) (o : O) → P (stateAt (suc b) sets i m) o → look I (stateAt (suc b) sets i m) ≡ asks q → i < I → K .used o < K .budget → K .next q o ≡ false
       → K .bars b q i m o ≡ true → Barred K I P (suc b) (sv m o)
 
 -- a state of the code where the machine stands
 pub record Stands {O : Type 0} (K : Source O) (N : ℕ) (P : State → O → Type 0) (l : ℕ) (p : Pass) (i : ℕ) (v : Sv O) : Type 0 where
-  pub held : P (at l p i (v .marks)) (v .rest)
+  pub held : P (stateAt l p i (v .marks)) (v .rest)
   pub codes : Codes N (v .marks)
   pub cap : K .used (v .rest) ≤ K .budget
 
@@ -78,7 +78,7 @@ pub set-skip-is : (k : ℕ) → k < 13 → setSkipOf k ≡ setSkip k
 unfolding setSkipOf
 set-skip-is k h = rw (lt-ltb k 13 h)
 
-pub grand-is : (I i : ℕ) (m : List ℕ) → I ≤ 65536 → 4 ≤ i → grandSplit I i m ≡ splitGrand I i m
+pub grand-is : (I i : ℕ) (m : List ℕ) → I ≤ 65536 → 4 ≤ i → grandSplitMarks I i m ≡ splitGrand I i m
 grand-is I i m h w =
     let e0 : newDesc I i m ≡ push I i (set m i 5) = push-six I i (set m i 5) h w in
     let m1 : List ℕ = push I i (set m i 5) in
@@ -103,14 +103,14 @@ module _ {O : Type 0} (K : Source O) (N : ℕ) (P : State → O → Type 0) (w :
   small = pow-le-pow-right {n = 4} (omega arith) {i = N} {j = 8} eight
 
   -- one more bit
-  step : (b : ℕ) (p : Pass) (i j : ℕ) (q : Question) (m : List ℕ) (o : O) → P (at (suc b) p j m) (got K p b q o) → Codes N m → K .used o < K .budget → i ≤ j
+  step : (b : ℕ) (p : Pass) (i j : ℕ) (q : Question) (m : List ℕ) (o : O) → P (stateAt (suc b) p j m) (got K p b q o) → Codes N m → K .used o < K .budget → i ≤ j
       → G b p i (K .used o) (move j (sv m (got K p b q o)))
   step b p i j q m o h v l f =
       let c : K .used (got K p b q o) ≡ K .used o + 1 = w .counts p b q (K .next q o) o in
       record { stands = record { held = h; codes = v; cap = omega (arith, c, l) }; forth = f; spent = omega (arith, c); falls = omega (arith, c, f) }
 
   -- no bit
-  still : (b : ℕ) (p : Pass) (i j : ℕ) (m : List ℕ) (o : O) → P (at (suc b) p j m) o → Codes N m → K .used o ≤ K .budget → i < j
+  still : (b : ℕ) (p : Pass) (i j : ℕ) (m : List ℕ) (o : O) → P (stateAt (suc b) p j m) o → Codes N m → K .used o ≤ K .budget → i < j
       → G b p i (K .used o) (move j (sv m o))
   still b p i j m o h v l f = record { stands = record { held = h; codes = v; cap = l }; forth = omega (arith, f); spent = omega arith; falls = omega (arith, f) }
 
@@ -132,10 +132,10 @@ module _ {O : Type 0} (K : Source O) (N : ℕ) (P : State → O → Type 0) (w :
   free-one b sets i q m o e = λ f. (let z : _≡_ {A = ℕ} 0 1 = cc in absurd (omega (arith, z)))
 
   -- a coefficient by itself; `bar`: its 0 is refused
-  module _ (b : ℕ) (p : Pass) (i : ℕ) (bar : Bool) (m : List ℕ) (o : O) (h : P (at (suc b) p i m) o) (v : Codes N m) (l : i < I) (c : K .used o ≤ K .budget)
-      (a : look I (at (suc b) p i m) ≡ asks (bitOf i b)) (f : bar ≡ false → Free K b p i false (bitOf i b) m o)
+  module _ (b : ℕ) (p : Pass) (i : ℕ) (bar : Bool) (m : List ℕ) (o : O) (h : P (stateAt (suc b) p i m) o) (v : Codes N m) (l : i < I) (c : K .used o ≤ K .budget)
+      (a : look I (stateAt (suc b) p i m) ≡ asks (bitOf i b)) (f : bar ≡ false → Free K b p i false (bitOf i b) m o)
       (g : bar ≡ true → K .next (bitOf i b) o ≡ false → K .used o < K .budget → Barred K I P (suc b) (sv m o))
-      (e₀ : tell I (at (suc b) p i m) false ≡ at (suc b) p (i + 1) (set m i 1)) (e₁ : tell I (at (suc b) p i m) true ≡ state (suc b) p i true m) where
+      (e₀ : tell I (stateAt (suc b) p i m) false ≡ stateAt (suc b) p (i + 1) (set m i 1)) (e₁ : tell I (stateAt (suc b) p i m) true ≡ state (suc b) p i true m) where
     abbrev o₁ : O
     o₁ = got K p b (bitOf i b) o
 
@@ -164,7 +164,7 @@ module _ {O : Type 0} (K : Source O) (N : ℕ) (P : State → O → Type 0) (w :
         → G b p i (K .used o) (cond x (refuse (sv m o)) (move (i + 1) (sv (set m i 1) o₁)))
     one-zero true y z d = g y z d
     one-zero false y z d =
-        step b p i (i + 1) (bitOf i b) (set m i 1) o (told-as b p i false m (bitOf i b) o false (at (suc b) p (i + 1) (set m i 1)) z e₀ h a l l d (f y)) (set-low N two m i 1 (omega arith) v) d (omega arith)
+        step b p i (i + 1) (bitOf i b) (set m i 1) o (told-as b p i false m (bitOf i b) o false (stateAt (suc b) p (i + 1) (set m i 1)) z e₀ h a l l d (f y)) (set-low N two m i 1 (omega arith) v) d (omega arith)
 
     one-bit : (x : Bool) → K .next (bitOf i b) o ≡ x → K .used o < K .budget
         → G b p i (K .used o) (cond x (cond (more K o₁) (move (i + 1) (sv (set m i 2) (got K p b (signOf i) o₁))) (halt (sv m o₁)))
@@ -180,12 +180,12 @@ module _ {O : Type 0} (K : Source O) (N : ℕ) (P : State → O → Type 0) (w :
             → G b p i (K .used o) (cond x (cond (K .next (bitOf i b) o) (cond (more K o₁) (move (i + 1) (sv (set m i 2) (got K p b (signOf i) o₁))) (halt (sv m o₁)))
             (cond bar (refuse (sv m o)) (move (i + 1) (sv (set m i 1) o₁)))) (halt (sv m o)))
         go true y = one-bit (K .next (bitOf i b) o) refl (ltb-true (K .used o) (K .budget) y)
-        go false y = dry (at (suc b) p i m) (bitOf i b) o h a (ltb-false (K .used o) (K .budget) y) c (suc b) refl
+        go false y = dry (stateAt (suc b) p i m) (bitOf i b) o h a (ltb-false (K .used o) (K .budget) y) c (suc b) refl
 
   -- a set's test
-  module _ (b i : ℕ) (q : Question) (d : ℕ) (m m₁ : List ℕ) (o : O) (h : P (at (suc b) sets i m) o) (v : Codes N m) (v₁ : Codes N m₁) (c : K .used o ≤ K .budget) (li : i < I)
-      (a : look I (at (suc b) sets i m) ≡ asks q) (u : Proper I q)
-      (e₀ : tell I (at (suc b) sets i m) false ≡ at (suc b) sets (i + d) m) (e₁ : tell I (at (suc b) sets i m) true ≡ at (suc b) sets i m₁) where
+  module _ (b i : ℕ) (q : Question) (d : ℕ) (m m₁ : List ℕ) (o : O) (h : P (stateAt (suc b) sets i m) o) (v : Codes N m) (v₁ : Codes N m₁) (c : K .used o ≤ K .budget) (li : i < I)
+      (a : look I (stateAt (suc b) sets i m) ≡ asks q) (u : Proper I q)
+      (e₀ : tell I (stateAt (suc b) sets i m) false ≡ stateAt (suc b) sets (i + d) m) (e₁ : tell I (stateAt (suc b) sets i m) true ≡ stateAt (suc b) sets i m₁) where
     abbrev bar : Bool
     bar = K .bars b q i m o
 
@@ -195,17 +195,17 @@ module _ {O : Type 0} (K : Source O) (N : ℕ) (P : State → O → Type 0) (w :
       where
         zero-bit : (x : Bool) → bar ≡ x → K .next q o ≡ false → K .used o < K .budget → G b sets i (K .used o) (cond x (refuse (sv m o)) (move (i + d) (sv m (got K sets b q o))))
         zero-bit true z y l = barred b i q m o h a li l y z
-        zero-bit false z y l = step b sets i (i + d) q m o (told-as b sets i false m q o false (at (suc b) sets (i + d) m) y e₀ h a li u l (λ _. z)) v l (omega arith)
+        zero-bit false z y l = step b sets i (i + d) q m o (told-as b sets i false m q o false (stateAt (suc b) sets (i + d) m) y e₀ h a li u l (λ _. z)) v l (omega arith)
 
         bit : (x : Bool) → K .next q o ≡ x → K .used o < K .budget
             → G b sets i (K .used o) (cond x (move i (sv m₁ (got K sets b q o))) (cond bar (refuse (sv m o)) (move (i + d) (sv m (got K sets b q o)))))
-        bit true y l = step b sets i i q m₁ o (told-as b sets i false m q o true (at (suc b) sets i m₁) y e₁ h a li u l (free-one b sets i q m o y)) v₁ l (omega arith)
+        bit true y l = step b sets i i q m₁ o (told-as b sets i false m q o true (stateAt (suc b) sets i m₁) y e₁ h a li u l (free-one b sets i q m o y)) v₁ l (omega arith)
         bit false y l = zero-bit bar refl y l
 
         go : (x : Bool) → more K o ≡ x
             → G b sets i (K .used o) (cond x (cond (K .next q o) (move i (sv m₁ (got K sets b q o))) (cond bar (refuse (sv m o)) (move (i + d) (sv m (got K sets b q o))))) (halt (sv m o)))
         go true y = bit (K .next q o) refl (ltb-true (K .used o) (K .budget) y)
-        go false y = dry (at (suc b) sets i m) q o h a (ltb-false (K .used o) (K .budget) y) c (suc b) refl
+        go false y = dry (stateAt (suc b) sets i m) q o h a (ltb-false (K .used o) (K .budget) y) c (suc b) refl
 
   -- the three passes
   module _ (b i : ℕ) (m : List ℕ) (o : O) (v : Codes N m) (l : i < I) (c : K .used o ≤ K .budget) where
@@ -218,62 +218,62 @@ module _ {O : Type 0} (K : Source O) (N : ℕ) (P : State → O → Type 0) (w :
     set-same : k ≡ 1 → set m i 1 ≡ m
     set-same e = ap (λ (x : ℕ). set m i x) (sym e) ∙ set-getD m i 0
 
-    pub pixels-good : P (at (suc b) pixels i m) o → G b pixels i (K .used o) (pixelsSeen K b i k m o)
+    pub pixels-good : P (stateAt (suc b) pixels i m) o → G b pixels i (K .used o) (pixelsSeen K b i k m o)
     unfolding pixelsSeen
     pixels-good h = go (eqb k 1) refl
       where
         go : (x : Bool) → eqb k 1 ≡ x → G b pixels i (K .used o) (cond x (oneSeen K pixels b i false m o) (move (i + skipOf k) (sv m o)))
         go true y =
             one-good b pixels i false m o h v l c (rw (lt-ltb i I l, y)) (λ _. tt) (λ e. (let z : _≡_ {A = ℕ} 0 1 = cc in absurd (omega (arith, z))))
-            (ap (λ (z : List ℕ). at (suc b) pixels (i + 1) z) (sym (set-same (eqb-true k 1 y)))) refl
+            (ap (λ (z : List ℕ). stateAt (suc b) pixels (i + 1) z) (sym (set-same (eqb-true k 1 y)))) refl
         go false y =
-            let g : look I (at (suc b) pixels i m) ≡ silent (at (suc b) pixels (i + skip k) m) = rw (lt-ltb i I l, y) in
+            let g : look I (stateAt (suc b) pixels i m) ≡ silent (stateAt (suc b) pixels (i + skip k) m) = rw (lt-ltb i I l, y) in
             let s : skipOf k ≡ skip k = skip-is k coded in
-            still b pixels i (i + skipOf k) m o (subst (λ (z : ℕ). P (at (suc b) pixels (i + z) m) o) (sym s) (w .silence _ _ o h g)) v c (omega (arith, s, skip-pos k))
+            still b pixels i (i + skipOf k) m o (subst (λ (z : ℕ). P (stateAt (suc b) pixels (i + z) m) o) (sym s) (w .silence _ _ o h g)) v c (omega (arith, s, skip-pos k))
 
-    pub refining-good : P (at (suc b) refining i m) o → G b refining i (K .used o) (refiningSeen K b i k m o)
+    pub refining-good : P (stateAt (suc b) refining i m) o → G b refining i (K .used o) (refiningSeen K b i k m o)
     unfolding refiningSeen
     refining-good h = go (eqb k 3) refl
       where
         bit : (x : Bool) → more K o ≡ x → eqb k 3 ≡ true → G b refining i (K .used o) (cond x (move (i + 1) (sv m (got K refining b (bitOf i b) o))) (halt (sv m o)))
         bit true z y = step b refining i (i + 1) (bitOf i b) m o (w .told b refining i false m (bitOf i b) o h (rw (lt-ltb i I l, y)) l l (ltb-true (K .used o) (K .budget) z) tt) v (ltb-true (K .used o) (K .budget) z) (omega arith)
-        bit false z y = dry (at (suc b) refining i m) (bitOf i b) o h (rw (lt-ltb i I l, y)) (ltb-false (K .used o) (K .budget) z) c (suc b) refl
+        bit false z y = dry (stateAt (suc b) refining i m) (bitOf i b) o h (rw (lt-ltb i I l, y)) (ltb-false (K .used o) (K .budget) z) c (suc b) refl
 
         new : (x : Bool) → eqb k 2 ≡ x → eqb k 3 ≡ false → G b refining i (K .used o) (cond x (move (i + 1) (sv (set m i 3) o)) (move (i + skipOf k) (sv m o)))
         new true z y =
-            let g : look I (at (suc b) refining i m) ≡ silent (at (suc b) refining (i + 1) (set m i 3)) = rw (lt-ltb i I l, y, z) in
+            let g : look I (stateAt (suc b) refining i m) ≡ silent (stateAt (suc b) refining (i + 1) (set m i 3)) = rw (lt-ltb i I l, y, z) in
             still b refining i (i + 1) (set m i 3) o (w .silence _ _ o h g) (set-low N two m i 3 (omega arith) v) c (omega arith)
         new false z y =
-            let g : look I (at (suc b) refining i m) ≡ silent (at (suc b) refining (i + skip k) m) = rw (lt-ltb i I l, y, z) in
+            let g : look I (stateAt (suc b) refining i m) ≡ silent (stateAt (suc b) refining (i + skip k) m) = rw (lt-ltb i I l, y, z) in
             let s : skipOf k ≡ skip k = skip-is k coded in
-            still b refining i (i + skipOf k) m o (subst (λ (z : ℕ). P (at (suc b) refining (i + z) m) o) (sym s) (w .silence _ _ o h g)) v c (omega (arith, s, skip-pos k))
+            still b refining i (i + skipOf k) m o (subst (λ (z : ℕ). P (stateAt (suc b) refining (i + z) m) o) (sym s) (w .silence _ _ o h g)) v c (omega (arith, s, skip-pos k))
 
         go : (x : Bool) → eqb k 3 ≡ x
             → G b refining i (K .used o) (cond x (cond (more K o) (move (i + 1) (sv m (got K refining b (bitOf i b) o))) (halt (sv m o))) (cond (eqb k 2) (move (i + 1) (sv (set m i 3) o)) (move (i + skipOf k) (sv m o))))
         go true y = bit (more K o) refl y
         go false y = new (eqb k 2) refl y
 
-    pub sets-good : P (at (suc b) sets i m) o → G b sets i (K .used o) (setsSeen K I b i k m o)
+    pub sets-good : P (stateAt (suc b) sets i m) o → G b sets i (K .used o) (setsSeen K I b i k m o)
     unfolding setsSeen
     sets-good h = seen (eqb k 4) (eqb k 5) (eqb k 6) refl refl refl
       where
         seen : (x4 x5 x6 : Bool) → eqb k 4 ≡ x4 → eqb k 5 ≡ x5 → eqb k 6 ≡ x6
-            → G b sets i (K .used o) (cond x4 (oneSeen K sets b i (K .bars b (bitOf i b) i m o) m o) (cond x5 (testSeen K b i (inDesc (i / 4) b) 4 (K .bars b (inDesc (i / 4) b) i m o) (descSplit I i m) m o)
-            (cond x6 (testSeen K b i (inGrand (i / 16) b) 16 (K .bars b (inGrand (i / 16) b) i m o) (grandSplit I i m) m o) (move (i + setSkipOf k) (sv m o)))))
+            → G b sets i (K .used o) (cond x4 (oneSeen K sets b i (K .bars b (bitOf i b) i m o) m o) (cond x5 (testSeen K b i (inDesc (i / 4) b) 4 (K .bars b (inDesc (i / 4) b) i m o) (descSplitMarks I i m) m o)
+            (cond x6 (testSeen K b i (inGrand (i / 16) b) 16 (K .bars b (inGrand (i / 16) b) i m o) (grandSplitMarks I i m) m o) (move (i + setSkipOf k) (sv m o)))))
         seen true x5 x6 y4 y5 y6 =
             let z : k ≡ 4 = eqb-true k 4 y4 in
             let z5 : eqb k 5 ≡ false = rw z in
             let z6 : eqb k 6 ≡ false = rw z in
-            let a : look I (at (suc b) sets i m) ≡ asks (bitOf i b) = rw (lt-ltb i I l, z5, z6, y4) in
+            let a : look I (stateAt (suc b) sets i m) ≡ asks (bitOf i b) = rw (lt-ltb i I l, z5, z6, y4) in
             one-good b sets i (K .bars b (bitOf i b) i m o) m o h v l c a (λ e _. e) (λ e z u. barred b i (bitOf i b) m o h a l u z e) (rw (z5, z6)) (rw (z5, z6))
         seen false true x6 y4 y5 y6 =
-            test-good b i (inDesc (i / 4) b) 4 m (descSplit I i m) o h v (codes-desc N two i m (ltb (4 * i) I) (far N two m i v (omega (arith, eqb-true k 5 y5))) v) c l (rw (lt-ltb i I l, y5)) (omega (arith, l)) (rw y5) (rw y5)
+            test-good b i (inDesc (i / 4) b) 4 m (descSplitMarks I i m) o h v (codes-desc N two i m (ltb (4 * i) I) (far N two m i v (omega (arith, eqb-true k 5 y5))) v) c l (rw (lt-ltb i I l, y5)) (omega (arith, l)) (rw y5) (rw y5)
         seen false false true y4 y5 y6 =
             let f : 4 ≤ i = far N two m i v (omega (arith, eqb-true k 6 y6)) in
-            let e : grandSplit I i m ≡ splitGrand I i m = grand-is I i m small f in
+            let e : grandSplitMarks I i m ≡ splitGrand I i m = grand-is I i m small f in
             subst (λ (x : List ℕ). G b sets i (K .used o) (testSeen K b i (inGrand (i / 16) b) 16 (K .bars b (inGrand (i / 16) b) i m o) x m o)) (sym e)
             (test-good b i (inGrand (i / 16) b) 16 m (splitGrand I i m) o h v (codes-grand N two i m f v) c l (rw (lt-ltb i I l, y5, y6)) (omega (arith, l)) (rw (y5, y6)) (rw (y5, y6)))
         seen false false false y4 y5 y6 =
-            let g : look I (at (suc b) sets i m) ≡ silent (at (suc b) sets (i + setSkip k) m) = rw (lt-ltb i I l, y5, y6, y4) in
+            let g : look I (stateAt (suc b) sets i m) ≡ silent (stateAt (suc b) sets (i + setSkip k) m) = rw (lt-ltb i I l, y5, y6, y4) in
             let s : setSkipOf k ≡ setSkip k = set-skip-is k coded in
-            still b sets i (i + setSkipOf k) m o (subst (λ (z : ℕ). P (at (suc b) sets (i + z) m) o) (sym s) (w .silence _ _ o h g)) v c (omega (arith, s, sskip-pos k))
+            still b sets i (i + setSkipOf k) m o (subst (λ (z : ℕ). P (stateAt (suc b) sets (i + z) m) o) (sym s) (w .silence _ _ o h g)) v c (omega (arith, s, sskip-pos k))

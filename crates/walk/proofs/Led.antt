@@ -7,7 +7,7 @@ use mathlib.Core.Bool.{Bool}
 use native.Mathlib.Omega.{arith}
 use lib.ListN.{getD, replicate}
 use Rattle.nls.specs.Marks.{startMarks}
-use Rattle.nls.specs.Scan.{Question, pixels, State, at, Look, over, silent, asks, look, tell, settle, ask, asked, next, reach, start}
+use Rattle.nls.specs.Scan.{Question, pixels, State, stateAt, Look, over, silent, asks, look, tell, settle, ask, asked, next, reach, start}
 use Rattle.nls.proofs.Machine.Run.{settle-hush, settle-asks, settle-over, reach-append}
 use Rattle.nls.proofs.Joined.Codes.{Codes, codes-roots}
 
@@ -40,12 +40,12 @@ pub asks-some : (I : ℕ) (s : State) (q : Question) → look I s ≡ asks q →
 unfolding ask
 asks-some I s q e = ap (λ (l : Look). asked I l) e
 
-pub over-none : (I : ℕ) (m : List ℕ) → ask I (at 0 pixels 0 m) ≡ none
+pub over-none : (I : ℕ) (m : List ℕ) → ask I (stateAt 0 pixels 0 m) ≡ none
 unfolding ask
 over-none I m = refl
 
 -- the start
-pub led-start : (N D P : ℕ) → Led N (start (4 ^ N) D P) (at P pixels 0 (startMarks (4 ^ N) D)) []
+pub led-start : (N D P : ℕ) → Led N (start (4 ^ N) D P) (stateAt P pixels 0 (startMarks (4 ^ N) D)) []
 unfolding start reach
 led-start N D P = refl
 

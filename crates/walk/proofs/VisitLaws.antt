@@ -7,7 +7,7 @@ use borrow.Author.Tests.{lt-ltb, le-ltb, eq-eqb, ne-eqb}
 use lib.ListN.{set, getD}
 use Rattle.nls.specs.Scan.{Question, bitOf, signOf, inDesc, inGrand, Pass, pixels, sets, refining}
 use Rattle.walk.specs.Scans.{Seen, halt, refuse, move}
-use Rattle.marking.specs.Marking.{skipOf, setSkipOf, descSplit, grandSplit}
+use Rattle.marking.specs.Marking.{skipOf, setSkipOf, descSplitMarks, grandSplitMarks}
 use Rattle.walk.specs.Visits.{Source, got, Sv, sv, oneSeen, testSeen, pixelsSeen, setsSeen, refiningSeen, visitSeen}
 
 module _ {O : Type 0} (K : Source O) (p : Pass) (b i : ℕ) (bar : Bool) (m : List ℕ) (o : O) where
@@ -79,12 +79,12 @@ module _ {O : Type 0} (K : Source O) (I b i v : ℕ) (m : List ℕ) (o : O) wher
   unfolding setsSeen
   sets-one e = rw (eq-eqb v 4 e)
 
-  pub sets-desc : (v ≡ 4 → ⊥) → v ≡ 5 → setsSeen K I b i v m o ≡ testSeen K b i (inDesc (i / 4) b) 4 (K .bars b (inDesc (i / 4) b) i m o) (descSplit I i m) m o
+  pub sets-desc : (v ≡ 4 → ⊥) → v ≡ 5 → setsSeen K I b i v m o ≡ testSeen K b i (inDesc (i / 4) b) 4 (K .bars b (inDesc (i / 4) b) i m o) (descSplitMarks I i m) m o
   unfolding setsSeen
   sets-desc d e = rw (ne-eqb v 4 d, eq-eqb v 5 e)
 
   pub sets-grand : (v ≡ 4 → ⊥) → (v ≡ 5 → ⊥) → v ≡ 6
-      → setsSeen K I b i v m o ≡ testSeen K b i (inGrand (i / 16) b) 16 (K .bars b (inGrand (i / 16) b) i m o) (grandSplit I i m) m o
+      → setsSeen K I b i v m o ≡ testSeen K b i (inGrand (i / 16) b) 16 (K .bars b (inGrand (i / 16) b) i m o) (grandSplitMarks I i m) m o
   unfolding setsSeen
   sets-grand d e f = rw (ne-eqb v 4 d, ne-eqb v 5 e, eq-eqb v 6 f)
 

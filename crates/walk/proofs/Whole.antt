@@ -7,7 +7,7 @@ use native.Mathlib.Omega.{arith}
 use lib.ListN.{getD}
 use lib.Dec.{ltb, eqb}
 use borrow.Author.Tests.{le-ltb, ltb-true, ltb-false, ne-eqb}
-use Rattle.nls.specs.Scan.{Pass, pixels, sets, refining, State, at}
+use Rattle.nls.specs.Scan.{Pass, pixels, sets, refining, State, stateAt}
 use Rattle.nls.proofs.Joined.Codes.{Codes}
 use Rattle.walk.specs.Scans.{Seen, halt, refuse, move, Scan, Ran, out, bad, on, then, follow, places, passes, planes, leftOf}
 use Rattle.walk.specs.Visits.{Source, Sv, sv, visitSeen, scanOf}

@@ -6,7 +6,7 @@ use mathlib.Core.List.{List}
 use lib.Dec.{ltb, eqb}
 use lib.ListN.{set, getD}
 use Rattle.nls.specs.Scan.{Question, bitOf, signOf, inDesc, inGrand, Pass, pixels, sets, refining}
-use Rattle.marking.specs.Marking.{skipOf, setSkipOf, descSplit, grandSplit}
+use Rattle.marking.specs.Marking.{skipOf, setSkipOf, descSplitMarks, grandSplitMarks}
 use Rattle.walk.specs.Scans.{Seen, halt, refuse, move, Scan}
 
 -- A source of answers: how many bits there are, how many are used, the next bit as the answer to a question,
@@ -60,8 +60,8 @@ pixelsSeen K b i v m o = cond (eqb v 1) (oneSeen K pixels b i false m o) (move (
 unfoldable pub setsSeen : {O : Type 0} → Source O → ℕ → ℕ → ℕ → ℕ → List ℕ → O → Seen (Sv O)
 setsSeen K I b i v m o =
     cond (eqb v 4) (oneSeen K sets b i (K .bars b (bitOf i b) i m o) m o)
-    (cond (eqb v 5) (testSeen K b i (inDesc (i / 4) b) 4 (K .bars b (inDesc (i / 4) b) i m o) (descSplit I i m) m o)
-    (cond (eqb v 6) (testSeen K b i (inGrand (i / 16) b) 16 (K .bars b (inGrand (i / 16) b) i m o) (grandSplit I i m) m o)
+    (cond (eqb v 5) (testSeen K b i (inDesc (i / 4) b) 4 (K .bars b (inDesc (i / 4) b) i m o) (descSplitMarks I i m) m o)
+    (cond (eqb v 6) (testSeen K b i (inGrand (i / 16) b) 16 (K .bars b (inGrand (i / 16) b) i m o) (grandSplitMarks I i m) m o)
     (move (i + setSkipOf v) (sv m o))))
 
 unfoldable pub refiningSeen : {O : Type 0} → Source O → ℕ → ℕ → ℕ → List ℕ → O → Seen (Sv O)

@@ -8,7 +8,7 @@ use native.Mathlib.Omega.{arith}
 use borrow.Author.Tests.{le-ltb, le-leb, lt-leb}
 use lib.Dec.{ltb}
 use lib.ListN.{length, getD, replicate, length-replicate, getD-replicate, List·getD-append}
-use Rattle.nls.specs.Scan.{State, Pass, pixels, sets, refining, at}
+use Rattle.nls.specs.Scan.{State, Pass, pixels, sets, refining, stateAt}
 use Rattle.nls.proofs.Arrays.{Arr, Bits, bits-of}
 use Rattle.nls.proofs.Counting.Sums.{order}
 use Rattle.nls.proofs.Counting.Tree.{Size, D, Q, I}
@@ -25,7 +25,7 @@ use Rattle.nls.proofs.Joined.Visits.{Low, rank, again-low, low-pixel, l
 pub record Went (z : Size) (A : Arr) (b : ℕ) (p : Pass) (s : State) (r : (List Bool) × (List ℕ)) : Type 0 where
   pub to : ℕ
   pub past : I z ≤ to
-  pub leads : Leads (z .deep) (bits-of A) (suc b) s (r .0) (at (suc b) p to (r .1))
+  pub leads : Leads (z .deep) (bits-of A) (suc b) s (r .0) (stateAt (suc b) p to (r .1))
   pub low : Low (r .1)
 
 module _ (z : Size) (full : I z ≡ 4 ^ z .deep) (A : Arr) (b : ℕ) where
@@ -39,22 +39,22 @@ module _ (z : Size) (full : I z ≡ 4 ^ z .deep) (A : Arr) (b : ℕ) where
   B = bits-of A
 
   module _ (p : Pass) (step : List ℕ → ℕ → LStep) (left : List ℕ → ℕ → ℕ)
-      (visit : (l : List ℕ) (i : ℕ) → i < I z → Low l → Leads N B (suc b) (at (suc b) p i l) ((step l i) .0) (at (suc b) p ((step l i) .2) ((step l i) .1)))
+      (visit : (l : List ℕ) (i : ℕ) → i < I z → Low l → Leads N B (suc b) (stateAt (suc b) p i l) ((step l i) .0) (stateAt (suc b) p ((step l i) .2) ((step l i) .1)))
       (keeps : (l : List ℕ) (i : ℕ) → Low l → Low ((step l i) .1))
       (falls : (l : List ℕ) (i : ℕ) → i < I z → Low l → left ((step l i) .1) ((step l i) .2) < left l i) where
-    pub pass-leads : (f : ℕ) (l : List ℕ) (i : ℕ) → left l i ≤ f → Low l → Went z A b p (at (suc b) p i l) (go-l z step f l i)
+    pub pass-leads : (f : ℕ) (l : List ℕ) (i : ℕ) → left l i ≤ f → Low l → Went z A b p (stateAt (suc b) p i l) (go-l z step f l i)
     unfolding go-l
     pass-leads zero l i h w =
-        ⊎-elim (λ q. record { to = i; past = q; leads = leads-none N B (suc b) (at (suc b) p i l); low = w })
+        ⊎-elim (λ q. record { to = i; past = q; leads = leads-none N B (suc b) (stateAt (suc b) p i l); low = w })
         (λ q. absurd (omega (arith, h, falls l i q w))) (order (I z) i)
     pass-leads (suc f) l i h w =
-        ⊎-elim (λ q. rw (le-leb (I z) i q) (record { to = i; past = q; leads = leads-none N B (suc b) (at (suc b) p i l); low = w }))
+        ⊎-elim (λ q. rw (le-leb (I z) i q) (record { to = i; past = q; leads = leads-none N B (suc b) (stateAt (suc b) p i l); low = w }))
         (λ q. let r = pass-leads f ((step l i) .1) ((step l i) .2) (omega (arith, h, falls l i q w)) (keeps l i w) in
         rw (lt-leb (I z) i q)
         (record {
           to = r .to;
           past = r .past;
-          leads = leads-then N B (suc b) (at (suc b) p i l) (at (suc b) p ((step l i) .2) ((step l i) .1)) (at (suc b) p (r .to) ((go-l z step f ((step l i) .1) ((step l i) .2)) .1))
+          leads = leads-then N B (suc b) (stateAt (suc b) p i l) (stateAt (suc b) p ((step l i) .2) ((step l i) .1)) (stateAt (suc b) p (r .to) ((go-l z step f ((step l i) .1) ((step l i) .2)) .1))
               ((step l i) .0) ((go-l z step f ((step l i) .1) ((step l i) .2)) .0) (visit l i q w) (r .leads);
           low = r .low;
         }))
@@ -64,38 +64,38 @@ module _ (z : Size) (full : I z ≡ 4 ^ z .deep) (A : Arr) (b : ℕ) where
   past-end i h = le-ltb i K (omega (arith, h, full))
 
   pixels-lead : (l : List ℕ) → Low l
-      → Leads N B (suc b) (at (suc b) pixels 0 l) ((go-l z (pixel-l (A .mag) (A .neg) b) (I z) l 0) .0) (at (suc b) sets 0 ((go-l z (pixel-l (A .mag) (A .neg) b) (I z) l 0) .1))
+      → Leads N B (suc b) (stateAt (suc b) pixels 0 l) ((go-l z (pixel-l (A .mag) (A .neg) b) (I z) l 0) .0) (stateAt (suc b) sets 0 ((go-l z (pixel-l (A .mag) (A .neg) b) (I z) l 0) .1))
       × Low ((go-l z (pixel-l (A .mag) (A .neg) b) (I z) l 0) .1)
   pixels-lead l w =
       let o : (List Bool) × (List ℕ) = go-l z (pixel-l (A .mag) (A .neg) b) (I z) l 0 in
-      let r : Went z A b pixels (at (suc b) pixels 0 l) o =
+      let r : Went z A b pixels (stateAt (suc b) pixels 0 l) o =
       pass-leads pixels (pixel-l (A .mag) (A .neg) b) (λ l i. I z - i) (λ l i u w. visit-pixel z full A b l i u) (low-pixel z (A .mag) (A .neg) b)
       (λ l i u w. falls-pixel z (A .mag) (A .neg) b l i u) (I z) l 0 (omega arith) w in
-      (leads-hushed N B (suc b) (at (suc b) pixels 0 l) (at (suc b) pixels (r .to) (o .1)) (at (suc b) sets 0 (o .1)) (o .0) (r .leads) (rw (past-end (r .to) (r .past))), r .low)
+      (leads-hushed N B (suc b) (stateAt (suc b) pixels 0 l) (stateAt (suc b) pixels (r .to) (o .1)) (stateAt (suc b) sets 0 (o .1)) (o .0) (r .leads) (rw (past-end (r .to) (r .past))), r .low)
 
   sets-lead : (l : List ℕ) → Low l
-      → Leads N B (suc b) (at (suc b) sets 0 l) ((go-l z (set-l z (A .mag) (A .neg) b) (z .e + 12 * Q z) l 0) .0) (at (suc b) refining 0 ((go-l z (set-l z (A .mag) (A .neg) b) (z .e + 12 * Q z) l 0) .1))
+      → Leads N B (suc b) (stateAt (suc b) sets 0 l) ((go-l z (set-l z (A .mag) (A .neg) b) (z .e + 12 * Q z) l 0) .0) (stateAt (suc b) refining 0 ((go-l z (set-l z (A .mag) (A .neg) b) (z .e + 12 * Q z) l 0) .1))
       × Low ((go-l z (set-l z (A .mag) (A .neg) b) (z .e + 12 * Q z) l 0) .1)
   sets-lead l w =
       let o : (List Bool) × (List ℕ) = go-l z (set-l z (A .mag) (A .neg) b) (z .e + 12 * Q z) l 0 in
-      let r : Went z A b sets (at (suc b) sets 0 l) o =
+      let r : Went z A b sets (stateAt (suc b) sets 0 l) o =
       pass-leads sets (set-l z (A .mag) (A .neg) b) (λ l i. rank z (A .mag) (A .neg) b l i) (λ l i u w. visit-set z full A b l i u w) (low-set z (A .mag) (A .neg) b)
       (λ l i u w. falls-set z (A .mag) (A .neg) b l i u w) (z .e + 12 * Q z) l 0 (omega (arith, again-low (getD l 0 0) w)) w in
-      (leads-hushed N B (suc b) (at (suc b) sets 0 l) (at (suc b) sets (r .to) (o .1)) (at (suc b) refining 0 (o .1)) (o .0) (r .leads) (rw (past-end (r .to) (r .past))), r .low)
+      (leads-hushed N B (suc b) (stateAt (suc b) sets 0 l) (stateAt (suc b) sets (r .to) (o .1)) (stateAt (suc b) refining 0 (o .1)) (o .0) (r .leads) (rw (past-end (r .to) (r .past))), r .low)
 
   fines-lead : (l : List ℕ) → Low l
-      → Leads N B (suc b) (at (suc b) refining 0 l) ((go-l z (refine-l (A .mag) b) (I z) l 0) .0) (at b pixels 0 ((go-l z (refine-l (A .mag) b) (I z) l 0) .1))
+      → Leads N B (suc b) (stateAt (suc b) refining 0 l) ((go-l z (refine-l (A .mag) b) (I z) l 0) .0) (stateAt b pixels 0 ((go-l z (refine-l (A .mag) b) (I z) l 0) .1))
       × Low ((go-l z (refine-l (A .mag) b) (I z) l 0) .1)
   fines-lead l w =
       let o : (List Bool) × (List ℕ) = go-l z (refine-l (A .mag) b) (I z) l 0 in
-      let r : Went z A b refining (at (suc b) refining 0 l) o =
+      let r : Went z A b refining (stateAt (suc b) refining 0 l) o =
       pass-leads refining (refine-l (A .mag) b) (λ l i. I z - i) (λ l i u w. visit-refine z full A b l i u) (low-refine z (A .mag) (A .neg) b)
       (λ l i u w. falls-refine z (A .mag) (A .neg) b l i u) (I z) l 0 (omega arith) w in
-      (leads-hushed N B (suc b) (at (suc b) refining 0 l) (at (suc b) refining (r .to) (o .1)) (at b pixels 0 (o .1)) (o .0) (r .leads) (rw (past-end (r .to) (r .past))), r .low)
+      (leads-hushed N B (suc b) (stateAt (suc b) refining 0 l) (stateAt (suc b) refining (r .to) (o .1)) (stateAt b pixels 0 (o .1)) (o .0) (r .leads) (rw (past-end (r .to) (r .past))), r .low)
 
   -- one plane of the machine is one plane over a list
   pub plane-leads : (l : List ℕ) → Low l
-      → Leads N B (suc b) (at (suc b) pixels 0 l) ((scan-plane-l z (A .mag) (A .neg) b l) .0) (at b pixels 0 ((scan-plane-l z (A .mag) (A .neg) b l) .1))
+      → Leads N B (suc b) (stateAt (suc b) pixels 0 l) ((scan-plane-l z (A .mag) (A .neg) b l) .0) (stateAt b pixels 0 ((scan-plane-l z (A .mag) (A .neg) b l) .1))
       × Low ((scan-plane-l z (A .mag) (A .neg) b l) .1)
   unfolding scan-plane-l
   plane-leads l w =
@@ -105,8 +105,8 @@ module _ (z : Size) (full : I z ≡ 4 ^ z .deep) (A : Arr) (b : ℕ) where
       let r1 = pixels-lead l w in
       let r2 = sets-lead (o1 .1) (r1 .1) in
       let r3 = fines-lead (o2 .1) (r2 .1) in (
-        leads-then N B (suc b) (at (suc b) pixels 0 l) (at (suc b) sets 0 (o1 .1)) (at b pixels 0 (o3 .1)) (o1 .0) (o2 .0 ++ o3 .0) (r1 .0)
-            (leads-then N B (suc b) (at (suc b) sets 0 (o1 .1)) (at (suc b) refining 0 (o2 .1)) (at b pixels 0 (o3 .1)) (o2 .0) (o3 .0) (r2 .0) (r3 .0)),
+        leads-then N B (suc b) (stateAt (suc b) pixels 0 l) (stateAt (suc b) sets 0 (o1 .1)) (stateAt b pixels 0 (o3 .1)) (o1 .0) (o2 .0 ++ o3 .0) (r1 .0)
+            (leads-then N B (suc b) (stateAt (suc b) sets 0 (o1 .1)) (stateAt (suc b) refining 0 (o2 .1)) (stateAt b pixels 0 (o3 .1)) (o2 .0) (o3 .0) (r2 .0) (r3 .0)),
         r3 .1,
       )
 
@@ -140,25 +140,25 @@ plane-list z mag neg b l h =
 module _ (z : Size) (full : I z ≡ 4 ^ z .deep) (A : Arr) where
   -- one plane of the machine, from the magnitudes
   pub machine-plane : (b : ℕ) (l : List ℕ) → Held z (A .mag) (suc b) l
-      → (m : List ℕ) × Leads (z .deep) (bits-of A) (suc b) (at (suc b) pixels 0 l) (plane z (A .mag) (A .neg) b) (at b pixels 0 m) × Held z (A .mag) b m
+      → (m : List ℕ) × Leads (z .deep) (bits-of A) (suc b) (stateAt (suc b) pixels 0 l) (plane z (A .mag) (A .neg) b) (stateAt b pixels 0 m) × Held z (A .mag) b m
   machine-plane b l h =
       let r = plane-leads z full A b l (h .low) in
       let q = plane-list z (A .mag) (A .neg) b l h in (
         (scan-plane-l z (A .mag) (A .neg) b l) .1,
-        subst (λ (o : List Bool). Leads (z .deep) (bits-of A) (suc b) (at (suc b) pixels 0 l) o (at b pixels 0 ((scan-plane-l z (A .mag) (A .neg) b l) .1))) (q .0) (r .0),
+        subst (λ (o : List Bool). Leads (z .deep) (bits-of A) (suc b) (stateAt (suc b) pixels 0 l) o (stateAt b pixels 0 ((scan-plane-l z (A .mag) (A .neg) b l) .1))) (q .0) (r .0),
         record { long = q .1; low = r .1; marks = q .2 },
       )
 
   -- all planes
   pub machine-body : (n : ℕ) (l : List ℕ) → Held z (A .mag) n l
-      → (m : List ℕ) × Runs (z .deep) (bits-of A) (at n pixels 0 l) (body z (A .mag) (A .neg) n) (at 0 pixels 0 m) × Held z (A .mag) 0 m
+      → (m : List ℕ) × Runs (z .deep) (bits-of A) (stateAt n pixels 0 l) (body z (A .mag) (A .neg) n) (stateAt 0 pixels 0 m) × Held z (A .mag) 0 m
   unfolding body
-  machine-body zero l h = (l, runs-none (z .deep) (bits-of A) (at 0 pixels 0 l), h)
+  machine-body zero l h = (l, runs-none (z .deep) (bits-of A) (stateAt 0 pixels 0 l), h)
   machine-body (suc b) l h =
       let p = machine-plane b l h in
       let q = machine-body b (p .0) (p .2) in (
         q .0,
-        runs-then (z .deep) (bits-of A) (at (suc b) pixels 0 l) (at b pixels 0 (p .0)) (at 0 pixels 0 (q .0)) (plane z (A .mag) (A .neg) b) (body z (A .mag) (A .neg) b) (p .1 .runs) (q .1),
+        runs-then (z .deep) (bits-of A) (stateAt (suc b) pixels 0 l) (stateAt b pixels 0 (p .0)) (stateAt 0 pixels 0 (q .0)) (plane z (A .mag) (A .neg) b) (body z (A .mag) (A .neg) b) (p .1 .runs) (q .1),
         q .2,
       )
 

@@ -7,7 +7,7 @@ use native.Mathlib.Omega.{arith}
 use borrow.Author.Tests.{eq-eqb, ne-eqb, eqb-true, eqb-false}
 use lib.Dec.{eqb}
 use Rattle.nls.specs.Stream.{during}
-use Rattle.nls.specs.Scan.{State, pixels, at, settle, next, reach}
+use Rattle.nls.specs.Scan.{State, pixels, stateAt, settle, next, reach}
 use Rattle.nls.proofs.Arrays.{Arr, bits-of}
 use Rattle.nls.proofs.Counting.Tree.{Size, I}
 use Rattle.nls.proofs.Counting.Parts.{plane, body}
@@ -50,10 +50,10 @@ module _ (z : Size) (full : I z ≡ 4 ^ z .deep) (A : Arr) where
   N = z .deep
 
   abbrev from : ℕ → List ℕ → State
-  from n l = settle (4 ^ z .deep) (at n pixels 0 l)
+  from n l = settle (4 ^ z .deep) (stateAt n pixels 0 l)
 
   -- over the first plane
-  first : (b c : ℕ) (l m : List ℕ) (o u : List Bool) → Leads N (bits-of A) (suc c) (at (suc c) pixels 0 l) o (at c pixels 0 m)
+  first : (b c : ℕ) (l m : List ℕ) (o u : List Bool) → Leads N (bits-of A) (suc c) (stateAt (suc c) pixels 0 l) o (stateAt c pixels 0 m)
       → during N b (from (suc c) l) (o ++ u) ≡ during N b (from (suc c) l) o ++ during N b (from c m) u
   first b c l m o u x =
       during-append N b (from (suc c) l) o u ∙ ap (λ (r : State). during N b (from (suc c) l) o ++ during N b r u) (x .runs .ends)
@@ -74,7 +74,7 @@ module _ (z : Size) (full : I z ≡ 4 ^ z .deep) (A : Arr) where
   during-plane zero b l h w = absurd (omega arith)
   during-plane (suc c) b l h w = go (machine-plane z full A c l w) (eqb c b) refl (λ m v u. during-plane c b m u v)
     where
-      go : ((m : List ℕ) × Leads N (bits-of A) (suc c) (at (suc c) pixels 0 l) (plane z (A .mag) (A .neg) c) (at c pixels 0 m) × Held z (A .mag) c m)
+      go : ((m : List ℕ) × Leads N (bits-of A) (suc c) (stateAt (suc c) pixels 0 l) (plane z (A .mag) (A .neg) c) (stateAt c pixels 0 m) × Held z (A .mag) c m)
           → (t : Bool) → eqb c b ≡ t
           → ((m : List ℕ) → Held z (A .mag) c m → b < c → during N b (from c m) (body z (A .mag) (A .neg) c) ≡ plane z (A .mag) (A .neg) b)
           → during N b (from (suc c) l) (plane z (A .mag) (A .neg) c ++ body z (A .mag) (A .neg) c) ≡ plane z (A .mag) (A .neg) b

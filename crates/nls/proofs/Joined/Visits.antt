@@ -12,7 +12,7 @@ use lib.ListN.{length, getD, set, List·getD-eq-default}
 use lib.Seq.{getD-set-same, getD-set-other}
 use Rattle.bits.specs.Bits.{bit}
 use Rattle.nls.specs.Marks.{skip, setSkip, splitDesc, splitGrand}
-use Rattle.nls.specs.Scan.{State, silent, asks, bitOf, signOf, inDesc, inGrand, Pass, pixels, sets, refining, at, look, tell}
+use Rattle.nls.specs.Scan.{State, silent, asks, bitOf, signOf, inDesc, inGrand, Pass, pixels, sets, refining, stateAt, look, tell}
 use Rattle.nls.proofs.Counting.Parts.{coded}
 use Rattle.nls.proofs.Arrays.{Arr, Bits, bits-of, ans}
 use Rattle.nls.proofs.Machine.Run.{skip-pos, sskip-pos}
@@ -217,9 +217,9 @@ module _ (z : Size) (mag : ℕ → ℕ) (neg : ℕ → Bool) (b : ℕ) where
           )
 
 -- ---- the visits
-pub leads-at : (N : ℕ) (A : Bits) (k : ℕ) (s : State) (o : List Bool) (l : ℕ) (p : Pass) (i i′ : ℕ) (m m′ : List ℕ) → i ≡ i′ → m ≡ m′ → Leads N A k s o (at l p i m) → Leads N A k s o (at l p i′ m′)
+pub leads-at : (N : ℕ) (A : Bits) (k : ℕ) (s : State) (o : List Bool) (l : ℕ) (p : Pass) (i i′ : ℕ) (m m′ : List ℕ) → i ≡ i′ → m ≡ m′ → Leads N A k s o (stateAt l p i m) → Leads N A k s o (stateAt l p i′ m′)
 leads-at N A k s o l p i i′ m m′ e f x =
-    subst (λ (n : List ℕ). Leads N A k s o (at l p i′ n)) f (subst (λ (n : ℕ). Leads N A k s o (at l p n m)) e x)
+    subst (λ (n : List ℕ). Leads N A k s o (stateAt l p i′ n)) f (subst (λ (n : ℕ). Leads N A k s o (stateAt l p n m)) e x)
 
 module _ (z : Size) (full : I z ≡ 4 ^ z .deep) (A : Arr) (b : ℕ) where
   abbrev N : ℕ
@@ -241,13 +241,13 @@ module _ (z : Size) (full : I z ≡ 4 ^ z .deep) (A : Arr) (b : ℕ) where
 
   -- a test that was 1: its sign
   signed : (p : Pass) (i : ℕ) (l : List ℕ)
-      → Leads N B (suc b) (record { left = suc b; pass = p; place = i; pending = true; marks = l }) (A .neg i ∷ []) (at (suc b) p (suc i) (set l i 2))
+      → Leads N B (suc b) (record { left = suc b; pass = p; place = i; pending = true; marks = l }) (A .neg i ∷ []) (stateAt (suc b) p (suc i) (set l i 2))
   signed p i l =
       leads-at N B (suc b) (record { left = suc b; pass = p; place = i; pending = true; marks = l }) (A .neg i ∷ []) (suc b) p (i + 1) (suc i) (set l i 2) (set l i 2) (add-one i) refl
       (leads-asks N B (suc b) (record { left = suc b; pass = p; place = i; pending = true; marks = l }) (signOf i) (A .neg i) refl refl (sgn-answer i))
 
   abbrev pub Visit : Pass → List ℕ → ℕ → LStep → Type 0
-  Visit p l i o = Leads N B (suc b) (at (suc b) p i l) (o .0) (at (suc b) p (o .2) (o .1))
+  Visit p l i o = Leads N B (suc b) (stateAt (suc b) p i l) (o .0) (stateAt (suc b) p (o .2) (o .1))
 
   pub visit-pixel : (l : List ℕ) (i : ℕ) → i < I z → Visit pixels l i (pixel-l (A .mag) (A .neg) b l i)
   unfolding pixel-l coded
@@ -256,16 +256,16 @@ module _ (z : Size) (full : I z ≡ 4 ^ z .deep) (A : Arr) (b : ℕ) where
       go : (t : Bool) → eqb (getD l i 0) 1 ≡ t → (a : Bool) → bit (A .mag i) b ≡ a
           → Visit pixels l i (cond {A = LStep} t (a ∷ cond a (A .neg i ∷ []) [], cond a (set l i 2) l, suc i) ([], l, i + C.skip (getD l i 0)))
       go true e true f =
-          let lk : look K (at (suc b) pixels i l) ≡ asks (bitOf i b) = rw (lt-ltb i K (omega (arith, full)), e) in
-          leads-bit N B (suc b) (at (suc b) pixels i l) (at (suc b) pixels (suc i) (set l i 2)) (bitOf i b) true (A .neg i ∷ []) refl lk (one-answer i true f) (signed pixels i l)
+          let lk : look K (stateAt (suc b) pixels i l) ≡ asks (bitOf i b) = rw (lt-ltb i K (omega (arith, full)), e) in
+          leads-bit N B (suc b) (stateAt (suc b) pixels i l) (stateAt (suc b) pixels (suc i) (set l i 2)) (bitOf i b) true (A .neg i ∷ []) refl lk (one-answer i true f) (signed pixels i l)
       go true e false f =
-          let lk : look K (at (suc b) pixels i l) ≡ asks (bitOf i b) = rw (lt-ltb i K (omega (arith, full)), e) in
-          leads-at N B (suc b) (at (suc b) pixels i l) (false ∷ []) (suc b) pixels (i + 1) (suc i) l l (add-one i) refl
-          (leads-asks N B (suc b) (at (suc b) pixels i l) (bitOf i b) false refl lk (one-answer i false f))
+          let lk : look K (stateAt (suc b) pixels i l) ≡ asks (bitOf i b) = rw (lt-ltb i K (omega (arith, full)), e) in
+          leads-at N B (suc b) (stateAt (suc b) pixels i l) (false ∷ []) (suc b) pixels (i + 1) (suc i) l l (add-one i) refl
+          (leads-asks N B (suc b) (stateAt (suc b) pixels i l) (bitOf i b) false refl lk (one-answer i false f))
       go false e a f =
-          let lk : look K (at (suc b) pixels i l) ≡ silent (at (suc b) pixels (i + skip (getD l i 0)) l) = rw (lt-ltb i K (omega (arith, full)), e) in
-          leads-at N B (suc b) (at (suc b) pixels i l) [] (suc b) pixels (i + skip (getD l i 0)) (i + C.skip (getD l i 0)) l l (ap (λ (x : ℕ). i + x) (sym (skip-same (getD l i 0)))) refl
-          (leads-hush N B (suc b) (at (suc b) pixels i l) (at (suc b) pixels (i + skip (getD l i 0)) l) lk)
+          let lk : look K (stateAt (suc b) pixels i l) ≡ silent (stateAt (suc b) pixels (i + skip (getD l i 0)) l) = rw (lt-ltb i K (omega (arith, full)), e) in
+          leads-at N B (suc b) (stateAt (suc b) pixels i l) [] (suc b) pixels (i + skip (getD l i 0)) (i + C.skip (getD l i 0)) l l (ap (λ (x : ℕ). i + x) (sym (skip-same (getD l i 0)))) refl
+          (leads-hush N B (suc b) (stateAt (suc b) pixels i l) (stateAt (suc b) pixels (i + skip (getD l i 0)) l) lk)
 
   pub visit-refine : (l : List ℕ) (i : ℕ) → i < I z → Visit refining l i (refine-l (A .mag) b l i)
   unfolding refine-l
@@ -274,17 +274,17 @@ module _ (z : Size) (full : I z ≡ 4 ^ z .deep) (A : Arr) (b : ℕ) where
       go : (t : Bool) → eqb (getD l i 0) 3 ≡ t → (u : Bool) → eqb (getD l i 0) 2 ≡ u
           → Visit refining l i (cond {A = LStep} t (bit (A .mag i) b ∷ [], l, suc i) (cond u ([], set l i 3, suc i) ([], l, i + C.skip (getD l i 0))))
       go true e u f =
-          let lk : look K (at (suc b) refining i l) ≡ asks (bitOf i b) = rw (lt-ltb i K (omega (arith, full)), e) in
-          leads-at N B (suc b) (at (suc b) refining i l) (bit (A .mag i) b ∷ []) (suc b) refining (i + 1) (suc i) l l (add-one i) refl
-          (leads-asks N B (suc b) (at (suc b) refining i l) (bitOf i b) (bit (A .mag i) b) refl lk (one-answer i (bit (A .mag i) b) refl))
+          let lk : look K (stateAt (suc b) refining i l) ≡ asks (bitOf i b) = rw (lt-ltb i K (omega (arith, full)), e) in
+          leads-at N B (suc b) (stateAt (suc b) refining i l) (bit (A .mag i) b ∷ []) (suc b) refining (i + 1) (suc i) l l (add-one i) refl
+          (leads-asks N B (suc b) (stateAt (suc b) refining i l) (bitOf i b) (bit (A .mag i) b) refl lk (one-answer i (bit (A .mag i) b) refl))
       go false e true f =
-          let lk : look K (at (suc b) refining i l) ≡ silent (at (suc b) refining (i + 1) (set l i 3)) = rw (lt-ltb i K (omega (arith, full)), e, f) in
-          leads-at N B (suc b) (at (suc b) refining i l) [] (suc b) refining (i + 1) (suc i) (set l i 3) (set l i 3) (add-one i) refl
-          (leads-hush N B (suc b) (at (suc b) refining i l) (at (suc b) refining (i + 1) (set l i 3)) lk)
+          let lk : look K (stateAt (suc b) refining i l) ≡ silent (stateAt (suc b) refining (i + 1) (set l i 3)) = rw (lt-ltb i K (omega (arith, full)), e, f) in
+          leads-at N B (suc b) (stateAt (suc b) refining i l) [] (suc b) refining (i + 1) (suc i) (set l i 3) (set l i 3) (add-one i) refl
+          (leads-hush N B (suc b) (stateAt (suc b) refining i l) (stateAt (suc b) refining (i + 1) (set l i 3)) lk)
       go false e false f =
-          let lk : look K (at (suc b) refining i l) ≡ silent (at (suc b) refining (i + skip (getD l i 0)) l) = rw (lt-ltb i K (omega (arith, full)), e, f) in
-          leads-at N B (suc b) (at (suc b) refining i l) [] (suc b) refining (i + skip (getD l i 0)) (i + C.skip (getD l i 0)) l l (ap (λ (x : ℕ). i + x) (sym (skip-same (getD l i 0)))) refl
-          (leads-hush N B (suc b) (at (suc b) refining i l) (at (suc b) refining (i + skip (getD l i 0)) l) lk)
+          let lk : look K (stateAt (suc b) refining i l) ≡ silent (stateAt (suc b) refining (i + skip (getD l i 0)) l) = rw (lt-ltb i K (omega (arith, full)), e, f) in
+          leads-at N B (suc b) (stateAt (suc b) refining i l) [] (suc b) refining (i + skip (getD l i 0)) (i + C.skip (getD l i 0)) l l (ap (λ (x : ℕ). i + x) (sym (skip-same (getD l i 0)))) refl
+          (leads-hush N B (suc b) (stateAt (suc b) refining i l) (stateAt (suc b) refining (i + skip (getD l i 0)) l) lk)
 
   pub visit-set : (l : List ℕ) (i : ℕ) → i < I z → Low l → Visit sets l i (set-l z (A .mag) (A .neg) b l i)
   unfolding set-l coded
@@ -296,7 +296,7 @@ module _ (z : Size) (full : I z ≡ 4 ^ z .deep) (A : Arr) (b : ℕ) where
       below = lt-ltb i K (omega (arith, u, full))
 
       s : State
-      s = at (suc b) sets i l
+      s = stateAt (suc b) sets i l
 
       go : (d : Bool) → eqb (getD l i 0) 5 ≡ d → (g : Bool) → eqb (getD l i 0) 6 ≡ g → (c : Bool) → eqb (getD l i 0) 4 ≡ c
           → (h : Bool) → has-desc z (A .mag) b (i / 4) ≡ h → (k : Bool) → has-grand z (A .mag) b (i / 16) ≡ k → (a : Bool) → bit (A .mag i) b ≡ a
@@ -309,7 +309,7 @@ module _ (z : Size) (full : I z ≡ 4 ^ z .deep) (A : Arr) (b : ℕ) where
           part h x
         where
           part : (h : Bool) → Leads N B (suc b) s (h ∷ []) (tell K s h)
-              → Leads N B (suc b) s (h ∷ []) (at (suc b) sets (cond h i (i + 4)) (cond h (open-desc-l z l i) l))
+              → Leads N B (suc b) s (h ∷ []) (stateAt (suc b) sets (cond h i (i + 4)) (cond h (open-desc-l z l i) l))
           part true x =
               leads-at N B (suc b) s (true ∷ []) (suc b) sets i i (splitDesc K i l (ltb (4 * i) K)) (open-desc-l z l i) refl (open-same z full l i)
               (rw e at x)
@@ -320,7 +320,7 @@ module _ (z : Size) (full : I z ≡ 4 ^ z .deep) (A : Arr) (b : ℕ) where
           part k x
         where
           part : (k : Bool) → Leads N B (suc b) s (k ∷ []) (tell K s k)
-              → Leads N B (suc b) s (k ∷ []) (at (suc b) sets (cond k i (i + 16)) (cond k (open-grand-l z l i) l))
+              → Leads N B (suc b) s (k ∷ []) (stateAt (suc b) sets (cond k i (i + 16)) (cond k (open-grand-l z l i) l))
           part true x =
               leads-at N B (suc b) s (true ∷ []) (suc b) sets i i (splitGrand K i l) (open-grand-l z l i) refl
               (grand-same z full l i (low-pos l i w (omega (arith, eqb-true (getD l i 0) 6 q))))
@@ -328,14 +328,14 @@ module _ (z : Size) (full : I z ≡ 4 ^ z .deep) (A : Arr) (b : ℕ) where
           part false x = rw (e, q) at x
       go false e false q true o h eh k ek true ea =
           let lk : look K s ≡ asks (bitOf i b) = rw (below, e, q, o) in
-          let x : Leads N B (suc b) (tell K s true) (A .neg i ∷ []) (at (suc b) sets (suc i) (set l i 2)) = rw (e, q) (signed sets i l) in
-          leads-bit N B (suc b) s (at (suc b) sets (suc i) (set l i 2)) (bitOf i b) true (A .neg i ∷ []) refl lk (one-answer i true ea) x
+          let x : Leads N B (suc b) (tell K s true) (A .neg i ∷ []) (stateAt (suc b) sets (suc i) (set l i 2)) = rw (e, q) (signed sets i l) in
+          leads-bit N B (suc b) s (stateAt (suc b) sets (suc i) (set l i 2)) (bitOf i b) true (A .neg i ∷ []) refl lk (one-answer i true ea) x
       go false e false q true o h eh k ek false ea =
           let lk : look K s ≡ asks (bitOf i b) = rw (below, e, q, o) in
           let x : Leads N B (suc b) s (false ∷ []) (tell K s false) = leads-asks N B (suc b) s (bitOf i b) false refl lk (one-answer i false ea) in
           leads-at N B (suc b) s (false ∷ []) (suc b) sets (i + 1) (suc i) (set l i 1) (set l i 1) (add-one i) refl (rw (e, q) at x)
       go false e false q false o h eh k ek a ea =
-          let lk : look K s ≡ silent (at (suc b) sets (i + setSkip (getD l i 0)) l) = rw (below, e, q, o) in
+          let lk : look K s ≡ silent (stateAt (suc b) sets (i + setSkip (getD l i 0)) l) = rw (below, e, q, o) in
           leads-at N B (suc b) s [] (suc b) sets (i + setSkip (getD l i 0)) (i + cond (leb (getD l i 0) 3) 4 (C.skip (getD l i 0))) l l
           (ap (λ (x : ℕ). i + x) (sym (sskip-same (getD l i 0) (eqb-false (getD l i 0) 4 o)))) refl
-          (leads-hush N B (suc b) s (at (suc b) sets (i + setSkip (getD l i 0)) l) lk)
+          (leads-hush N B (suc b) s (stateAt (suc b) sets (i + setSkip (getD l i 0)) l) lk)

@@ -10,7 +10,7 @@ use lib.ListN.{length, take, replicate}
 use lib.Seq.{take-all}
 use Rattle.nls.specs.Stream.{begin, during}
 use Rattle.nls.specs.Marks.{pushRoots, startMarks}
-use Rattle.nls.specs.Scan.{State, pixels, at, settle, reach, start}
+use Rattle.nls.specs.Scan.{State, pixels, stateAt, settle, reach, start}
 use Rattle.nls.proofs.Arrays.{answersOf, Arr, bits-of}
 use Rattle.nls.proofs.Counting.Sums.{sum, sum-le}
 use Rattle.nls.proofs.Counting.Tree.{Size, Q, I}
@@ -39,23 +39,23 @@ module _ (N L : ℕ) (b : 1 ≤ L) (c : L < N) where
   K = 4 ^ N
 
   module _ (P : ℕ) (A : Arr) where
-    begin-is : begin N L P ≡ settle K (at P pixels 0 (start-l z))
+    begin-is : begin N L P ≡ settle K (stateAt P pixels 0 (start-l z))
     unfolding start startMarks
     begin-is =
-        ap (λ (d : ℕ). settle K (at P pixels 0 (pushRoots K (3 * d / 4) d (replicate d 1 ++ replicate (K - d) 0)))) (sym (coarsest-is N L b c))
-        ∙ ap (λ (m : List ℕ). settle K (at P pixels 0 m)) (start-same z (all-is N L b c))
+        ap (λ (d : ℕ). settle K (stateAt P pixels 0 (pushRoots K (3 * d / 4) d (replicate d 1 ++ replicate (K - d) 0)))) (sym (coarsest-is N L b c))
+        ∙ ap (λ (m : List ℕ). settle K (stateAt P pixels 0 m)) (start-same z (all-is N L b c))
 
   module _ (P : ℕ) (A : Arr) (below : (i : ℕ) → i < 4 ^ N → A .mag i < 2 ^ P) where
     small : (i : ℕ) → i < I z → A .mag i < 2 ^ P
     small i u = below i (omega (arith, u, all-is N L b c))
 
-    run : (m : List ℕ) × Runs N (bits-of A) (at P pixels 0 (start-l z)) (body z (A .mag) (A .neg) P) (at 0 pixels 0 m) × Held z (A .mag) 0 m
+    run : (m : List ℕ) × Runs N (bits-of A) (stateAt P pixels 0 (start-l z)) (body z (A .mag) (A .neg) P) (stateAt 0 pixels 0 m) × Held z (A .mag) 0 m
     run = machine-body z (all-is N L b c) A P (start-l z) (start-held z (all-is N L b c) A P small)
 
     stream-take : (n : ℕ) → answersOf N (bits-of A) n (begin N L P) ≡ take n (body z (A .mag) (A .neg) P)
     stream-take n =
         rw (begin-is P A)
-        (runs-stream N (bits-of A) (at P pixels 0 (start-l z)) (at 0 pixels 0 (run .0)) (body z (A .mag) (A .neg) P) (run .1) refl n)
+        (runs-stream N (bits-of A) (stateAt P pixels 0 (start-l z)) (stateAt 0 pixels 0 (run .0)) (body z (A .mag) (A .neg) P) (run .1) refl n)
 
     -- the stream is the body that the magnitudes alone give
     pub stream-is-body : (n : ℕ) → bound N L P ≤ n → answersOf N (bits-of A) n (begin N L P) ≡ body z (A .mag) (A .neg) P
@@ -67,11 +67,11 @@ module _ (N L : ℕ) (b : 1 ≤ L) (c : L < N) where
     whole-is-body = stream-is-body (bound N L P) (le-refl _)
 
     -- it ends: after it the machine is over, and its marks are those of the parts that stand
-    pub whole-ends : (m : List ℕ) × (reach (4 ^ N) (begin N L P) (whole N L P A) ≡ at 0 pixels 0 m) × Held z (A .mag) 0 m
+    pub whole-ends : (m : List ℕ) × (reach (4 ^ N) (begin N L P) (whole N L P A) ≡ stateAt 0 pixels 0 m) × Held z (A .mag) 0 m
     whole-ends = (
       run .0,
       ap (λ (u : List Bool). reach (4 ^ N) (begin N L P) u) whole-is-body ∙ ap (λ (s : State). reach (4 ^ N) s (body z (A .mag) (A .neg) P)) (begin-is P A)
-          ∙ runs-ends N (bits-of A) (at P pixels 0 (start-l z)) (at 0 pixels 0 (run .0)) (body z (A .mag) (A .neg) P) (run .1) refl,
+          ∙ runs-ends N (bits-of A) (stateAt P pixels 0 (start-l z)) (stateAt 0 pixels 0 (run .0)) (body z (A .mag) (A .neg) P) (run .1) refl,
       run .2,
     )
 

@@ -12,7 +12,7 @@ use lib.Dec.{ltb, eqb}
 use borrow.Author.Tests.{ltb-true, ltb-false, eqb-true, eqb-false, eq-eqb}
 use Rattle.tree.proofs.Lists.{or-left}
 use Rattle.nls.specs.Marks.{skip, setSkip, startMarks}
-use Rattle.nls.specs.Scan.{State, Look, over, silent, asks, Question, Pass, pixels, sets, refining, at, look, lookAt, lookPixels, lookSets, lookRefining, tell, tellAt, tellSets, silently, settle, movesLeft, ask, asked, next, reach, start}
+use Rattle.nls.specs.Scan.{State, Look, over, silent, asks, Question, Pass, pixels, sets, refining, stateAt, look, lookAt, lookPixels, lookSets, lookRefining, tell, tellAt, tellSets, silently, settle, movesLeft, ask, asked, next, reach, start}
 use Rattle.nls.proofs.Tiled.{Tiled}
 use Rattle.nls.proofs.Arrays.{Bits, _⊑_, told, Fit}
 use Rattle.nls.proofs.Judging.Most.{most, afterO}
@@ -273,9 +273,9 @@ module _ (N : ℕ) {D : ℕ} (P : ℕ) (sz : Tiled D (4 ^ N)) where
 
     j-start : J 0 false (start I D P)
     unfolding start startMarks
-    j-start = j-settle A nothing (record { has = λ i b. ltb b P; neg = λ i. false }) (λ p. ⊥) (λ j e h. absurd (false≢true h)) 0 false (at P pixels 0 (first sz)) (all-first N P sz A false) (go P)
+    j-start = j-settle A nothing (record { has = λ i b. ltb b P; neg = λ i. false }) (λ p. ⊥) (λ j e h. absurd (false≢true h)) 0 false (stateAt P pixels 0 (first sz)) (all-first N P sz A false) (go P)
       where
-        go : (l : ℕ) → J 0 false (at l pixels 0 (first sz))
+        go : (l : ℕ) → J 0 false (stateAt l pixels 0 (first sz))
         go zero = tt
         go (suc b) = λ e. inl (refl, omega arith)
 

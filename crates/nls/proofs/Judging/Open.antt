@@ -12,7 +12,7 @@ use lib.Dec.{ltb, eqb, lit<, lit≤}
 use borrow.Author.Tests.{ltb-true, ltb-false, lt-ltb, eqb-true, eqb-false}
 use Rattle.sizes.proofs.Laws.{both-right}
 use Rattle.nls.specs.Marks.{skip, setSkip, splitDesc, splitGrand, startMarks}
-use Rattle.nls.specs.Scan.{State, Look, over, silent, asks, Question, bitOf, signOf, inDesc, inGrand, Pass, pixels, sets, refining, at, look, lookAt, lookPixels, lookSets, lookRefining, tell, tellAt, tellSets, silently, settle, movesLeft, ask, asked, next, reach, start}
+use Rattle.nls.specs.Scan.{State, Look, over, silent, asks, Question, bitOf, signOf, inDesc, inGrand, Pass, pixels, sets, refining, stateAt, look, lookAt, lookPixels, lookSets, lookRefining, tell, tellAt, tellSets, silently, settle, movesLeft, ask, asked, next, reach, start}
 use Rattle.nls.proofs.Tiled.{Tiled}
 use Rattle.nls.proofs.Arrays.{Bits, ans, inside, below, _⊑_, told, sign, Fit}
 use Rattle.nls.proofs.Machine.Table.{Cfg, alone, alone-no}
@@ -192,7 +192,7 @@ module _ (N : ℕ) {D : ℕ} (P : ℕ) (sz : Tiled D (4 ^ N)) (W : Bits) (vv : B
           ),
         )
 
-    all-down : (b i : ℕ) (m : List ℕ) (c : Cfg) → I ≤ i → FromK k (suc b) → InFine (preds (G k) b) k w O b i c m → All k w O (at b pixels 0 m)
+    all-down : (b i : ℕ) (m : List ℕ) (c : Cfg) → I ≤ i → FromK k (suc b) → InFine (preds (G k) b) k w O b i c m → All k w O (stateAt b pixels 0 m)
     all-down zero i m c ex f p = tt
     all-down (suc b) i m c ex f p =
         let r : ((j : ℕ) → j < I → Known W k (suc b) j) × Pix sz (preds (G k) (suc b)) (Known W k b) 0 c m = fine-end sz (preds (G k) (suc b)) (Known W k (suc b)) (Known W k b) i c m (p .g) ex in (
@@ -445,7 +445,7 @@ module _ (N : ℕ) {D : ℕ} (P : ℕ) (sz : Tiled D (4 ^ N)) (W : Bits) (vv : B
         l = learned N W k (bitOf i b) false t
 
     -- a sign, in the pixel pass
-    tellps : (b i : ℕ) (m : List ℕ) (a : Bool) → All-at k w O (suc b) pixels i true m → ans N W (signOf i) ≡ a → Out a (asks (signOf i)) → All (know (signOf i) a k) (after N (signOf i) a w) O′ (at (suc b) pixels (i + 1) (set m i 2))
+    tellps : (b i : ℕ) (m : List ℕ) (a : Bool) → All-at k w O (suc b) pixels i true m → ans N W (signOf i) ≡ a → Out a (asks (signOf i)) → All (know (signOf i) a k) (after N (signOf i) a w) O′ (stateAt (suc b) pixels (i + 1) (set m i 2))
     unfolding _⊑_
     tellps b i m a z t o = (
       from k (signOf i) a t b (z .0),
@@ -503,7 +503,7 @@ module _ (N : ℕ) {D : ℕ} (P : ℕ) (sz : Tiled D (4 ^ N)) (W : Bits) (vv : B
       kidsD mk j e = alone-no D I c j (omega (arith, atD mk)) (subst (λ (x : ℕ). c .sD x ≡ false) (sym e) ((atD mk) .2))
 
     tells-D1 : (b i : ℕ) (m : List ℕ) → i < I → getD m i 0 ≡ 5 → All-at k w O (suc b) sets i false m → ans N W (inDesc (i / 4) b) ≡ true → Out true (asks (inDesc (i / 4) b))
-        → All (know (inDesc (i / 4) b) true k) (after N (inDesc (i / 4) b) true w) O′ (at (suc b) sets i (splitDesc I i m (ltb (4 * i) I)))
+        → All (know (inDesc (i / 4) b) true k) (after N (inDesc (i / 4) b) true w) O′ (stateAt (suc b) sets i (splitDesc I i m (ltb (4 * i) I)))
     unfolding after know
     tells-D1 b i m hi mk z t o = (
       z .0,
@@ -533,7 +533,7 @@ module _ (N : ℕ) {D : ℕ} (P : ℕ) (sz : Tiled D (4 ^ N)) (W : Bits) (vv : B
         g1 = sets-D1 sz (preds (G k) b) (Known W k b) i c m (p .g) hi mk ((learned N W k (inDesc (i / 4) b) true t) .0)
 
     tells-D0 : (b i : ℕ) (m : List ℕ) → i < I → getD m i 0 ≡ 5 → All-at k w O (suc b) sets i false m → ans N W (inDesc (i / 4) b) ≡ false → Out false (asks (inDesc (i / 4) b))
-        → All (know (inDesc (i / 4) b) false k) (after N (inDesc (i / 4) b) false w) O′ (at (suc b) sets (i + 4) m)
+        → All (know (inDesc (i / 4) b) false k) (after N (inDesc (i / 4) b) false w) O′ (stateAt (suc b) sets (i + 4) m)
     unfolding know
     tells-D0 b i m hi mk z t o = (
       z .0,
@@ -556,7 +556,7 @@ module _ (N : ℕ) {D : ℕ} (P : ℕ) (sz : Tiled D (4 ^ N)) (W : Bits) (vv : B
         p = z .1 .1
 
     tells-G1 : (b i : ℕ) (m : List ℕ) → i < I → getD m i 0 ≡ 6 → All-at k w O (suc b) sets i false m → ans N W (inGrand (i / 16) b) ≡ true → Out true (asks (inGrand (i / 16) b))
-        → All (know (inGrand (i / 16) b) true k) (after N (inGrand (i / 16) b) true w) O′ (at (suc b) sets i (splitGrand I i m))
+        → All (know (inGrand (i / 16) b) true k) (after N (inGrand (i / 16) b) true w) O′ (stateAt (suc b) sets i (splitGrand I i m))
     unfolding after know
     tells-G1 b i m hi mk z t o = (
       z .0,
@@ -582,7 +582,7 @@ module _ (N : ℕ) {D : ℕ} (P : ℕ) (sz : Tiled D (4 ^ N)) (W : Bits) (vv : B
         g1 = sets-G1 sz (preds (G k) b) (Known W k b) i c m (p .g) hi mk ((learned N W k (inGrand (i / 16) b) true t) .0)
 
     tells-G0 : (b i : ℕ) (m : List ℕ) → i < I → getD m i 0 ≡ 6 → All-at k w O (suc b) sets i false m → ans N W (inGrand (i / 16) b) ≡ false → Out false (asks (inGrand (i / 16) b))
-        → All (know (inGrand (i / 16) b) false k) (after N (inGrand (i / 16) b) false w) O′ (at (suc b) sets (i + 16) m)
+        → All (know (inGrand (i / 16) b) false k) (after N (inGrand (i / 16) b) false w) O′ (stateAt (suc b) sets (i + 16) m)
     unfolding know
     tells-G0 b i m hi mk z t o = (
       z .0,
@@ -638,7 +638,7 @@ module _ (N : ℕ) {D : ℕ} (P : ℕ) (sz : Tiled D (4 ^ N)) (W : Bits) (vv : B
         l = learned N W k (bitOf i b) true t
 
     tells-C0 : (b i : ℕ) (m : List ℕ) → i < I → getD m i 0 ≡ 4 → All-at k w O (suc b) sets i false m → ans N W (bitOf i b) ≡ false → Out false (asks (bitOf i b))
-        → All (know (bitOf i b) false k) (after N (bitOf i b) false w) O′ (at (suc b) sets (i + 1) (set m i 1))
+        → All (know (bitOf i b) false k) (after N (bitOf i b) false w) O′ (stateAt (suc b) sets (i + 1) (set m i 1))
     unfolding know
     tells-C0 b i m hi mk z t o = (
       z .0,
@@ -670,7 +670,7 @@ module _ (N : ℕ) {D : ℕ} (P : ℕ) (sz : Tiled D (4 ^ N)) (W : Bits) (vv : B
         al′ j e f (yes q) = absurd (omega (arith, al-at i 1 c j q))
         al′ j e f (no q) = f (sym (al-else i 1 c j q) ∙ e)
 
-    tells-Cs : (b i : ℕ) (m : List ℕ) (a : Bool) → All-at k w O (suc b) sets i true m → ans N W (signOf i) ≡ a → Out a (asks (signOf i)) → All (know (signOf i) a k) (after N (signOf i) a w) O′ (at (suc b) sets (i + 1) (set m i 2))
+    tells-Cs : (b i : ℕ) (m : List ℕ) (a : Bool) → All-at k w O (suc b) sets i true m → ans N W (signOf i) ≡ a → Out a (asks (signOf i)) → All (know (signOf i) a k) (after N (signOf i) a w) O′ (stateAt (suc b) sets (i + 1) (set m i 2))
     unfolding _⊑_
     tells-Cs b i m a z t o = (
       from k (signOf i) a t b (z .0),
@@ -716,7 +716,7 @@ module _ (N : ℕ) {D : ℕ} (P : ℕ) (sz : Tiled D (4 ^ N)) (W : Bits) (vv : B
         pick j hj e (no q) = x .zs j hj (zz j e q)
 
     tellf : (b i : ℕ) (m : List ℕ) (a : Bool) → i < I → getD m i 0 ≡ 3 → All-at k w O (suc b) refining i false m → ans N W (bitOf i b) ≡ a → Out a (asks (bitOf i b))
-        → All (know (bitOf i b) a k) (after N (bitOf i b) a w) O′ (at (suc b) refining (i + 1) m)
+        → All (know (bitOf i b) a k) (after N (bitOf i b) a w) O′ (stateAt (suc b) refining (i + 1) m)
     unfolding _⊑_ after
     tellf b i m true hi mk z t o = (
       from k (bitOf i b) true t b (z .0),
@@ -779,7 +779,7 @@ module _ (N : ℕ) {D : ℕ} (P : ℕ) (sz : Tiled D (4 ^ N)) (W : Bits) (vv : B
     tells b i m true false false false a ex ed eg ec z t o = absurd t
 
     tellf′ : (b i : ℕ) (m : List ℕ) (x s n a : Bool) → ltb i I ≡ x → eqb (getD m i 0) 3 ≡ s → All-at k w O (suc b) refining i false m → told N W (asked I (lookRefining b i m x s n)) a → Out a (lookRefining b i m x s n)
-        → All (knowO (asked I (lookRefining b i m x s n)) a k) (afterO N (asked I (lookRefining b i m x s n)) a w) O′ (at (suc b) refining (i + 1) m)
+        → All (knowO (asked I (lookRefining b i m x s n)) a k) (afterO N (asked I (lookRefining b i m x s n)) a w) O′ (stateAt (suc b) refining (i + 1) m)
     tellf′ b i m false s n a ex es z t o = absurd t
     tellf′ b i m true true n a ex es z t o = tellf b i m a (ltb-true i I ex) (eqb-true _ _ es) z t o
     tellf′ b i m true false true a ex es z t o = absurd t
@@ -812,13 +812,13 @@ module _ (N : ℕ) {D : ℕ} (P : ℕ) (sz : Tiled D (4 ^ N)) (W : Bits) (vv : B
   abbrev pub full : Bits
   full = record { has = λ i b. ltb b P; neg = λ i. vv }
 
-  pub all-first : All nothing full (λ p. ⊥) (at P pixels 0 (first sz))
+  pub all-first : All nothing full (λ p. ⊥) (stateAt P pixels 0 (first sz))
   all-first = go P refl
     where
       m0 : List ℕ
       m0 = first sz
 
-      go : (l : ℕ) → l ≡ P → All nothing full (λ p. ⊥) (at l pixels 0 (first sz))
+      go : (l : ℕ) → l ≡ P → All nothing full (λ p. ⊥) (stateAt l pixels 0 (first sz))
       go zero q = tt
       go (suc b) q = (
         (λ e h1 h2. absurd (omega arith)),
@@ -842,4 +842,4 @@ module _ (N : ℕ) {D : ℕ} (P : ℕ) (sz : Tiled D (4 ^ N)) (W : Bits) (vv : B
 
   pub all-start : All nothing full (λ p. ⊥) (start I D P)
   unfolding start startMarks
-  all-start = all-settle nothing full (λ p. ⊥) (at P pixels 0 (first sz)) all-first
+  all-start = all-settle nothing full (λ p. ⊥) (stateAt P pixels 0 (first sz)) all-first

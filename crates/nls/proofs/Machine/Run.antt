@@ -10,7 +10,7 @@ use lib.ListN.{length, getD, take}
 use lib.Dec.{ltb, eqb, lit<, lit≤}
 use borrow.Author.Tests.{ltb-true}
 use Rattle.nls.specs.Marks.{skip, setSkip, startMarks}
-use Rattle.nls.specs.Scan.{State, Look, over, silent, asks, Question, Pass, pixels, sets, refining, at, look, lookAt, lookPixels, lookSets, lookRefining, movesLeft, silently, settle, ask, next, reach, start, asked}
+use Rattle.nls.specs.Scan.{State, Look, over, silent, asks, Question, Pass, pixels, sets, refining, stateAt, look, lookAt, lookPixels, lookSets, lookRefining, movesLeft, silently, settle, ask, next, reach, start, asked}
 use Rattle.nls.proofs.Arrays.{answersOf, Bits, ans, told, Fit}
 
 pub skip-pos : (m : ℕ) → 1 ≤ skip m
@@ -36,19 +36,19 @@ module _ (I : ℕ) where
   Falls n (silent t) = movesLeft I t < n
   Falls n (asks q) = Unit {0}
 
-  falls-pix : (b i : ℕ) (m : List ℕ) (x y : Bool) → ltb i I ≡ x → Falls (movesLeft I (at (suc b) pixels i m)) (lookPixels b i m x y)
+  falls-pix : (b i : ℕ) (m : List ℕ) (x y : Bool) → ltb i I ≡ x → Falls (movesLeft I (stateAt (suc b) pixels i m)) (lookPixels b i m x y)
   falls-pix b i m false y e = omega arith
   falls-pix b i m true true e = tt
   falls-pix b i m true false e = omega (arith, ltb-true i I e, skip-pos (getD m i 0))
 
-  falls-sets : (b i : ℕ) (m : List ℕ) (x d g c : Bool) → ltb i I ≡ x → Falls (movesLeft I (at (suc b) sets i m)) (lookSets b i m x d g c)
+  falls-sets : (b i : ℕ) (m : List ℕ) (x d g c : Bool) → ltb i I ≡ x → Falls (movesLeft I (stateAt (suc b) sets i m)) (lookSets b i m x d g c)
   falls-sets b i m false d g c e = omega arith
   falls-sets b i m true true g c e = tt
   falls-sets b i m true false true c e = tt
   falls-sets b i m true false false true e = tt
   falls-sets b i m true false false false e = omega (arith, ltb-true i I e, sskip-pos (getD m i 0))
 
-  falls-fine : (b i : ℕ) (m : List ℕ) (x s n : Bool) → ltb i I ≡ x → Falls (movesLeft I (at (suc b) refining i m)) (lookRefining b i m x s n)
+  falls-fine : (b i : ℕ) (m : List ℕ) (x s n : Bool) → ltb i I ≡ x → Falls (movesLeft I (stateAt (suc b) refining i m)) (lookRefining b i m x s n)
   falls-fine b i m false s n e = omega arith
   falls-fine b i m true true n e = tt
   falls-fine b i m true false true e = omega (arith, ltb-true i I e)
@@ -119,7 +119,7 @@ module _ (I : ℕ) where
   -- of no planes nothing is asked
   pub none-asked : (D : ℕ) → ask I (start I D 0) ≡ none
   unfolding start ask
-  none-asked D = ap (λ (s : State). asked I (look I s)) (settle-over (at 0 pixels 0 (startMarks I D)) refl)
+  none-asked D = ap (λ (s : State). asked I (look I s)) (settle-over (stateAt 0 pixels 0 (startMarks I D)) refl)
 
   -- what is settled is never about to move in silence
   pub quiet-settled : (n : ℕ) (s t : State) → movesLeft I s ≤ n → look I (silently I n s) ≡ silent t → ⊥

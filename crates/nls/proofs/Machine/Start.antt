@@ -10,7 +10,7 @@ use lib.Seq.{getD-append-add}
 use lib.Dec.{ltb, lit<, lit≤}
 use borrow.Author.Tests.{ltb-true}
 use Rattle.nls.specs.Marks.{pushRoots, startMarks}
-use Rattle.nls.specs.Scan.{at, pixels, start}
+use Rattle.nls.specs.Scan.{stateAt, pixels, start}
 use Rattle.nls.proofs.Tiled.{Tiled}
 use Rattle.nls.proofs.Arrays.{Bits}
 use Rattle.nls.proofs.Machine.Table.{Cfg, up, alone, stands, Table, no-alone, no-stands, up-low}
@@ -97,9 +97,9 @@ module _ {D I : ℕ} (sz : Tiled D I) where
 
   pub good-start : (P : ℕ) (F : Fam) → ((j : ℕ) → F .Z j → ⊥) → Good sz P F (start I D P)
   unfolding start startMarks
-  good-start P F n = good-settle sz P F (at P pixels 0 first) (go P)
+  good-start P F n = good-settle sz P F (stateAt P pixels 0 first) (go P)
     where
-      go : (l : ℕ) → Good sz l F (at l pixels 0 first)
+      go : (l : ℕ) → Good sz l F (stateAt l pixels 0 first)
       go zero = ((λ e h1 h2. absurd (omega arith)), λ j hj z. absurd (n j z))
       go (suc b) = ((λ e h1 h2. absurd (omega arith)), (c0, pix-0 (preds F b) (F .X b) n))
 

@@ -8,7 +8,7 @@ use native.Mathlib.Decide.{ℕ-discrete}
 use lib.ListN.{getD}
 use lib.Dec.{ltb, eqb, lit<, lit≤}
 use borrow.Author.Tests.{ltb-true, ltb-false, eqb-true, eqb-false}
-use Rattle.nls.specs.Scan.{State, Look, over, silent, asks, Question, bitOf, signOf, inDesc, inGrand, Pass, pixels, sets, refining, at, look, lookAt, lookPixels, lookSets, lookRefining, tell, tellAt, tellSets, silently, settle, movesLeft, next}
+use Rattle.nls.specs.Scan.{State, Look, over, silent, asks, Question, bitOf, signOf, inDesc, inGrand, Pass, pixels, sets, refining, stateAt, look, lookAt, lookPixels, lookSets, lookRefining, tell, tellAt, tellSets, silently, settle, movesLeft, next}
 use Rattle.nls.proofs.Tiled.{Tiled}
 use Rattle.nls.proofs.Machine.Table.{Cfg, alone}
 use Rattle.nls.proofs.Machine.Split.{withD, withG, withA}
@@ -116,7 +116,7 @@ module _ {D I : ℕ} (sz : Tiled D I) (P : ℕ) where
   good-sets F b i m true false false false ex ed eg ec h =
       (h .0, (h .1 .0, sets-hush sz (preds F b) (F .X b) i (h .1 .0) m (h .1 .1) (ltb-true i I ex) (eqb-false _ _ ed) (eqb-false _ _ eg) (eqb-false _ _ ec)))
 
-  good-down : (F : Fam) (b : ℕ) (m : List ℕ) → From F (suc b) → ((j : ℕ) → j < I → F .X b j) → ((Y : ℕ → Type 0) → (c : Cfg) × Pix sz (preds F b) Y 0 c m) → Good F (at b pixels 0 m)
+  good-down : (F : Fam) (b : ℕ) (m : List ℕ) → From F (suc b) → ((j : ℕ) → j < I → F .X b j) → ((Y : ℕ → Type 0) → (c : Cfg) × Pix sz (preds F b) Y 0 c m) → Good F (stateAt b pixels 0 m)
   good-down F zero m f x p = ((λ e h1 h2 j hj. go e h2 j hj (ℕ-discrete e 0)), λ j hj z. signed j hj (k .zs j hj z))
     where
       k : More sz (preds F 0) ((p (F .X 0)) .0)
@@ -256,7 +256,7 @@ module _ {D I : ℕ} (sz : Tiled D I) (P : ℕ) where
   tell-sets′ F Z′ b i m true false false false a ex ed eg ec h o = absurd o
 
   tell-fine : (F : Fam) (Z′ : ℕ → Type 0) (b i : ℕ) (m : List ℕ) (x s n a : Bool) → ltb i I ≡ x → eqb (getD m i 0) 3 ≡ s → eqb (getD m i 0) 2 ≡ n → Good-at F (suc b) refining i false m → On-ask I F Z′ a (lookRefining b i m x s n)
-      → Good (withZ F Z′) (at (suc b) refining (i + 1) m)
+      → Good (withZ F Z′) (stateAt (suc b) refining (i + 1) m)
   tell-fine F Z′ b i m false s n a ex es en g o = absurd o
   tell-fine F Z′ b i m true true n a ex es en g o = (g .0, (c, fine-ask sz (preds (withZ F Z′) b) (F .X b) i c m (fine-Z sz (preds F b) (preds (withZ F Z′) b) (F .X b) (F .X b) i c m (grow a o) (λ j x. x) (g .1 .1)) hi (eqb-true _ _ es) (got a o)))
     where

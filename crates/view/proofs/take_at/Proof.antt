@@ -3,7 +3,7 @@ use native.Mathlib.Omega.{arith}
 use borrow.Author.Needs.{needs}
 use denote.Ref.{now}
 use Rattle.bits.specs.declared.Next.{Next}
-use Rattle.view.specs.View.{after}
+use Rattle.view.specs.View.{nextAfter}
 use Rattle.view.proofs.Laws.{viewed-within}
 use Rattle.view.proofs.take_at.Statement.{statement}
 use Rattle.view.proofs.take_at.Tie as tie
@@ -27,13 +27,13 @@ returns : tie.Need-returns
 returns c =
     let a = c .before .before .before .before .before .args in
     let e = sym (c .before .x .given .1) ∙ c .before .before .before .bit-at .ensures in
-    (e, ap (λ (n : Next). after n (a .at)) e)
+    (e, ap (λ (n : Next). nextAfter n (a .at)) e)
 
 returns-2 : tie.Need-returns-2
 returns-2 c =
     let a = c .before .before .before .before .args in
     let e = sym (c .enum-told .given .1) ∙ c .before .before .bit-at .ensures in
-    (e, ap (λ (n : Next). after n (a .at)) e)
+    (e, ap (λ (n : Next). nextAfter n (a .at)) e)
 
 pub take-at-spec : {M : Type 1} → statement M
 take-at-spec = tie.close (tie.spec bit-at-requires enum-known-x add-t8 enum-told returns returns-2)

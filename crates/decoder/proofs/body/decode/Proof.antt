@@ -6,10 +6,10 @@ use lib.ListN.{length, drop}
 use lib.Seq.{length-take-le}
 use Rattle.refusals.specs.declared.Outcome.{Outcome}
 use Rattle.sizes.specs.Sizes.{allOf}
-use Rattle.room.specs.Room.{usableBits}
+use Rattle.room.specs.Room.{bodyBits}
 use Rattle.room.proofs.Laws.{DecodeReady, decode-ready}
-use Rattle.decoder.specs.Body.{tables, DecodesTo}
-use Rattle.decoder.specs.declared.body.DecodeAnswer.the-variants.{Refused}
+use Rattle.decoder.specs.Body.{tables, ReadsTo}
+use Rattle.decoder.specs.declared.body.ReadAnswer.the-variants.{Refused}
 use Rattle.decoder.proofs.DecodeLaws.{decoded-back}
 use Rattle.decoder.proofs.body.decode.Statement.{statement}
 use Rattle.decoder.proofs.body.decode.Tie as tie
@@ -92,7 +92,7 @@ returns c =
     let v = k .last .1 .1 .1 .1 .1 .0 in
     let q = k .last .1 .1 .1 .1 .1 .1 .0 in
     let m = k .last .1 .1 .1 .1 .1 .1 .1 .0 in
-    subst (λ (x : Outcome). DecodesTo x (a .n) (a .l) (a .p) (usableBits (a .usable) (a .body .now)) (tables (a .values .now) (a .precisions .now) (a .marks .now)) (k .result) (tables (v ++ drop all (a .values .now)) (q ++ drop all (a .precisions .now)) (m ++ drop all (a .marks .now))))
+    subst (λ (x : Outcome). ReadsTo x (a .n) (a .l) (a .p) (bodyBits (a .usable) (a .body .now)) (tables (a .values .now) (a .precisions .now) (a .marks .now)) (k .result) (tables (v ++ drop all (a .values .now)) (q ++ drop all (a .precisions .now)) (m ++ drop all (a .marks .now))))
     (sym (c .before .before .before .before .before .before .before .before .before .before .before .enum-told .given .1) ∙ c .before .before .before .before .before .before .before .before .before .before .before .before .before .check-decode .ensures)
     (decoded-back (a .n) (a .l) (a .p) (c .before .before .before .before .before .before .before .before .before .usable-of .result) (a .usable) all (a .body .now) (a .values .now) (a .precisions .now) (a .marks .now) (k .result) v q m
     (c .before .before .before .before .before .before .before .before .before .usable-of .ensures) e (omega (arith, e, r .valuesRoom)) (omega (arith, e, r .precisionsRoom)) (omega (arith, e, r .marksRoom)) (k .ensures))
@@ -100,7 +100,7 @@ returns c =
 returns-2 : tie.Need-returns-2
 returns-2 c =
     let a = c .before .before .before .before .before .before .before .args in
-    subst (λ (x : Outcome). DecodesTo x (a .n) (a .l) (a .p) (usableBits (a .usable) (a .body .now)) (tables (a .values .now) (a .precisions .now) (a .marks .now)) (Refused (c .before .why .given .0 .0)) (tables (a .values .now) (a .precisions .now) (a .marks .now)))
+    subst (λ (x : Outcome). ReadsTo x (a .n) (a .l) (a .p) (bodyBits (a .usable) (a .body .now)) (tables (a .values .now) (a .precisions .now) (a .marks .now)) (Refused (c .before .why .given .0 .0)) (tables (a .values .now) (a .precisions .now) (a .marks .now)))
     (sym (c .before .why .given .1) ∙ c .before .before .before .check-decode .ensures)
     (refl, refl)
 

@@ -12,7 +12,7 @@ use Rattle.coef.specs.Coef.{planesOf}
 use Rattle.nls.proofs.Streams.{marks-length}
 use Rattle.room.specs.Ready.{EncodeReady}
 use Rattle.room.proofs.Laws.{encode-ready}
-use Rattle.encoder.specs.declared.body.EncodeAnswer.the-variants.{Done}
+use Rattle.encoder.specs.declared.body.WriteAnswer.the-variants.{Done}
 use Rattle.encoder.specs.Body.{sentBits, sentMarks}
 use Rattle.encoder.proofs.EncodeLaws.{marks-back, output-back}
 use Rattle.encoder.proofs.body.encode.Statement.{statement}
