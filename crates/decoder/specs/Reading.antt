@@ -12,6 +12,7 @@ use mir.Val.{ofZ, toZ}
 use Rattle.sizes.specs.Sizes.{limit, mostN, mostPlanes, allOf}
 use Rattle.bits.specs.Bits.{digit, bitAt}
 use Rattle.coef.specs.Coef.{at, magnitude, signed}
+use Rattle.nls.specs.Marks.{MIP, MD}
 use Rattle.nls.specs.Scan.{Question, bitOf, signOf, inDesc, inGrand, Pass, pixels, sets, refining}
 use Rattle.nls.specs.Reading.{Known, noted}
 use Rattle.walk.specs.Scans.{Seen, halt, refuse, move, Ran, last, isBad}
@@ -65,15 +66,15 @@ is m t v = eqb (getD m t 0) v
 
 -- the fourth child, where the others were just found 0 and nothing lies below them
 unfoldable pub childClash : ℕ → ℕ → List ℕ → Bool
-childClash I t m = eqb (t % 4) 3 && (leb I (16 * (t / 4)) && (is m (t - 1) 1 && (is m (t - 2) 1 && is m (t - 3) 1)))
+childClash I t m = eqb (t % 4) 3 && (leb I (16 * (t / 4)) && (is m (t - 1) MIP && (is m (t - 2) MIP && is m (t - 3) MIP)))
 
 -- a GRAND, where the four children were just found 0
 unfoldable pub grandClash : ℕ → List ℕ → Bool
-grandClash t m = is m (4 * (t / 16)) 1 && (is m (4 * (t / 16) + 1) 1 && (is m (4 * (t / 16) + 2) 1 && is m (4 * (t / 16) + 3) 1))
+grandClash t m = is m (4 * (t / 16)) MIP && (is m (4 * (t / 16) + 1) MIP && (is m (4 * (t / 16) + 2) MIP && is m (4 * (t / 16) + 3) MIP))
 
 -- the fourth DESC of a split GRAND, where the others were just answered 0; or the last root of plane P-1, where all bits so far were 0
 unfoldable pub lastClash : ℕ → List ℕ → Bool
-lastClash t m = eqb (t / 4 % 4) 3 && (is m (4 * (t / 4 - 1)) 5 && (is m (4 * (t / 4 - 2)) 5 && is m (4 * (t / 4 - 3)) 5))
+lastClash t m = eqb (t / 4 % 4) 3 && (is m (4 * (t / 4 - 1)) MD && (is m (4 * (t / 4 - 2)) MD && is m (4 * (t / 4 - 3)) MD))
 
 unfoldable pub rootClash : ℕ → ℕ → ℕ → ℕ → ℕ → Bool
 rootClash D P b used t = eqb (t + 4) (4 * D) && (eqb (suc b) P && eqb used (D + 3 * D / 4 - 1))

@@ -59,7 +59,7 @@ fn child_clash(marks: &[u8], all: usize, place: usize) -> bool
     if 16 * (place / 4) < all {
         return false;
     }
-    three(marks, place - 1, place - 2, place - 3, 1)
+    three(marks, place - 1, place - 2, place - 3, marking::MIP)
 }
 
 // Whether the 0 of a GRAND fits no array.
@@ -68,10 +68,10 @@ fn grand_clash(marks: &[u8], all: usize, place: usize) -> bool
     ensures { λ r. ⌜ r ≡ grandClash place (now (marks .entry)) ⌝ }
 {
     let up = 4 * (place / 16);
-    if marks[up] != 1 {
+    if marks[up] != marking::MIP {
         return false;
     }
-    three(marks, up + 1, up + 2, up + 3, 1)
+    three(marks, up + 1, up + 2, up + 3, marking::MIP)
 }
 
 // Whether the 0 of the last DESC of a split GRAND fits no array.
@@ -83,7 +83,7 @@ fn last_clash(marks: &[u8], all: usize, place: usize) -> bool
     if up % 4 != 3 {
         return false;
     }
-    three(marks, 4 * (up - 1), 4 * (up - 2), 4 * (up - 3), 5)
+    three(marks, 4 * (up - 1), 4 * (up - 2), 4 * (up - 3), marking::MD)
 }
 
 // Whether the 0 of the last root fits no array.
@@ -154,7 +154,7 @@ fn coefficient(
                     Next::Bit(negative) => {
                         found(values, b, place, negative);
                         precisions[place] = b as u8;
-                        marks[place] = 2;
+                        marks[place] = marking::MNP;
                         Turn::Go(k + 1, place + 1)
                     }
                     Next::NoMore => Turn::Stop(k, place),
@@ -164,7 +164,7 @@ fn coefficient(
                 return Turn::Bad(n, place);
             }
             precisions[place] = b as u8;
-            marks[place] = 1;
+            marks[place] = marking::MIP;
             Turn::Go(k, place + 1)
         }
         Next::NoMore => Turn::Stop(n, place),
@@ -187,7 +187,7 @@ fn pixel(
     ensures { λ r. ⌜ Does (pixelsSeen (reader (now (body .entry)) usable all 0 0) b place (getD (now (marks .entry)) place 0) (now (marks .entry)) (read (now (values .entry)) (now (precisions .entry)) n)) usable place n r (now (marks .exit)) (now (values .exit)) (now (precisions .exit)) ⌝ }
 {
     let mark = marks[place];
-    if mark == 1 {
+    if mark == marking::MIP {
         return coefficient(
             body,
             marks,
@@ -221,7 +221,7 @@ fn refine(
     ensures { λ r. ⌜ Does (refiningSeen (reader (now (body .entry)) usable all 0 0) b place (getD (now (marks .entry)) place 0) (now (marks .entry)) (read (now (values .entry)) (now (precisions .entry)) n)) usable place n r (now (marks .exit)) (now (values .exit)) (now (precisions .exit)) ⌝ }
 {
     let mark = marks[place];
-    if mark == 3 {
+    if mark == marking::MSP {
         return match view::read(body, n, usable) {
             Next::Bit(x) => {
                 refined(values, b, place, x);
@@ -231,12 +231,12 @@ fn refine(
             Next::NoMore => Turn::Stop(n, place),
         };
     }
-    if 3 < mark {
+    if marking::MSP < mark {
         let next = place + marking::skip(mark);
         return Turn::Go(n, next);
     }
-    if mark == 2 {
-        marks[place] = 3;
+    if mark == marking::MNP {
+        marks[place] = marking::MSP;
         return Turn::Go(n, place + 1);
     }
     Turn::Go(n, place + 1)
@@ -318,7 +318,7 @@ fn sets(
     ensures { λ r. ⌜ Does (setsSeen (reader (now (body .entry)) usable all coarsest top) all b place (getD (now (marks .entry)) place 0) (now (marks .entry)) (read (now (values .entry)) (now (precisions .entry)) n)) usable place n r (now (marks .exit)) (now (values .exit)) (now (precisions .exit)) ⌝ }
 {
     let mark = marks[place];
-    if mark == 4 {
+    if mark == marking::MCP {
         return coefficient(
             body,
             marks,
@@ -332,10 +332,10 @@ fn sets(
             true,
         );
     }
-    if mark == 5 {
+    if mark == marking::MD {
         return test_desc(body, marks, all, coarsest, top, usable, n, b, place);
     }
-    if mark == 6 {
+    if mark == marking::MG {
         return test_grand(body, marks, all, usable, n, b, place);
     }
     let next = place + marking::set_skip(mark);

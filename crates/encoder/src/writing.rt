@@ -63,14 +63,14 @@ fn coefficient(
     put(out, n, x);
     let k = n + 1;
     if !x {
-        marks[place] = 1;
+        marks[place] = marking::MIP;
         return Step::Go(k, place + 1);
     }
     if budget <= k {
         return Step::Stop(k, place);
     }
     put(out, k, negative_at(coefs, place));
-    marks[place] = 2;
+    marks[place] = marking::MNP;
     Step::Go(k + 1, place + 1)
 }
 
@@ -89,7 +89,7 @@ fn pixel(
     ensures { λ r. ⌜ Does (pixelsSeen (plain (now (coefs .entry)) budget) b place (getD (now (marks .entry)) place 0) (now (marks .entry)) (bytes (now (out .entry)) n)) budget place n r (now (marks .exit)) (now (out .exit)) ⌝ }
 {
     let mark = marks[place];
-    if mark == 1 {
+    if mark == marking::MIP {
         return coefficient(coefs, marks, out, all, budget, n, b, place);
     }
     let next = place + marking::skip(mark);
@@ -111,19 +111,19 @@ fn refine(
     ensures { λ r. ⌜ Does (refiningSeen (plain (now (coefs .entry)) budget) b place (getD (now (marks .entry)) place 0) (now (marks .entry)) (bytes (now (out .entry)) n)) budget place n r (now (marks .exit)) (now (out .exit)) ⌝ }
 {
     let mark = marks[place];
-    if mark == 3 {
+    if mark == marking::MSP {
         if budget <= n {
             return Step::Stop(n, place);
         }
         put(out, n, bit_at(coefs, b, place));
         return Step::Go(n + 1, place + 1);
     }
-    if 3 < mark {
+    if marking::MSP < mark {
         let next = place + marking::skip(mark);
         return Step::Go(n, next);
     }
-    if mark == 2 {
-        marks[place] = 3;
+    if mark == marking::MNP {
+        marks[place] = marking::MSP;
         return Step::Go(n, place + 1);
     }
     Step::Go(n, place + 1)
@@ -200,13 +200,13 @@ fn sets(
     ensures { λ r. ⌜ Does (setsSeen (writer (now (coefs .entry)) (now (desc .entry)) (now (grand .entry)) budget) all b place (getD (now (marks .entry)) place 0) (now (marks .entry)) (bytes (now (out .entry)) n)) budget place n r (now (marks .exit)) (now (out .exit)) ⌝ }
 {
     let mark = marks[place];
-    if mark == 4 {
+    if mark == marking::MCP {
         return coefficient(coefs, marks, out, all, budget, n, b, place);
     }
-    if mark == 5 {
+    if mark == marking::MD {
         return test_desc(desc, marks, out, all, budget, n, b, place);
     }
-    if mark == 6 {
+    if mark == marking::MG {
         return test_grand(grand, marks, out, all, budget, n, b, place);
     }
     let next = place + marking::set_skip(mark);

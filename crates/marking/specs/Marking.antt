@@ -5,7 +5,7 @@ use mathlib.Core.List.{List}
 use lib.Dec.{ltb, leb, eqb}
 use lib.ListN.{set}
 use Rattle.sizes.specs.Sizes.{mostN, allOf}
-use Rattle.nls.specs.Marks.{skip, setSkip, pushFrom, splitDesc}
+use Rattle.nls.specs.Marks.{MD, MN, skip, setSkip, pushFrom, splitDesc}
 
 -- No code in a scan is above 12, since N is at most 8; a larger one skips 1.
 unfoldable pub skipOf : ℕ → ℕ
@@ -16,10 +16,10 @@ setSkipOf k = cond (ltb k 13) (setSkip k) 1
 
 -- for the same reason a push writes at most six places
 abbrev pub pushSix : ℕ → ℕ → List ℕ → List ℕ
-pushSix I i m = pushFrom I 6 (4 * i) 7 m
+pushSix I i m = pushFrom I 6 (4 * i) (MN 2) m
 
 abbrev pub newDesc : ℕ → ℕ → List ℕ → List ℕ
-newDesc I i m = pushSix I i (set m i 5)
+newDesc I i m = pushSix I i (set m i MD)
 
 abbrev pub grandSplitMarks : ℕ → ℕ → List ℕ → List ℕ
 grandSplitMarks I i m = newDesc I (i + 12) (newDesc I (i + 8) (newDesc I (i + 4) (newDesc I i m)))

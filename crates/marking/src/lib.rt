@@ -7,17 +7,35 @@ ghost use Rattle.sizes.specs.Sizes.{mostN, allOf};
 ghost use Rattle.nls.specs.Marks.{startMarks};
 ghost use Rattle.marking.specs.Marking.{skipOf, setSkipOf, pushSix, newDesc, descSplitMarks, grandSplitMarks, inTable, startFits};
 
+// The marks: none; a coefficient that is not found, one found in this plane, one found before, one whose set was just split;
+// a DESC, a GRAND; and MN2, the first of the marks that skip more.
+pub const NO_MARK: u8 = 0;
+
+pub const MIP: u8 = 1;
+
+pub const MNP: u8 = 2;
+
+pub const MSP: u8 = 3;
+
+pub const MCP: u8 = 4;
+
+pub const MD: u8 = 5;
+
+pub const MG: u8 = 6;
+
+pub const MN2: u8 = 7;
+
 // How far a mark is skipped in the pixel and the refinement pass.
 pub fn skip(mark: u8) -> usize
     ensures { λ r. ⌜ r ≡ skipOf mark ⌝ }
 {
-    if mark < 5 {
+    if mark < MD {
         return 1;
     }
     match mark {
-        5 => 4,
-        6 => 16,
-        7 => 16,
+        MD => 4,
+        MG => 16,
+        MN2 => 16,
         8 => 64,
         9 => 256,
         10 => 1024,
@@ -31,7 +49,7 @@ pub fn skip(mark: u8) -> usize
 pub fn set_skip(mark: u8) -> usize
     ensures { λ r. ⌜ r ≡ setSkipOf mark ⌝ }
 {
-    if mark < 5 {
+    if mark < MD {
         return 4;
     }
     skip(mark)
@@ -61,7 +79,7 @@ fn push(marks: &mut [u8], all: usize, place: usize)
     ensures { λ _. ⌜ now (marks .exit) ≡ pushSix all place (now (marks .entry)) ⌝ }
 {
     let mut at = 4 * place;
-    for k in 7u8..13 {
+    for k in MN2..13 {
         if all <= at {
             break;
         }
@@ -86,16 +104,16 @@ fn four_alone(marks: &mut [u8], place: usize)
     ensures { λ _. ⌜ now (marks .exit) ≡ set (set (set (set (now (marks .entry)) place 4) (place + 1) 4) (place + 2) 4) (place + 3) 4 ⌝ }
 {
     if place + 3 < marks.len() {
-        marks[place] = 4;
-        marks[place + 1] = 4;
-        marks[place + 2] = 4;
-        marks[place + 3] = 4;
+        marks[place] = MCP;
+        marks[place + 1] = MCP;
+        marks[place + 2] = MCP;
+        marks[place + 3] = MCP;
         return;
     }
-    store(marks, place, 4);
-    store(marks, place + 1, 4);
-    store(marks, place + 2, 4);
-    store(marks, place + 3, 4);
+    store(marks, place, MCP);
+    store(marks, place + 1, MCP);
+    store(marks, place + 2, MCP);
+    store(marks, place + 3, MCP);
 }
 
 // DESC is split: four coefficients by themselves, and the GRAND below them, if there is one.
@@ -105,7 +123,7 @@ fn open_desc(marks: &mut [u8], all: usize, place: usize)
 {
     four_alone(marks, place);
     if 4 * place < all {
-        marks[4 * place] = 6;
+        marks[4 * place] = MG;
     }
 }
 
@@ -124,7 +142,7 @@ fn new_desc(marks: &mut [u8], all: usize, place: usize)
     requires { ⌜ (length (now marks) ≡ all) × (all ≤ allOf mostN) × (place < 2 * allOf mostN) ⌝ }
     ensures { λ _. ⌜ now (marks .exit) ≡ newDesc all place (now (marks .entry)) ⌝ }
 {
-    store(marks, place, 5);
+    store(marks, place, MD);
     push(marks, all, place);
 }
 
@@ -170,8 +188,8 @@ fn begin(marks: &mut [u8], all: usize, coarsest: usize)
     requires { ⌜ (length (now marks) ≡ all) × (all ≤ allOf mostN) × (4 ≤ coarsest) × (4 * coarsest ≤ all) × (coarsest % 4 ≡ 0) ⌝ }
     ensures { λ _. ⌜ now (marks .exit) ≡ startMarks all coarsest ⌝ }
 {
-    fill(marks, 0);
-    fill(&mut marks[..coarsest], 1);
+    fill(marks, NO_MARK);
+    fill(&mut marks[..coarsest], MIP);
     for j in coarsest / 4..coarsest {
         new_desc(marks, all, 4 * j);
     }

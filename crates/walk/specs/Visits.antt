@@ -5,6 +5,7 @@ use mathlib.Core.Bool.{Bool, true, false, cond}
 use mathlib.Core.List.{List}
 use lib.Dec.{ltb, eqb}
 use lib.ListN.{set, getD}
+use Rattle.nls.specs.Marks.{MIP, MNP, MSP, MCP, MD, MG}
 use Rattle.nls.specs.Scan.{Question, bitOf, signOf, inDesc, inGrand, Pass, pixels, sets, refining}
 use Rattle.marking.specs.Marking.{skipOf, setSkipOf, descSplitMarks, grandSplitMarks}
 use Rattle.walk.specs.Scans.{Seen, halt, refuse, move, Scan}
@@ -39,9 +40,9 @@ oneSeen K p b i bar m o =
     cond (more K o)
     (cond (K .next (bitOf i b) o)
     (cond (more K (got K p b (bitOf i b) o))
-    (move (i + 1) (sv (set m i 2) (got K p b (signOf i) (got K p b (bitOf i b) o))))
+    (move (i + 1) (sv (set m i MNP) (got K p b (signOf i) (got K p b (bitOf i b) o))))
     (halt (sv m (got K p b (bitOf i b) o))))
-    (cond bar (refuse (sv m o)) (move (i + 1) (sv (set m i 1) (got K p b (bitOf i b) o)))))
+    (cond bar (refuse (sv m o)) (move (i + 1) (sv (set m i MIP) (got K p b (bitOf i b) o)))))
     (halt (sv m o))
 
 -- a set's test: on 0 it is skipped, on 1 its marks are `new` and the place is visited again
@@ -55,20 +56,20 @@ testSeen K b i q far bar new m o =
 
 -- the three passes; v is the mark
 unfoldable pub pixelsSeen : {O : Type 0} → Source O → ℕ → ℕ → ℕ → List ℕ → O → Seen (Sv O)
-pixelsSeen K b i v m o = cond (eqb v 1) (oneSeen K pixels b i false m o) (move (i + skipOf v) (sv m o))
+pixelsSeen K b i v m o = cond (eqb v MIP) (oneSeen K pixels b i false m o) (move (i + skipOf v) (sv m o))
 
 unfoldable pub setsSeen : {O : Type 0} → Source O → ℕ → ℕ → ℕ → ℕ → List ℕ → O → Seen (Sv O)
 setsSeen K I b i v m o =
-    cond (eqb v 4) (oneSeen K sets b i (K .bars b (bitOf i b) i m o) m o)
-    (cond (eqb v 5) (testSeen K b i (inDesc (i / 4) b) 4 (K .bars b (inDesc (i / 4) b) i m o) (descSplitMarks I i m) m o)
-    (cond (eqb v 6) (testSeen K b i (inGrand (i / 16) b) 16 (K .bars b (inGrand (i / 16) b) i m o) (grandSplitMarks I i m) m o)
+    cond (eqb v MCP) (oneSeen K sets b i (K .bars b (bitOf i b) i m o) m o)
+    (cond (eqb v MD) (testSeen K b i (inDesc (i / 4) b) 4 (K .bars b (inDesc (i / 4) b) i m o) (descSplitMarks I i m) m o)
+    (cond (eqb v MG) (testSeen K b i (inGrand (i / 16) b) 16 (K .bars b (inGrand (i / 16) b) i m o) (grandSplitMarks I i m) m o)
     (move (i + setSkipOf v) (sv m o))))
 
 unfoldable pub refiningSeen : {O : Type 0} → Source O → ℕ → ℕ → ℕ → List ℕ → O → Seen (Sv O)
 refiningSeen K b i v m o =
-    cond (eqb v 3)
+    cond (eqb v MSP)
     (cond (more K o) (move (i + 1) (sv m (got K refining b (bitOf i b) o))) (halt (sv m o)))
-    (cond (eqb v 2) (move (i + 1) (sv (set m i 3) o)) (move (i + skipOf v) (sv m o)))
+    (cond (eqb v MNP) (move (i + 1) (sv (set m i MSP) o)) (move (i + skipOf v) (sv m o)))
 
 unfoldable pub visitSeen : {O : Type 0} → Source O → ℕ → ℕ → ℕ → ℕ → Sv O → Seen (Sv O)
 visitSeen K I b pass i t =
