@@ -13,6 +13,7 @@ pub mod Lists
 pub mod Counts
 pub mod Streams
 pub mod Signs
+pub mod Waiting
 pub mod Verdicts
 pub mod HighBits
 pub mod Known
