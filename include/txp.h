@@ -9,8 +9,8 @@
  * What a caller must lend.
  * - A buffer is a pointer and, in the next parameter, the number of its entries (not of its bytes). A longer one than is needed is
  *   taken, and a shorter one is refused; entries past those that a call owns are never touched.
- * - A pointer is not NULL and is aligned for its type, also where the length is 0: then any object's address will do, nothing is
- *   read or written through it.
+ * - No pointer may be NULL, not even one whose length is 0: there the address of any object of that type will do, and nothing is
+ *   read or written through it. Every pointer is aligned for its type.
  * - No buffer that a call writes to, and no answer, may overlap another buffer of the same call.
  * - Calls on different buffers may run at the same time.
  *
@@ -29,12 +29,19 @@
 extern "C" {
 #endif
 
+/* The version of this library's interface, and that of the files that it writes and reads. A change of the first number may break
+ * a caller, a change of the second only adds. */
+#define TXP_VERSION_MAJOR 2
+#define TXP_VERSION_MINOR 0
+#define TXP_FILE_VERSION 1
+
 /* Limits. */
 #define TXP_LEAST_N 2           /* N is 2 to 8 */
 #define TXP_MOST_N 8
 #define TXP_LIMIT 16777215      /* the largest magnitude of a coefficient */
 #define TXP_MOST_PLANES 24      /* P is 0 to 24 */
 #define TXP_HEADER_SIZE 12      /* bytes of a file before its body */
+#define TXP_NO_BUDGET 4294967295 /* a budget that cuts nothing: more bits than any body has */
 
 /* What to lend for an array of side 2^N, N from 2 to 8: numbers of entries. */
 #define TXP_ENTRIES(n) ((size_t)1 << (2 * (n)))      /* I: coefficients, values, precisions, marks */
@@ -48,20 +55,42 @@ extern "C" {
 /* The numbers for no. */
 enum txp_refusal {
     TXP_DONE = 0,
-    TXP_SIDE = 1,           /* N out of range */
-    TXP_LEVELS = 2,         /* L out of range: it is 1 to N-1 */
-    TXP_LENGTH = 3,         /* the input's length is not I, or a single place is not below I */
-    TXP_COEFFICIENT = 4,    /* a coefficient over the limit; place: the first such */
-    TXP_LENT = 5,           /* a lent table or array is too short */
-    TXP_OUTPUT = 6,         /* the output is too short for the budget and for the worst body */
-    TXP_LETTERS = 7,        /* under 12 bytes, or wrong letters */
-    TXP_VERSION = 8,        /* version not 1 */
-    TXP_PLANES = 9,         /* P over 24, or a plane that is not below 24 */
-    TXP_SURPLUS = 10,       /* more body bytes than the declared bits need */
-    TXP_PADDING = 11,       /* all body bytes present, padding not 0 */
-    TXP_CONTRADICTION = 12, /* no array fits the bits; place: the first bit at which none does */
-    TXP_BEYOND = 13         /* usable bits left after the last plane; place: the first of them */
+    TXP_REFUSED_SIDE = 1,                /* N out of range */
+    TXP_REFUSED_LEVELS = 2,              /* L out of range: it is 1 to N-1 */
+    TXP_REFUSED_LENGTH = 3,              /* the input's length is not I, or a single place is not below I */
+    TXP_REFUSED_COEFFICIENT = 4,         /* a coefficient over the limit; place: the first such */
+    TXP_REFUSED_LENT = 5,                /* a lent table or array is too short */
+    TXP_REFUSED_OUTPUT = 6,              /* the output is too short for the budget and for the worst body */
+    TXP_REFUSED_LETTERS = 7,             /* under 12 bytes, or wrong letters */
+    TXP_REFUSED_VERSION = 8,             /* version not 1 */
+    TXP_REFUSED_PLANES = 9,              /* P over 24, or a plane that is not below 24 */
+    TXP_REFUSED_SURPLUS = 10,            /* more body bytes than the declared bits need */
+    TXP_REFUSED_PADDING = 11,            /* all body bytes present, padding not 0 */
+    TXP_REFUSED_CONTRADICTION = 12,      /* no array fits the bits; place: the first bit at which none does */
+    TXP_REFUSED_BEYOND = 13              /* usable bits left after the last plane; place: the first of them */
 };
+
+/* A short text for a refusal's number, to be shown; "unknown refusal" for a number that is none. */
+static inline const char *txp_refusal_text(uint32_t refusal)
+{
+    static const char *const texts[] = {
+        "done",
+        "the side is out of range",
+        "the number of levels is out of range",
+        "the input's length does not fit, or the place lies outside",
+        "a coefficient is over the limit",
+        "a lent buffer is too short",
+        "the output is too short",
+        "not a TXP file",
+        "a version that is not known",
+        "too many planes",
+        "more bytes than the file declares",
+        "the padding is not 0",
+        "the bits contradict each other",
+        "bits are left after the last plane",
+    };
+    return refusal < sizeof texts / sizeof texts[0] ? texts[refusal] : "unknown refusal";
+}
 
 /* What a call answers. */
 typedef struct txp_answer {
@@ -145,10 +174,10 @@ uint32_t txp_to_linear(uint32_t n, const int32_t *from, size_t from_len, int32_t
 /* A whole linear array in raster order. As txp_to_linear. */
 uint32_t txp_to_raster(uint32_t n, const int32_t *from, size_t from_len, int32_t *to, size_t to_len, txp_answer *answer);
 
-/* The linear place of a raster place. Refusals 1, 3. Answer: value. */
+/* From a raster place to its linear place. Refusals 1, 3. Answer: value. */
 uint32_t txp_linear_place(uint32_t n, uint32_t place, txp_answer *answer);
 
-/* The raster place of a linear place. Refusals 1, 3. Answer: value. */
+/* From a linear place to its raster place. Refusals 1, 3. Answer: value. */
 uint32_t txp_raster_place(uint32_t n, uint32_t place, txp_answer *answer);
 
 /* ---- coefficients */
@@ -192,7 +221,7 @@ uint32_t txp_put_bit(uint8_t *body, size_t body_len, size_t at, uint32_t x, txp_
 /* Whether N is in range. No refusal. Answer: value, 1 or 0. */
 uint32_t txp_side_fits(uint32_t n, txp_answer *answer);
 
-/* Whether L is in range for this N. No refusal. Answer: value, 1 or 0. */
+/* Whether N and L are in range; 0 for every L where N is not. No refusal. Answer: value, 1 or 0. */
 uint32_t txp_levels_fit(uint32_t n, uint32_t l, txp_answer *answer);
 
 /* I, the number of coefficients; 0 for an N out of range. No refusal. Answer: value. */

@@ -99,10 +99,12 @@ def fields(header):
 
 def refusals(header):
     enum = re.search(r"enum txp_refusal \{(.*?)\};", header, re.S)[1]
-    ours = {n: int(k) for n, k in re.findall(r"TXP_(\w+) = (\d+)", enum)}
+    ours = {n: int(k) for n, k in re.findall(r"TXP_(?:REFUSED_)?(\w+) = (\d+)", enum)}
     number = re.search(r"pub fn number.*?^\}", source("crates", "refusals", "src", "lib.rt"), re.S | re.M)[0]
     theirs = {n.upper(): int(k) for n, k in re.findall(r"Refusal::(\w+)(?:\(_\))? => (\d+)", number)}
     same("the refusals", ours, {"DONE": 0, **theirs})
+    texts = re.search(r"texts\[\] = \{(.*?)\};", header, re.S)[1]
+    same("the refusals' texts", len(re.findall(r"\"[^\"]+\"", texts)), len(ours))
     return len(theirs)
 
 
@@ -124,6 +126,8 @@ def sizes(header):
     limits = {n: int(k) for n, k in re.findall(r"pub const (\w+): \w+ = (\d+);", source("crates", "sizes", "src", "lib.rt") + source("crates", "txp", "src", "lib.rt"))}
     for name in ("LEAST_N", "MOST_N", "LIMIT", "MOST_PLANES", "HEADER_SIZE"):
         same(f"TXP_{name}", macro(header, f"TXP_{name}"), limits.get(name))
+    same("TXP_NO_BUDGET", macro(header, "TXP_NO_BUDGET"), 2**32 - 1)
+    same("TXP_FILE_VERSION", macro(header, "TXP_FILE_VERSION"), int(re.search(r"^version = (\d+)$", read("crates", "txp", "specs", "Header.antt"), re.M)[1]))
     for n in range(limits["LEAST_N"], limits["MOST_N"] + 1):
         every = 4 ** n
         same(f"TXP_ENTRIES({n})", macro(header, "TXP_ENTRIES", n), every)

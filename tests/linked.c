@@ -295,7 +295,7 @@ static bool decodes(text *t)
                                 marks.count, &a.answer);
         good = says(a, r, want) && holds(from, file, 0) && holds(values, own[0], 0) && holds(precisions, own[1], 0)
             && holds(marks, own[2], 0);
-        if (want.refusal == TXP_DONE || want.refusal >= TXP_CONTRADICTION) {
+        if (want.refusal == TXP_DONE || want.refusal >= TXP_REFUSED_CONTRADICTION) {
             good = good && body_decodes(file, lent, want, own);
         }
         free(from.whole), free(values.whole), free(precisions.whole), free(marks.whole);

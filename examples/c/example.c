@@ -64,7 +64,7 @@ int main(void)
     if (txp_to_linear(N, raster, ALL, linear, ALL, &answer) != TXP_DONE) {
         stop("txp_to_linear", &answer);
     }
-    if (txp_encode(N, L, linear, ALL, desc, TXP_DESC(N), grand, TXP_GRAND(N), marks, ALL, file, sizeof file, UINT32_MAX,
+    if (txp_encode(N, L, linear, ALL, desc, TXP_DESC(N), grand, TXP_GRAND(N), marks, ALL, file, sizeof file, TXP_NO_BUDGET,
                    &answer) != TXP_DONE) {
         stop("txp_encode", &answer);
     }
