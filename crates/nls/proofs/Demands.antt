@@ -20,6 +20,12 @@ use Rattle.nls.proofs.Verdicts as verdicts
 use Rattle.nls.proofs.Values as values
 use Rattle.nls.proofs.Counts as counts
 use Rattle.nls.proofs.Finished as finished
+use lib.ListN.{getD}
+use Rattle.nls.specs.Marks.{noMark}
+use Rattle.nls.specs.Reading.{CompletedBy}
+use Rattle.nls.proofs.Precise as precise
+use Rattle.nls.proofs.Visited as visited
+use Rattle.nls.proofs.Visited.{Passed}
 
 module _ (N L P : ℕ) (sized : Sized N L) where
   -- ---- demand 2
@@ -112,3 +118,17 @@ module _ (N L P : ℕ) (sized : Sized N L) where
   -- "The sizes of the parts that stand always add up to I."
   pub sizes-add-up : (A : List ℤ) (b : ℕ) → partSizes N L A b ≡ allOf N
   sizes-add-up A b = counts.sizes-add-up N L sized A b
+
+-- ---- on any bits, whether or not an array fits them
+module _ (N L P : ℕ) (sized : Sized N L) where
+  -- "A coefficient's precision k: b if its own bit of the plane b in progress was read (with its sign, where one follows)": that plane is left - 1
+  pub precision-read : (u : List Bool) (i k : ℕ) → i < allOf N → CompletedBy N L P u i k → precisionAt N L P u i + 1 ≡ (after N L P u) .left
+  precision-read = precise.precision-read N L P
+
+  -- "else the number of the last finished plane, or P if none"
+  pub precision-unread : (u : List Bool) (i : ℕ) → i < allOf N → ((k : ℕ) → CompletedBy N L P u i k → ⊥) → precisionAt N L P u i ≡ lastPlane N L P u
+  precision-unread = precise.precision-unread N L P
+
+  -- "Skips: MIP, MNP, MSP, MCP 1; MD 4; MG 16; MNk 4^k": none for mark 0, and in no state of a run is a place looked at that has it
+  pub no-mark-0 : (s : State) → Passed N L P s → s .place < allOf N → getD (s .marks) (s .place) 0 ≡ noMark → ⊥
+  no-mark-0 = visited.no-mark-0 N L sized P

@@ -142,10 +142,10 @@ fewer-left I s t h = ⊎-elim (λ l. l) (λ l. absurd (omega (arith, h, over-all
         )
 
 module _ (N b : ℕ) where
-  abbrev Ended : State → Type 0
+  abbrev pub Ended : State → Type 0
   Ended s = s .left ≤ b
 
-  next-ended : (s : State) (a : Bool) → Ended s → Ended (next (allOf N) s a)
+  pub next-ended : (s : State) (a : Bool) → Ended s → Ended (next (allOf N) s a)
   unfolding next
   next-ended s a h =
       settle-keeps (allOf N) Ended (λ t e. on t e (look (allOf N) t) (falls (allOf N) t)) (tell (allOf N) s a)

@@ -20,5 +20,7 @@ pub mod Known
 pub mod KnownBits
 pub mod Values
 pub mod Finished
+pub mod Precise
+pub mod Visited
 pub mod Samples
 pub mod Demands

@@ -6,3 +6,4 @@ pub mod Cover
 pub mod Push
 pub mod Steps
 pub mod Start
+pub mod Blocks

@@ -30,7 +30,7 @@ MG = 6
 abbrev pub MN : ℕ → ℕ
 MN k = k + 5
 
--- "Skips: MIP, MNP, MSP, MCP 1; MD 4; MG 16; MNk 4^k". Mark 0 is never visited; it skips as MIP does.
+-- "Skips: MIP, MNP, MSP, MCP 1; MD 4; MG 16; MNk 4^k". Mark 0 is never visited (`no-mark-0` of proofs/Demands.antt); it skips as MIP does.
 unfoldable pub skip : ℕ → ℕ
 skip m = elim (ltb m MD) [ true ↦ 1 | false ↦ elim (ltb m (MN 2)) [ true ↦ 4 ^ (m - 4) | false ↦ 4 ^ (m - 5) ] ]
 

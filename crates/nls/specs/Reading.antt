@@ -1,11 +1,12 @@
 -- Reading a cut stream (document 01, "Reading a cut stream").
-use Prim.Native.Nat.{ℕ, zero, suc, _+_, _*_, _-_, _/_, _^_, min}
-use mathlib.Core.Bool.{Bool, true, false, cond}
+use mathlib.Core.Path.{_≡_}
+use Prim.Native.Nat.{ℕ, zero, suc, _+_, _*_, _-_, _/_, _^_, _<_, min}
+use mathlib.Core.Bool.{Bool, true, false, cond, _&&_, not}
 use mathlib.Core.Option.{Option, none, some}
 use mathlib.Core.List.{List, [], _∷_}
 use lib.Dec.{eqb}
 use lib.IntN.{ℤ, pos}
-use lib.ListN.{getD, set, replicate}
+use lib.ListN.{length, getD, set, replicate, take}
 use Rattle.sizes.specs.Sizes.{allOf}
 use Rattle.sizes.specs.Tables.{table}
 use Rattle.bits.specs.Bits.{digit}
@@ -81,3 +82,22 @@ module _ (N L P : ℕ) (u : List Bool) where
 
   abbrev pub worstError : ℕ
   worstError = 2 ^ lastPlane - 1
+
+-- "its own bit .. was read (with its sign, where one follows)": an answer in a pass that completes the coefficient at i is its sign,
+-- its refinement bit, or its test bit 0
+abbrev pub completes : Pass → Question → Bool → ℕ → Bool
+completes refining (bitOf j c) a i = eqb j i
+completes pixels (bitOf j c) a i = eqb j i && not a
+completes sets (bitOf j c) a i = eqb j i && not a
+completes pass (signOf j) a i = eqb j i
+completes pass (inDesc g c) a i = false
+completes pass (inGrand g c) a i = false
+
+-- bit number k of u was taken in the plane that is in progress after u, and completed the coefficient at i;
+-- that `precisionAt` goes by this is `precision-read` and `precision-unread` of proofs/Demands.antt
+pub record CompletedBy (N L P : ℕ) (u : List Bool) (i k : ℕ) : Type 0 where
+  pub there : k < length u
+  pub question : Question
+  pub asked : ask (allOf N) (after N L P (take k u)) ≡ some question
+  pub completed : completes ((after N L P (take k u)) .pass) question (getD u k false) i ≡ true
+  pub samePlane : (after N L P (take k u)) .left ≡ (after N L P u) .left

@@ -1,5 +1,5 @@
--- The starred samples of document 01, as one list: each is what the definitions give beside what the document says.
--- That all hold is `all-samples` of proofs/Samples.antt.
+-- The starred samples of document 01, then a larger picture, as one list: each is what the definitions give beside what the document
+-- says, or what the second coder says. That all hold is `all-samples` of proofs/Samples.antt.
 use mathlib.Core.Path.{_≡_}
 use mathlib.Core.Bool.{Bool, true, false}
 use mathlib.Core.List.{List, [], _∷_, _++_, map}
@@ -36,7 +36,27 @@ valuesAt n = valuesBy 2 1 3 (take n whole) midpoint
 unfoldable pub errorAt : ℕ → ℕ
 errorAt n = worstError 2 1 3 (take n whole)
 
--- a sample: what the definitions give, and what the document says
+-- A picture of N=3, L=2, so that GRAND, MG and MN2 come in: that of Shapiro's paper on embedded zerotrees (1993), in raster rows.
+-- The numbers said of it are the second coder's (tests/second.py).
+unfoldable pub picture : List ℤ
+picture =
+    pos 63 ∷ negsuc 33 ∷ pos 49 ∷ pos 10 ∷ pos 7 ∷ pos 13 ∷ negsuc 11 ∷ pos 7
+    ∷ negsuc 30 ∷ pos 23 ∷ pos 14 ∷ negsuc 12 ∷ pos 3 ∷ pos 4 ∷ pos 6 ∷ negsuc 0
+    ∷ pos 15 ∷ pos 14 ∷ pos 3 ∷ negsuc 11 ∷ pos 5 ∷ negsuc 6 ∷ pos 3 ∷ pos 9
+    ∷ negsuc 8 ∷ negsuc 6 ∷ negsuc 13 ∷ pos 8 ∷ pos 4 ∷ negsuc 1 ∷ pos 3 ∷ pos 2
+    ∷ negsuc 4 ∷ pos 9 ∷ negsuc 0 ∷ pos 47 ∷ pos 4 ∷ pos 6 ∷ negsuc 1 ∷ pos 2
+    ∷ pos 3 ∷ pos 0 ∷ negsuc 2 ∷ pos 2 ∷ pos 3 ∷ negsuc 1 ∷ pos 0 ∷ pos 4
+    ∷ pos 2 ∷ negsuc 2 ∷ pos 6 ∷ negsuc 3 ∷ pos 3 ∷ pos 6 ∷ pos 3 ∷ pos 6
+    ∷ pos 5 ∷ pos 11 ∷ pos 5 ∷ pos 6 ∷ pos 0 ∷ pos 3 ∷ negsuc 3 ∷ pos 4 ∷ []
+
+-- in linear order, and its whole stream
+unfoldable pub pictured : List ℤ
+pictured = linearly 3 picture
+
+unfoldable pub wholePicture : List Bool
+wholePicture = stream 3 2 6 pictured
+
+-- a sample: what the definitions give, and what the document or the second coder says
 pub data Sample : Type 0 where
   coefficients : List ℤ → List ℤ → Sample
   numbers : List ℕ → List ℕ → Sample
@@ -77,4 +97,13 @@ scanSamples =
     ∷ judged 1 (replicate 4 false ++ (true ∷ replicate 4 false)) (contradiction 8)
     -- "worst body for N=2, L=1, P=3 is 67"
     ∷ numbers (worstBody 2 1 3 ∷ []) (67 ∷ [])
+    -- the picture: P, then bits, parts and sets split of each plane, then its body
+    ∷ numbers (planesOf pictured ∷ []) (6 ∷ [])
+    ∷ numbers (map (λ b. length (during 3 b (begin 3 2 6) wholePicture)) (5 ∷ 4 ∷ 3 ∷ 2 ∷ 1 ∷ 0 ∷ [])) (29 ∷ 23 ∷ 64 ∷ 92 ∷ 82 ∷ 66 ∷ [])
+    ∷ numbers (map (λ b. parts 3 2 pictured b) (5 ∷ 4 ∷ 3 ∷ 2 ∷ 1 ∷ 0 ∷ [])) (21 ∷ 21 ∷ 43 ∷ 64 ∷ 64 ∷ 64 ∷ [])
+    ∷ numbers (map (λ b. splitsIn 3 2 pictured b) (5 ∷ 4 ∷ 3 ∷ 2 ∷ 1 ∷ 0 ∷ [])) (4 ∷ 0 ∷ 7 ∷ 7 ∷ 0 ∷ 0 ∷ [])
+    ∷ numbers (packed wholePicture)
+    (0xB3 ∷ 0x08 ∷ 0x15 ∷ 0x07 ∷ 0x00 ∷ 0x00 ∷ 0xAA ∷ 0xEB ∷ 0x0B ∷ 0xED ∷ 0x1C ∷ 0x28 ∷ 0xA2 ∷ 0x22 ∷ 0x9D
+    ∷ 0x2A ∷ 0x0C ∷ 0x05 ∷ 0xB9 ∷ 0xBA ∷ 0xE8 ∷ 0x8A ∷ 0x8A ∷ 0xEB ∷ 0x3D ∷ 0xB2 ∷ 0xA7 ∷ 0x54 ∷ 0x75 ∷ 0xDF
+    ∷ 0x25 ∷ 0x7B ∷ 0x6A ∷ 0x8D ∷ 0x0B ∷ 0x2B ∷ 0x36 ∷ 0x5C ∷ 0xDC ∷ 0x72 ∷ 0xCE ∷ 0xF9 ∷ 0xC8 ∷ 0x85 ∷ 0x80 ∷ [])
     ∷ []

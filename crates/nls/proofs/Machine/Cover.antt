@@ -35,7 +35,7 @@ pub data Under (g : ℕ) : ℕ → Type 0 where
   kid : {i : ℕ} → i / 4 ≡ g → Under g i
   far : {i : ℕ} → Under g (i / 4) → Under g i
 
-skip-1 : (v : ℕ) → v < 5 → skip v ≡ 1
+pub skip-1 : (v : ℕ) → v < 5 → skip v ≡ 1
 unfolding skip
 skip-1 v h = rw (lt-ltb v 5 h, skip)
 
@@ -43,7 +43,7 @@ pub sskip-small : (v : ℕ) → v < 5 → setSkip v ≡ 4
 unfolding setSkip
 sskip-small v h = rw (lt-ltb v 5 h, setSkip)
 
-sskip-big : (v : ℕ) → 5 ≤ v → setSkip v ≡ skip v
+pub sskip-big : (v : ℕ) → 5 ≤ v → setSkip v ≡ skip v
 unfolding setSkip
 sskip-big v h = rw (le-ltb v 5 h, setSkip)
 

@@ -95,13 +95,15 @@ module _ {D I : ℕ} (sz : Tiled D I) where
     done = λ j h a b e. absurd (omega arith);
   }
 
+  -- before and after the silent moves that lead to the first bit
+  pub good-first : (P : ℕ) (F : Fam) → ((j : ℕ) → F .Z j → ⊥) → Good sz P F (stateAt P pixels 0 (startMarks I D))
+  unfolding startMarks
+  good-first zero F n = ((λ e h1 h2. absurd (omega arith)), λ j hj z. absurd (n j z))
+  good-first (suc b) F n = ((λ e h1 h2. absurd (omega arith)), (c0, pix-0 (preds F b) (F .X b) n))
+
   pub good-start : (P : ℕ) (F : Fam) → ((j : ℕ) → F .Z j → ⊥) → Good sz P F (start I D P)
-  unfolding start startMarks
-  good-start P F n = good-settle sz P F (stateAt P pixels 0 first) (go P)
-    where
-      go : (l : ℕ) → Good sz l F (stateAt l pixels 0 first)
-      go zero = ((λ e h1 h2. absurd (omega arith)), λ j hj z. absurd (n j z))
-      go (suc b) = ((λ e h1 h2. absurd (omega arith)), (c0, pix-0 (preds F b) (F .X b) n))
+  unfolding start
+  good-start P F n = good-settle sz P F (stateAt P pixels 0 (startMarks I D)) (good-first P F n)
 
 abbrev pub nothing : Bits
 nothing = record { has = λ i b. false; neg = λ i. false }

@@ -97,7 +97,7 @@ module _ {D I : ℕ} (sz : Tiled D I) (P : ℕ) where
   abbrev pub Good : Fam → State → Type 0
   Good F s = Good-at F (s .left) (s .pass) (s .place) (s .pending) (s .marks)
 
-  abbrev Good-look : Fam → Look → Type 0
+  abbrev pub Good-look : Fam → Look → Type 0
   Good-look F over = Unit {0}
   Good-look F (silent t) = Good F t
   Good-look F (asks q) = Unit {0}
@@ -155,7 +155,7 @@ module _ {D I : ℕ} (sz : Tiled D I) (P : ℕ) where
   good-fine F b i m true false true ex es en g = (g .0, (withA i 3 (g .1 .0), fine-np sz (preds F b) (F .X b) i (g .1 .0) m (g .1 .1) (ltb-true i I ex) (eqb-true _ _ en)))
   good-fine F b i m true false false ex es en g = (g .0, (g .1 .0, fine-hush sz (preds F b) (F .X b) i (g .1 .0) m (g .1 .1) (ltb-true i I ex) (eqb-false _ _ es) (eqb-false _ _ en)))
 
-  good-look : (F : Fam) (l : ℕ) (p : Pass) (i : ℕ) (s : Bool) (m : List ℕ) → Good-at F l p i s m → Good-look F (lookAt I l p i s m)
+  pub good-look : (F : Fam) (l : ℕ) (p : Pass) (i : ℕ) (s : Bool) (m : List ℕ) → Good-at F l p i s m → Good-look F (lookAt I l p i s m)
   good-look F zero p i s m g = tt
   good-look F (suc b) p i true m g = tt
   good-look F (suc b) pixels i false m g = good-pix F b i m (ltb i I) (eqb (getD m i 0) 1) refl refl g
@@ -284,7 +284,7 @@ module _ {D I : ℕ} (sz : Tiled D I) (P : ℕ) where
   tell-fine F Z′ b i m true false false a ex es en g o = absurd o
 
   -- an answer keeps it
-  good-tell : (F : Fam) (Z′ : ℕ → Type 0) (l : ℕ) (p : Pass) (i : ℕ) (s : Bool) (m : List ℕ) (a : Bool) → Good-at F l p i s m → On-ask I F Z′ a (lookAt I l p i s m) → Good (withZ F Z′) (tellAt I l p i s m a)
+  pub good-tell : (F : Fam) (Z′ : ℕ → Type 0) (l : ℕ) (p : Pass) (i : ℕ) (s : Bool) (m : List ℕ) (a : Bool) → Good-at F l p i s m → On-ask I F Z′ a (lookAt I l p i s m) → Good (withZ F Z′) (tellAt I l p i s m a)
   good-tell F Z′ zero p i s m a g o = absurd o
   good-tell F Z′ (suc b) pixels i true m a g o = (
     g .0,
