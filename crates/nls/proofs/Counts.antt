@@ -1,17 +1,17 @@
 -- Demand 3: how many bits the stream of an array has, in all and plane by plane; its bound, and an array that reaches it;
 -- the sizes of the parts that stand.
-use Prim.Native.Nat.{ℕ, zero, suc, _+_, _-_, _^_, _≤_, _<_}
+use Prim.Native.Nat.{ℕ, zero, suc, _+_, _*_, _-_, _^_, _/_, _≤_, _<_}
 use mathlib.Core.Path.{_≡_, refl, ap, sym, _∙_}
 use mathlib.Core.Bool.{Bool, true, false}
 use mathlib.Core.List.{List, [], _∷_}
 use mathlib.Core.Logic.{⊎-elim}
 use native.Mathlib.Nat.{le-refl, pow-succ'}
 use native.Mathlib.Omega.{arith}
-use borrow.Author.Tests.{leb-true, le-leb, lt-leb}
+use borrow.Author.Tests.{leb-true, le-leb, lt-leb, ne-eqb}
 use lib.IntN.{ℤ, pos}
 use lib.ListN.{length, replicate, length-append, length-replicate, getD-replicate, List·getD-eq-default}
 use lib.Pow.{pow-lt, pow-mono, pow-pos}
-use Rattle.sizes.specs.Sizes.{allOf, Sized}
+use Rattle.sizes.specs.Sizes.{allOf, coarsestOf, Sized}
 use Rattle.bits.specs.Bits.{digit}
 use Rattle.coef.specs.Coef.{magAt, IsPlanes}
 use Rattle.tree.specs.Tree.{desc, grand, anyIn}
@@ -19,17 +19,18 @@ use Rattle.tree.proofs.Lists.{either, or-left, or-right}
 use Rattle.nls.specs.Stream.{answers, begin, worstBody, stream, during}
 use Rattle.nls.specs.Parts.{sumTo, countTo, found, descSplit, grandSplit, parts, partSizes, splits, founds, nonzeros, splitsIn, foundIn}
 use Rattle.nls.proofs.Arrays.{Arr}
-use Rattle.nls.proofs.Counting.Sums.{sum-cong, order}
+use Rattle.nls.proofs.Counting.Sums.{sum, sum-cong, order}
 use Rattle.nls.proofs.Counting.Tree.{Size}
 use Rattle.nls.proofs.Counting.Parts as counting
 use Rattle.nls.proofs.Counting.Parts.{plane, body}
 use Rattle.nls.proofs.Counting.Sizes.{sizes-all}
+use Rattle.nls.proofs.Counting.Bound as counted
 use Rattle.nls.proofs.Counting.Bound.{all-is}
 use Rattle.nls.proofs.Counting.Tiles.{pow4-pos}
 use Rattle.nls.proofs.Joined.Whole as joined
 use Rattle.nls.proofs.Joined.Whole.{whole, whole-is-body, plane-bits, plane-by-plane}
 use Rattle.nls.proofs.Lists.{arrOf, stream-same}
-use Rattle.nls.proofs.Sets.{sum-to, sizeOf, mags, parts-is, sizes-is, splits-is, founds-is, nonzeros-is, worst-is}
+use Rattle.nls.proofs.Sets.{sum-to, sizeOf, mags, parts-is, sizes-is, splits-is, founds-is, nonzeros-is}
 
 -- sums below n
 sum-same : (n : ℕ) (f g : ℕ → ℕ) → ((i : ℕ) → i < n → f i ≡ g i) → sumTo n f ≡ sumTo n g
@@ -126,8 +127,13 @@ sizes-add-up N L s A b = sizes-is N L s A b ∙ sizes-all (sizeOf N L s) (mags A
 
 -- no planes, no bits
 pub empty : (N L : ℕ) (A : List ℤ) → stream N L 0 A ≡ []
-unfolding stream worstBody answers
-empty N L A = refl
+unfolding stream answers
+empty N L A = let e : 4 * allOf N * 0 ≡ 0 = omega arith in ap (λ (n : ℕ). answers N L A n (begin N L 0)) e
+
+-- the worst body of at least one plane
+pub worst-some : (N L P : ℕ) → 1 ≤ P → worstBody N L P ≡ allOf N * (P + 1) + (allOf N - coarsestOf N L) / 4 + (allOf N - 4 * coarsestOf N L) / 16
+unfolding worstBody
+worst-some N L P h = rw (ne-eqb P 0 (λ e. omega (arith, e, h)))
 
 -- the bits of planes n - 1 to 0 of the magnitudes
 body-sum : (z : Size) (A : Arr) (n : ℕ) → length (body z (A .mag) (A .neg) n) ≡ sumTo n (λ b. length (plane z (A .mag) (A .neg) b))
@@ -155,6 +161,26 @@ flat-planes N P h =
     }
 
 module _ (N L P : ℕ) (s : Sized N L) where
+  module _ (A : List ℤ) where
+    -- parts that stand after each plane, sets split in the end and coefficients that are not zero, in the words of Counting
+    counted-is : sumTo P (λ b. parts N L A b) + splits N L A 0 + nonzeros N L A
+        ≡ sum 0 P (λ b. counting.parts (sizeOf N L s) (mags A) b) + counting.splits (sizeOf N L s) (mags A) 0 + counted.nonzeros (sizeOf N L s) (mags A)
+    counted-is =
+        omega (
+          arith,
+          sum-to P (λ b. parts N L A b),
+          sum-cong 0 P (λ b. parts N L A b) (λ b. counting.parts (sizeOf N L s) (mags A) b) (λ b p q. parts-is N L s A b),
+          splits-is N L s A 0,
+          nonzeros-is N L s A,
+        )
+
+    -- they number no more than the worst body of at least one plane
+    pub bound : 1 ≤ P → sumTo P (λ b. parts N L A b) + splits N L A 0 + nonzeros N L A ≤ worstBody N L P
+    unfolding worstBody
+    bound h =
+        rw (ne-eqb P 0 (λ e. omega (arith, e, h)))
+        (omega (arith, counted-is, counted.counted-bound (sizeOf N L s) (mags A) P, counted.worst-is N L P (s .least) (s .most)))
+
   module _ (A : List ℤ) (planes : IsPlanes A P) where
     small : (i : ℕ) → i < 4 ^ N → magAt A i < 2 ^ P
     small i p = planes .below i
@@ -166,25 +192,16 @@ module _ (N L P : ℕ) (s : Sized N L) where
           arith,
           ap (λ (u : List Bool). length u) (stream-same N L s A P),
           joined.count N L (s .least) (s .most) P (arrOf A) small,
-          sum-to P (λ b. parts N L A b),
-          sum-cong 0 P (λ b. parts N L A b) (λ b. counting.parts (sizeOf N L s) (mags A) b) (λ b p q. parts-is N L s A b),
-          splits-is N L s A 0,
-          nonzeros-is N L s A,
+          counted-is A,
         )
 
     -- and are no more than the worst body
-    pub bound : length (stream N L P A) ≤ worstBody N L P
-    bound = tell P refl
+    pub stream-bound : length (stream N L P A) ≤ worstBody N L P
+    stream-bound = tell P refl
       where
         tell : (n : ℕ) → P ≡ n → length (stream N L P A) ≤ worstBody N L P
         tell zero e = rw e (rw (empty N L A) (omega arith))
-        tell (suc n) e =
-            omega (
-              arith,
-              ap (λ (u : List Bool). length u) (stream-same N L s A P),
-              joined.bounded N L (s .least) (s .most) P (arrOf A) small,
-              worst-is N L P (omega (arith, e)),
-            )
+        tell (suc n) e = omega (arith, count, bound A (omega (arith, e)))
 
     -- what is taken in plane b
     taken : (b : ℕ) → during N b (begin N L P) (stream N L P A) ≡ during N b (begin N L P) (whole N L P (arrOf A))
@@ -224,7 +241,7 @@ module _ (N L P : ℕ) (s : Sized N L) where
             ∙ ap (λ (n : ℕ). length (whole N L n (arrOf (flat N P)))) e
             ∙ joined.reached N L (s .least) (s .most) (P - 1) (arrOf (flat N P)) (flat-in N P)
             ∙ ap (λ (n : ℕ). joined.bound N L n) (sym e)
-            ∙ sym (worst-is N L P h),
+            ∙ sym (worst-some N L P h),
       )
 
 -- no planes: no bits, nothing split, nothing that is not zero

@@ -1,16 +1,17 @@
 -- What is proved of the scan, in one place. The definitions are those of specs/; each statement is proved by the theorem that it cites.
 -- N and L are any sizes with L from 1 to N-1, P is any number of planes, and an array is a list of 4^N integers.
-use Prim.Native.Nat.{ℕ, _+_, _^_, _-_, min, _≤_, _<_}
+use Prim.Native.Nat.{ℕ, _+_, _*_, _^_, _-_, _/_, min, _≤_, _<_}
 use mathlib.Core.Path.{_≡_, ap, subst}
 use mathlib.Core.Bool.{Bool}
 use mathlib.Core.List.{List}
 use mathlib.Core.Option.{none}
+use native.Mathlib.Omega.{arith}
 use lib.IntN.{ℤ, pos, natAbs, _-ℤ_}
 use lib.ListN.{length, take, replicate}
-use Rattle.sizes.specs.Sizes.{allOf, Sized}
+use Rattle.sizes.specs.Sizes.{allOf, coarsestOf, Sized}
 use Rattle.sizes.specs.Tables.{table}
 use Rattle.coef.specs.Coef.{at, IsPlanes}
-use Rattle.nls.specs.Scan.{State, ask}
+use Rattle.nls.specs.Scan.{State, silent, look, ask}
 use Rattle.nls.specs.Stream.{answers, sent, begin, after, stream, during, worstBody}
 use Rattle.nls.specs.Parts.{sumTo, parts, partSizes, splits, splitsIn, foundIn, nonzeros}
 use Rattle.nls.specs.Reading.{midpoint, valueBy, highBits, lastPlane, precisionAt, valuesBy, precisions, planesFinished, worstError}
@@ -41,9 +42,18 @@ module _ (N L P : ℕ) (sized : Sized N L) where
     pub budget-length : (n : ℕ) → length (answers N L A n (begin N L P)) ≡ min n (length (stream N L P A))
     budget-length n = streams.budget-length N L sized P A (planes .below) n
 
-    -- the stream is whole: after it nothing is asked
-    pub stream-ends : ask (allOf N) (after N L P (stream N L P A)) ≡ none
-    stream-ends = streams.ends N L sized P A (planes .below)
+    -- the stream is whole: after it no plane is left, and nothing is asked
+    pub stream-ends : (after N L P (stream N L P A)) .left ≡ 0
+    stream-ends = streams.ends-left N L sized P A (planes .below)
+
+  -- settling always ends: no state after bits moves silently
+  pub settles : (u : List Bool) (t : State) → look (allOf N) (after N L P u) ≡ silent t → ⊥
+  settles u t e = streams.settles N L P u t e
+
+  -- and nothing is asked exactly where no plane is left
+  pub ended-none : (u : List Bool)
+      → ((after N L P u) .left ≡ 0 → ask (allOf N) (after N L P u) ≡ none) × (ask (allOf N) (after N L P u) ≡ none → (after N L P u) .left ≡ 0)
+  ended-none u = (streams.left-asks-none N L P u, streams.asks-none-left N L P u)
 
   -- "A whole stream decodes to the same array": with precisions 0, all planes finished and worst error 0
   module _ (A : List ℤ) (size : length A ≡ allOf N) (planes : IsPlanes A P) where
@@ -90,9 +100,14 @@ module _ (N L P : ℕ) (sized : Sized N L) where
         → length (during N b (begin N L P) (stream N L P A)) ≡ parts N L A b + splitsIn N L A b + foundIn N L A b
     plane-count b h = counts.plane-count N L P sized A planes b h
 
-    -- "it has the stated bound"
-    pub bound : length (stream N L P A) ≤ worstBody N L P
-    bound = counts.bound N L P sized A planes
+    -- "it has the stated bound": I(P+1) + (I-D)/4 + (I-4D)/16 for P of at least 1
+    pub bound : 1 ≤ P → sumTo P (λ b. parts N L A b) + splits N L A 0 + nonzeros N L A
+        ≤ allOf N * (P + 1) + (allOf N - coarsestOf N L) / 4 + (allOf N - 4 * coarsestOf N L) / 16
+    bound h = omega (arith, counts.bound N L P sized A h, counts.worst-some N L P h)
+
+    -- and no number of answers is longer than the worst body
+    pub no-more : (n : ℕ) → length (answers N L A n (begin N L P)) ≤ worstBody N L P
+    no-more n = omega (arith, budget-length A planes n, counts.stream-bound N L P sized A planes)
 
   -- "A line for each finished plane: plane, bits read in it, parts standing, sets split in it", of a whole stream or a cut one: the figures
   -- that the values give are those of every array whose stream begins with the bits u, and number the bits of u that plane b took

@@ -156,11 +156,11 @@ module _ (N b : ℕ) where
       on t e (silent r) f = omega (arith, e, fewer-left (allOf N) t r f)
       on t e (asks q) f = tt
 
-  ended-none : (s : State) (u : List Bool) → Ended s → during N b s u ≡ []
+  ended-takes : (s : State) (u : List Bool) → Ended s → during N b s u ≡ []
   unfolding during
-  ended-none s [] h = refl
-  ended-none s (a ∷ u) h =
-      rw (ne-eqb (s .left) (suc b) (λ e. omega (arith, e, h))) (ended-none (next (allOf N) s a) u (next-ended s a h))
+  ended-takes s [] h = refl
+  ended-takes s (a ∷ u) h =
+      rw (ne-eqb (s .left) (suc b) (λ e. omega (arith, e, h))) (ended-takes (next (allOf N) s a) u (next-ended s a h))
 
 -- ---- a cut stream, values by any rule that stays within what the known bits leave open, and a finished plane
 module _ (N L : ℕ) (z : Sized N L) (P : ℕ) (A : List ℤ) (u : List Bool) (begins : Begins N L P A u) where
@@ -190,7 +190,7 @@ module _ (N L : ℕ) (z : Sized N L) (P : ℕ) (A : List ℤ) (u : List Bool) (b
     pub read-in : during N b (begin N L P) u ≡ during N b (begin N L P) (stream N L P A)
     read-in =
         sym (append-nil (during N b (begin N L P) u))
-        ∙ ap (λ (r : List Bool). during N b (begin N L P) u ++ r) (sym (ended-none N b (after N L P u) (drop (length u) (stream N L P A)) ended))
+        ∙ ap (λ (r : List Bool). during N b (begin N L P) u ++ r) (sym (ended-takes N b (after N L P u) (drop (length u) (stream N L P A)) ended))
         ∙ sym (during-append N b (begin N L P) u (drop (length u) (stream N L P A)))
         ∙ ap (λ (r : List Bool). during N b (begin N L P) r) whole
       where

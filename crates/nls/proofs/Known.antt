@@ -19,11 +19,11 @@ use Rattle.coef.specs.Coef.{at, magAt, magnitude, negative, signed}
 use Rattle.coef.proofs.Laws.{magnitude-signed}
 use Rattle.nls.specs.Marks.{pushFrom, push, splitDesc, splitGrand, pushRoots, startMarks}
 use Rattle.nls.specs.Scan as scan
-use Rattle.nls.specs.Scan.{State, Look, over, silent, asks, Pass, pixels, sets, refining, look, lookAt, lookPixels, lookSets, lookRefining, tell, tellAt, tellSets, settle, movesLeft, ask, asked, next, reach, start}
+use Rattle.nls.specs.Scan.{State, Look, over, silent, asks, Pass, pixels, sets, refining, look, lookAt, lookPixels, lookSets, lookRefining, tell, tellAt, tellSets, settle, ask, asked, next, reach, start}
 use Rattle.nls.specs.Stream.{begin, after}
 use Rattle.nls.specs.Reading.{Known, nothing, noted, learn, learnAt, learned, known, lastPlane, precisionAt}
 use Rattle.nls.proofs.Counting.Sums.{order}
-use Rattle.nls.proofs.Machine.Run.{quiet-settled}
+use Rattle.nls.proofs.Machine.Run.{Settled, start-settled, next-settled}
 use Rattle.nls.proofs.Kept.{ones, AfterMove, settle-keeps}
 
 -- A split writes no mark from 1 to 3.
@@ -372,7 +372,7 @@ module _ (I P : ℕ) where
       let e : b ≡ suc b - 1 = omega arith in
       subst (λ (c : ℕ). Answered c p a k (tellAt I (suc b) p i w m a) (lookAt I (suc b) p i w m)) e (answered-in b p i w m a k h)
 
-  pub sound-next : (s : State) (k : Known) (a : Bool) → ((t : State) → look I s ≡ silent t → ⊥) → Sound I P s k → Sound I P (next I s a) (learnAt (ask I s) s a k)
+  pub sound-next : (s : State) (k : Known) (a : Bool) → Settled I s → Sound I P s k → Sound I P (next I s a) (learnAt (ask I s) s a k)
   unfolding next ask
   sound-next s k a q h =
       sound-settle (tell I s a) (learnAt (asked I (look I s)) s a k)
@@ -383,20 +383,16 @@ module _ (I P : ℕ) where
       on (silent t) e h = absurd (q t e)
       on (asks r) e h = h
 
-  pub next-settled : (s : State) (a : Bool) (t : State) → look I (next I s a) ≡ silent t → ⊥
-  unfolding next settle
-  next-settled s a t e = quiet-settled I (movesLeft I (tell I s a)) (tell I s a) t (omega arith) e
-
 -- bits after bits
 pub learned-append : (N : ℕ) (s : State) (k : Known) (u v : List Bool) → learned N s k (u ++ v) ≡ learned N (reach (allOf N) s u) (learned N s k u) v
 unfolding reach learned
 learned-append N s k [] v = refl
 learned-append N s k (a ∷ u) v = learned-append N (next (allOf N) s a) (learnAt (ask (allOf N) s) s a k) u v
 
-sound-run : (N P : ℕ) (s : State) (k : Known) (u : List Bool) → ((t : State) → look (allOf N) s ≡ silent t → ⊥) → Sound (allOf N) P s k → Sound (allOf N) P (reach (allOf N) s u) (learned N s k u)
+sound-run : (N P : ℕ) (s : State) (k : Known) (u : List Bool) → Settled (allOf N) s → Sound (allOf N) P s k → Sound (allOf N) P (reach (allOf N) s u) (learned N s k u)
 unfolding reach learned
 sound-run N P s k [] q h = h
-sound-run N P s k (a ∷ u) q h = sound-run N P (next (allOf N) s a) (learnAt (ask (allOf N) s) s a k) u (next-settled (allOf N) P s a) (sound-next (allOf N) P s k a q h)
+sound-run N P s k (a ∷ u) q h = sound-run N P (next (allOf N) s a) (learnAt (ask (allOf N) s) s a k) u (next-settled (allOf N) s a) (sound-next (allOf N) P s k a q h)
 
 module _ (N L P : ℕ) where
   abbrev I : ℕ
@@ -426,13 +422,9 @@ module _ (N L P : ℕ) where
     inside = λ e o. absurd (false≢true e);
   })
 
-  pub begin-settled : (t : State) → look I (begin N L P) ≡ silent t → ⊥
-  unfolding start settle
-  begin-settled t e = quiet-settled I (movesLeft I (scan.stateAt P pixels 0 (startMarks I D))) (scan.stateAt P pixels 0 (startMarks I D)) t (omega arith) e
-
   -- on any bits
   pub known-sound : (u : List Bool) → Sound I P (after N L P u) (known N L P u)
-  known-sound u = sound-run N P (begin N L P) (nothing N P) u begin-settled sound-begin
+  known-sound u = sound-run N P (begin N L P) (nothing N P) u (start-settled I D P) sound-begin
 
   pub bits-length : (u : List Bool) → length (known N L P u .bits) ≡ I
   bits-length u = known-sound u .longBits

@@ -33,7 +33,8 @@ use Rattle.nls.proofs.Kept.{AfterMove, settle-keeps}
 use Rattle.nls.proofs.Lists.{arrOf}
 use Rattle.nls.proofs.Streams.{begins-iff}
 use Rattle.nls.proofs.HighBits.{high-same, high-none, high-refined, high-first}
-use Rattle.nls.proofs.Known.{Sound, by-place, sound-next, next-settled, sound-begin, begin-settled, known-sound}
+use Rattle.nls.proofs.Known.{Sound, by-place, sound-next, sound-begin, known-sound}
+use Rattle.nls.proofs.Machine.Run.{Settled, start-settled, next-settled}
 
 -- a bit that is known after bit b of i was answered with 1: that one, or one that was known
 know-old : (i b : ℕ) (k : Bits) (j e : ℕ) → (know (bitOf i b) true k) .has j e ≡ true → ((j ≡ i) × (e ≡ b)) ⊎ (k .has j e ≡ true)
@@ -281,12 +282,12 @@ module _ (N L : ℕ) (size : Sized N L) (P : ℕ) (A : List ℤ) (under : (i : �
       on (silent r) t f = absurd t
       on (asks q) t f = f t
 
-  right-run : (o : Known) (k : Bits) (s : State) (u : List Bool) → ((t : State) → look I s ≡ silent t → ⊥) → Good-of k s → Sound I P s o → Right s o k → Fit N B s u
+  right-run : (o : Known) (k : Bits) (s : State) (u : List Bool) → Settled I s → Good-of k s → Sound I P s o → Right s o k → Fit N B s u
       → Right (reach I s u) (learned N s o u) (least N s u k)
   unfolding reach learned
   right-run o k s [] n g h r f = r
   right-run o k s (a ∷ u) n g h r f =
-      right-run (learnAt (ask I s) s a o) (knowO (ask I s) a k) (next I s a) u (next-settled I P s a) (one-bit N P sz B k s a g (f .0)) (sound-next I P s o a n h) (right-next o k s a g h r (f .0)) (f .1)
+      right-run (learnAt (ask I s) s a o) (knowO (ask I s) a k) (next I s a) u (next-settled I s a) (one-bit N P sz B k s a g (f .0)) (sound-next I P s o a n h) (right-next o k s a g h r (f .0)) (f .1)
 
   -- before the first bit
   good-begin : Good-of first.nothing (begin N L P)
@@ -314,7 +315,7 @@ module _ (N L : ℕ) (size : Sized N L) (P : ℕ) (A : List ℤ) (under : (i : �
       t = after N L P u
 
       r : Right (after N L P u) (known N L P u) (least N (begin N L P) u first.nothing)
-      r = right-run (nothing N P) first.nothing (begin N L P) u (begin-settled N L P) good-begin (sound-begin N L P) right-begin f
+      r = right-run (nothing N P) first.nothing (begin N L P) u (start-settled (allOf N) (coarsestOf N L) P) good-begin (sound-begin N L P) right-begin f
 
 -- of every array whose stream begins so, the bits down to each coefficient's precision
 pub known-bits : (N L : ℕ) → Sized N L → (P : ℕ) (A : List ℤ) (u : List Bool) → Begins N L P A u

@@ -1,11 +1,11 @@
 -- Arrays that are lists of numbers give the same answers, and the same stream, as arrays that are bits by place and plane.
-use Prim.Native.Nat.{ℕ, zero, suc, _/_, _≤_}
+use Prim.Native.Nat.{ℕ, zero, suc, _*_, _/_, _≤_}
 use mathlib.Core.Path.{_≡_, refl, sym, ap, subst, _∙_}
 use mathlib.Core.Bool.{Bool, _&&_, _||_}
 use mathlib.Core.Option.{Option, none, some}
 use mathlib.Core.List.{List, [], _∷_}
 use native.Mathlib.Omega.{arith}
-use borrow.Author.Tests.{lt-ltb, ne-eqb}
+use borrow.Author.Tests.{lt-ltb}
 use lib.Dec.{ltb, eqb}
 use lib.IntN.{ℤ}
 use Rattle.sizes.specs.Sizes.{allOf, coarsestOf, Sized}
@@ -16,11 +16,10 @@ use Rattle.tree.specs.Tree.{desc, grand, anyIn}
 use Rattle.tree.proofs.Members.{under, desc-find, grand-find, desc-has, grand-has}
 use Rattle.tree.proofs.Ors.{desc-bit, grand-bit}
 use Rattle.nls.specs.Scan.{Question, bitOf, signOf, inDesc, inGrand, State, ask, next}
-use Rattle.nls.specs.Stream.{answer, answers, begin, after, worstBody, stream}
-use Rattle.nls.proofs.Machine.Run.{none-asked}
+use Rattle.nls.specs.Stream.{answer, answers, begin, after, stream}
 use Rattle.nls.proofs.Booleans.{same-bool}
 use Rattle.nls.proofs.Arrays.{Arr, bits-of, below, any, inside, ans, answersOf, any-some, any-find}
-use Rattle.nls.proofs.Joined.Whole.{bound, whole}
+use Rattle.nls.proofs.Joined.Whole.{whole}
 use Rattle.nls.proofs.Kept.{Kept, Rooted, AllRooted, kept-next, kept-reach, kept-start, asks-rooted}
 
 -- a list as magnitudes and signs by place; past its end it is 0
@@ -104,13 +103,6 @@ module _ (N L : ℕ) (z : Sized N L) where
     pub answers-same : (P n : ℕ) → answers N L A n (begin N L P) ≡ answersOf N (bits-of (arrOf A)) n (begin N L P)
     answers-same P n = answers-from n (begin N L P) (begin-kept P)
 
-    -- of 0 planes nothing is asked
-    none-of : (n : ℕ) → answersOf N (bits-of (arrOf A)) n (begin N L 0) ≡ []
-    unfolding answersOf
-    none-of zero = refl
-    none-of (suc n) = rw (none-asked (allOf N) (coarsestOf N L), answersOf)
-
     pub stream-same : (P : ℕ) → stream N L P A ≡ whole N L P (arrOf A)
-    unfolding stream whole worstBody answers
-    stream-same zero = sym (none-of (bound N L 0))
-    stream-same (suc P) = rw (ne-eqb (suc P) 0 (λ e. omega (arith, e))) (answers-same (suc P) (bound N L (suc P)))
+    unfolding stream whole
+    stream-same P = answers-same P (4 * allOf N * P)

@@ -6,7 +6,7 @@ use mathlib.Core.List.{List, [], _∷_}
 use mathlib.Core.Logic.{⊎-elim}
 use native.Mathlib.Nat.{zero-add, pow-succ', mul-le-mul-left}
 use native.Mathlib.Omega.{arith}
-use borrow.Author.Tests.{lt-ltb, le-ltb, ne-eqb}
+use borrow.Author.Tests.{lt-ltb, le-ltb}
 use lib.Dec.{ltb}
 use lib.IntN.{ℤ}
 use lib.ListN.{length}
@@ -18,7 +18,6 @@ use Rattle.tree.proofs.Laws.{desc-low, desc-high, grand-low, grand-high}
 use Rattle.tree.proofs.Sums.{sumOver}
 use Rattle.tree.proofs.Sums as over
 use Rattle.nls.specs.Parts.{sumTo, countTo, notEmpty, found, descSplit, grandSplit, standsAlone, descStands, grandStands, parts, partSizes, splits, founds, nonzeros}
-use Rattle.nls.specs.Stream.{worstBody}
 use Rattle.nls.proofs.Counting.Sums.{sum, sum-cong, sum-zero, sum-split, sum-at, sum-last, order}
 use Rattle.nls.proofs.Counting.Tree as tree
 use Rattle.nls.proofs.Counting.Tree.{Size, D, Q, I, desc-none, desc-step, desc-le, child-le}
@@ -26,7 +25,6 @@ use Rattle.nls.proofs.Counting.Parts as counting
 use Rattle.nls.proofs.Counting.Parts.{ι, big, split-desc, split-grand, alone, stands-desc, stands-grand, over-all, over-desc, over-grand}
 use Rattle.nls.proofs.Counting.Bound as bounds
 use Rattle.nls.proofs.Counting.Bound.{size, all-is, coarsest-is}
-use Rattle.nls.proofs.Joined.Whole.{bound}
 
 -- ---- lists
 -- the length of a list, and whether some member has p, as sums
@@ -290,8 +288,3 @@ module _ (N L : ℕ) (s : Sized N L) where
     pub nonzeros-is : nonzeros N L A ≡ bounds.nonzeros sizeOf (mags A)
     unfolding nonzeros bounds.nonzeros
     nonzeros-is = all-run (λ i. digit (ltb 0 (magAt A i))) (λ i. ι (ltb 0 (mags A i))) (λ i. refl)
-
--- the worst body of at least one plane
-pub worst-is : (N L P : ℕ) → 1 ≤ P → worstBody N L P ≡ bound N L P
-unfolding worstBody
-worst-is N L P h = rw (ne-eqb P 0 (λ e. omega (arith, e, h)))

@@ -1,5 +1,5 @@
 -- The stream of an array of numbers: it ends, a budget cuts it, encoder and decoder stay in step, and which bits begin it.
-use Prim.Native.Nat.{ℕ, zero, suc, _^_, min, _<_}
+use Prim.Native.Nat.{ℕ, zero, suc, _*_, _^_, min, _<_}
 use mathlib.Core.Path.{_≡_, refl, sym, ap, subst, _∙_}
 use mathlib.Core.Bool.{Bool}
 use mathlib.Core.Option.{Option, none, some}
@@ -11,12 +11,11 @@ use lib.ListN.{length, take, drop, length-take, take-append-drop}
 use lib.Seq.{take-all}
 use Rattle.sizes.specs.Sizes.{allOf, coarsestOf, Sized}
 use Rattle.coef.specs.Coef.{magAt, IsPlanes}
-use Rattle.nls.specs.Scan.{Question, State, over, pixels, stateAt, look, ask, next, reach}
+use Rattle.nls.specs.Scan.{Question, State, pixels, stateAt, ask, next, reach}
 use Rattle.nls.specs.Stream.{answer, answers, sent, begin, after, stream}
 use Rattle.nls.specs.Judging.{Begins}
 use Rattle.nls.proofs.Arrays.{bits-of, answersOf, Fit}
-use Rattle.nls.proofs.Machine.Run.{fit-prefix, stream-fits, fits-stream}
-use Rattle.nls.proofs.Joined.Leads.{over-none}
+use Rattle.nls.proofs.Machine.Run.{Settled, start-settled, reach-settled, left-none, none-left, fit-prefix, stream-fits, fits-stream}
 use Rattle.nls.proofs.Joined.Whole as Whole
 use Rattle.nls.proofs.Kept.{kept-reach}
 use Rattle.nls.proofs.Lists.{arrOf, begin-kept, answers-same, stream-same}
@@ -41,6 +40,17 @@ in-step N L P A n = sent-from N L A n (begin N L P)
 abbrev pub Answered : ℕ → ℕ → ℕ → List ℤ → List Bool → Type 0
 Answered N L P A u = Fit N (bits-of (arrOf A)) (begin N L P) u
 
+-- after any bits nothing more moves silently, and nothing is asked exactly where no plane is left
+module _ (N L P : ℕ) (u : List Bool) where
+  pub settles : Settled (allOf N) (after N L P u)
+  settles = reach-settled (allOf N) (begin N L P) u (start-settled (allOf N) (coarsestOf N L) P)
+
+  pub left-asks-none : (after N L P u) .left ≡ 0 → ask (allOf N) (after N L P u) ≡ none
+  left-asks-none e = left-none (allOf N) (after N L P u) e
+
+  pub asks-none-left : ask (allOf N) (after N L P u) ≡ none → (after N L P u) .left ≡ 0
+  asks-none-left e = none-left (allOf N) (after N L P u) settles e
+
 module _ (N L : ℕ) (z : Sized N L) (P : ℕ) where
   -- the table of marks keeps its length, on any bits
   pub marks-length : (u : List Bool) → length ((after N L P u) .marks) ≡ allOf N
@@ -52,7 +62,7 @@ module _ (N L : ℕ) (z : Sized N L) (P : ℕ) where
     pub stream-answered : Answered N L P A (stream N L P A)
     unfolding Whole.whole
     stream-answered =
-        subst (Answered N L P A) (sym (stream-same N L z A P)) (stream-fits N (bits-of (arrOf A)) (Whole.bound N L P) (begin N L P))
+        subst (Answered N L P A) (sym (stream-same N L z A P)) (stream-fits N (bits-of (arrOf A)) (4 * 4 ^ N * P) (begin N L P))
 
     module _ (below : (i : ℕ) → magAt A i < 2 ^ P) where
       whole-end : (m : List ℕ) × (after N L P (stream N L P A) ≡ stateAt 0 pixels 0 m)
@@ -60,15 +70,9 @@ module _ (N L : ℕ) (z : Sized N L) (P : ℕ) where
           let w = Whole.whole-ends N L (z .least) (z .most) P (arrOf A) (λ i h. below i) in
           (w .0, ap (λ (u : List Bool). after N L P u) (stream-same N L z A P) ∙ w .1)
 
-      -- the stream ends: after it no plane is left, and nothing is asked
+      -- the stream ends: after it no plane is left
       pub ends-left : (after N L P (stream N L P A)) .left ≡ 0
       ends-left = ap (λ (s : State). s .left) (whole-end .1)
-
-      pub ends-over : look (allOf N) (after N L P (stream N L P A)) ≡ over
-      ends-over = ap (λ (s : State). look (allOf N) s) (whole-end .1)
-
-      pub ends : ask (allOf N) (after N L P (stream N L P A)) ≡ none
-      ends = over-none N (bits-of (arrOf A)) (after N L P (stream N L P A)) ends-over
 
       -- under a budget of n bits: the first n of the stream, the smaller of n and all
       pub budget-bits : (n : ℕ) → answers N L A n (begin N L P) ≡ take n (stream N L P A)

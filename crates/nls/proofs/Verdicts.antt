@@ -23,7 +23,7 @@ use Rattle.nls.proofs.Judging.Decide.{clash-by, cb-child, cb-grand, cb-
 use Rattle.nls.proofs.Judging.Decoder.{decode, Means, decode-means}
 use Rattle.nls.proofs.Judging.ByCount.{clash-count, right-count}
 use Rattle.nls.proofs.Lists.{arrOf}
-use Rattle.nls.proofs.Streams.{Answered, begins-iff}
+use Rattle.nls.proofs.Streams.{Answered, left-asks-none, asks-none-left, begins-iff}
 use Rattle.nls.proofs.Signs.{lists-fit, bits-fit}
 
 -- The verdict on the bits u from a settled state on, after `used` bits: 13 where nothing is asked, 12 at a 0 that leaves no array.
@@ -104,13 +104,21 @@ module _ (N L : ℕ) (z : Sized N L) where
         cut : take (length (take k u)) T ≡ take k u
         cut = shorter (order k (length u))
 
-    -- where nothing is asked no further bit fits
-    pub no-more : (u : List Bool) (n : ℕ) → n < length u → ask (allOf N) (after N L P (take n u)) ≡ none → Fits N L P (take (suc n) u) → ⊥
-    no-more u n h e w =
+    -- where no plane is left no further bit fits
+    past-end : (u : List Bool) (n : ℕ) → n < length u → (after N L P (take n u)) .left ≡ 0 → Fits N L P (take (suc n) u) → ⊥
+    past-end u n h e w =
         let f : Answered N L P (w .0) (take n u ++ (getD u n false ∷ [])) =
         subst (λ (v : List Bool). Answered N L P (w .0) v) (take-suc u n false h) (((begins-iff N L z P (w .0) (take (suc n) u)) .0 (w .1)) .2) in
-        subst (λ (o : Option Question). told N (bits-of (arrOf (w .0))) o (getD u n false)) e
+        subst (λ (o : Option Question). told N (bits-of (arrOf (w .0))) o (getD u n false)) (left-asks-none N L P (take n u) e)
         (last-told N (bits-of (arrOf (w .0))) (begin N L P) (take n u) (getD u n false) f)
+
+    -- while something is asked a plane is left
+    asked-left : (u : List Bool) (q : Question) → ask (allOf N) (after N L P u) ≡ some q → 0 < (after N L P u) .left
+    asked-left u q e = go ((after N L P u) .left) refl
+      where
+        go : (l : ℕ) → (after N L P u) .left ≡ l → 0 < l
+        go zero h = absurd (subst (λ (o : Option Question). IsSome o) (sym e ∙ left-asks-none N L P u h) tt)
+        go (suc l) h = omega arith
 
     -- what the decoder's answer means, over lists of numbers
     meant-judged : 1 ≤ P → (v : List Bool) (o : Verdict) → Means N P (tiled N L z) v o → Judged N L P v o
@@ -122,8 +130,7 @@ module _ (N L : ℕ) (z : Sized N L) where
           there = cut-there (m .0) (m .1) (m .2);
           before = subst (λ (x : List Bool). Fits N L P x) (sym (cut-before (m .0) (m .1) (m .2))) (lists-fit N L z P (m .0) (m .5));
           none = λ f. m .6 (bits-fit N L z P h (m .0 ++ (m .1 ∷ [])) (subst (λ (x : List Bool). Fits N L P x) (cut-with (m .0) (m .1) (m .2)) f));
-          question = m .7 .0;
-          inPlane = ap (λ (x : List Bool). ask (allOf N) (after N L P x)) (cut-before (m .0) (m .1) (m .2)) ∙ m .7 .1;
+          inPlane = subst (λ (x : List Bool). 0 < (after N L P x) .left) (sym (cut-before (m .0) (m .1) (m .2))) (asked-left (m .0) (m .7 .0) (m .7 .1));
         }))
     meant-judged h v (beyond n) m =
         subst (λ (x : List Bool). IsBeyond N L P x n) (sym (m .3))
@@ -131,7 +138,7 @@ module _ (N L : ℕ) (z : Sized N L) where
         (record {
           there = cut-there (m .0) (m .1) (m .2);
           before = subst (λ (x : List Bool). Fits N L P x) (sym (cut-before (m .0) (m .1) (m .2))) (lists-fit N L z P (m .0) (m .5));
-          ended = ap (λ (x : List Bool). ask (allOf N) (after N L P x)) (cut-before (m .0) (m .1) (m .2)) ∙ m .6;
+          ended = ap (λ (x : List Bool). (after N L P x) .left) (cut-before (m .0) (m .1) (m .2)) ∙ asks-none-left N L P (m .0) (m .6);
         }))
 
     judged-some : 1 ≤ P → (u : List Bool) → Judged N L P u (verdict N L P u)
@@ -144,7 +151,7 @@ module _ (N L : ℕ) (z : Sized N L) where
   judged-none [] = nothing-fits
   judged-none (a ∷ u) =
       rw (none-asked (allOf N) (coarsestOf N L), verdictFrom)
-      (record { there = omega arith; before = nothing-fits; ended = (unfold reach in none-asked (allOf N) (coarsestOf N L)) })
+      (record { there = omega arith; before = nothing-fits; ended = asks-none-left N L 0 [] (unfold reach in none-asked (allOf N) (coarsestOf N L)) })
 
   -- the verdict is right, for every number of planes
   pub verdict-judged : (P : ℕ) (u : List Bool) → Judged N L P u (verdict N L P u)
@@ -158,7 +165,7 @@ module _ (N L : ℕ) (z : Sized N L) where
     past-12 n k c h w = c .none (subst (λ (v : List Bool). Fits N L P v) (take-take (suc n) k u h) (fits-fewer P (suc n) (take k u) w))
 
     past-13 : (n k : ℕ) → IsBeyond N L P u n → n < k → Fits N L P (take k u) → ⊥
-    past-13 n k c h w = no-more P u n (c .there) (c .ended) (subst (λ (v : List Bool). Fits N L P v) (take-take (suc n) k u h) (fits-fewer P (suc n) (take k u) w))
+    past-13 n k c h w = past-end P u n (c .there) (c .ended) (subst (λ (v : List Bool). Fits N L P v) (take-take (suc n) k u h) (fits-fewer P (suc n) (take k u) w))
 
     all-fits : Fits N L P u → Fits N L P (take (length u) u)
     all-fits w = fits-fewer P (length u) u w
@@ -169,8 +176,7 @@ module _ (N L : ℕ) (z : Sized N L) where
     apart : (n k : ℕ) → Contradicts N L P u n → IsBeyond N L P u k → ⊥
     apart n k c d =
         let e : n ≡ k = same-place n k (λ h. past-12 n k c h (d .before)) (λ h. past-13 k n d h (c .before)) in
-        let bad : some (c .question) ≡ none = sym (c .inPlane) ∙ ap (λ (x : ℕ). ask (allOf N) (after N L P (take x u))) e ∙ d .ended in
-        subst (λ (o : Option Question). IsSome o) bad tt
+        omega (arith, c .inPlane, ap (λ (x : ℕ). (after N L P (take x u)) .left) e, d .ended)
 
     pub judged-only : (v w : Verdict) → Judged N L P u v → Judged N L P u w → v ≡ w
     judged-only taken taken p q = refl

@@ -1,14 +1,12 @@
 -- Which bodies are refused as 12 or 13 (document 01, "Numbers for no").
 use Prim.Native.Nat.{ℕ, suc, _<_}
 use mathlib.Core.Path.{_≡_}
-use mathlib.Core.Option.{Option, none, some}
 use mathlib.Core.Bool.{Bool}
 use mathlib.Core.List.{List}
 use lib.IntN.{ℤ}
 use lib.ListN.{length, take}
 use Rattle.sizes.specs.Sizes.{allOf}
 use Rattle.coef.specs.Coef.{IsPlanes}
-use Rattle.nls.specs.Scan.{Question, ask}
 use Rattle.nls.specs.Stream.{stream, after}
 
 -- A is an array of this N and exactly P planes whose stream begins with the bits u
@@ -27,19 +25,19 @@ pub data Verdict : Type 0 where
   contradiction : ℕ → Verdict
   beyond : ℕ → Verdict
 
--- "12: contradiction while a plane is still in progress: number of the first bit at which no array fits"
+-- "12: contradiction while a plane is still in progress: number of the first bit at which no array fits";
+-- a plane is in progress where one is left
 pub record Contradicts (N L P : ℕ) (u : List Bool) (n : ℕ) : Type 0 where
   pub there : n < length u
   pub before : Fits N L P (take n u)
   pub none : Fits N L P (take (suc n) u) → ⊥
-  pub question : Question
-  pub inPlane : ask (allOf N) (after N L P (take n u)) ≡ some question
+  pub inPlane : 0 < (after N L P (take n u)) .left
 
--- "13: plane 0 ended (or P is 0), usable bits left: number of the first such bit"
+-- "13: plane 0 ended (or P is 0), usable bits left: number of the first such bit"; no plane is left
 pub record IsBeyond (N L P : ℕ) (u : List Bool) (n : ℕ) : Type 0 where
   pub there : n < length u
   pub before : Fits N L P (take n u)
-  pub ended : ask (allOf N) (after N L P (take n u)) ≡ none
+  pub ended : (after N L P (take n u)) .left ≡ 0
 
 abbrev pub Judged : ℕ → ℕ → ℕ → List Bool → Verdict → Type 0
 Judged N L P u taken = Fits N L P u

@@ -39,14 +39,15 @@ begin N L P = start (allOf N) (coarsestOf N L) P
 abbrev pub after : ℕ → ℕ → ℕ → List Bool → State
 after N L P u = reach (allOf N) (begin N L P) u
 
+-- the whole stream of an array of P planes: its answers until the scan ends. In a plane each place is asked about at most
+-- four times, for its bit, its sign, its DESC and its GRAND, so there are no more
+unfoldable pub stream : ℕ → ℕ → ℕ → List ℤ → List Bool
+stream N L P A = answers N L A (4 * allOf N * P) (begin N L P)
+
 -- "Worst body: 0 for P = 0, else the bound of demand 3": I(P+1) + (I-D)/4 + (I-4D)/16
 unfoldable pub worstBody : ℕ → ℕ → ℕ → ℕ
 worstBody N L P =
     cond (eqb P 0) 0 (allOf N * (P + 1) + (allOf N - coarsestOf N L) / 4 + (allOf N - 4 * coarsestOf N L) / 16)
-
--- the whole stream of an array of P planes; with no more bits than the worst body has the scan ends
-unfoldable pub stream : ℕ → ℕ → ℕ → List ℤ → List Bool
-stream N L P A = answers N L A (worstBody N L P) (begin N L P)
 
 -- the bits of u that are taken while plane b is in progress, from a settled state on
 unfoldable pub during : ℕ → ℕ → State → List Bool → List Bool

@@ -28,6 +28,23 @@ worst z P = I z * (P + 1) + (I z - D z) / 4 + (I z - 4 * D z) / 16
 ι-le false = omega arith
 
 module _ (z : Size) (mag : ℕ → ℕ) where
+  -- parts that stand after each of n planes, sets that are split in the end and coefficients that are not zero: no more parts than places in
+  -- a plane, no more sets than have members, no more coefficients than there are
+  pub counted-bound : (n : ℕ) → sum 0 n (λ b. parts z mag b) + splits z mag 0 + nonzeros z mag ≤ worst z n
+  unfolding worst splits nonzeros
+  counted-bound n =
+      omega (
+        arith,
+        sum-le 0 n (λ b. parts z mag b) (λ _. I z) (λ b u v. parts-le z mag b),
+        sum-const 0 n (I z),
+        sum-le (z .e) (Q z - z .e) (λ i. ι (split-desc z mag 0 i)) (λ _. 1) (λ i u v. ι-le (split-desc z mag 0 i)),
+        sum-const (z .e) (Q z - z .e) 1,
+        sum-le (z .e) (z .j - z .e) (λ i. ι (split-grand z mag 0 i)) (λ _. 1) (λ i u v. ι-le (split-grand z mag 0 i)),
+        sum-const (z .e) (z .j - z .e) 1,
+        sum-le 0 (I z) (λ i. ι (ltb 0 (mag i))) (λ _. 1) (λ i u v. ι-le (ltb 0 (mag i))),
+        sum-const 0 (I z) 1,
+      )
+
   -- from a plane on nothing is big, so nothing is split
   module _ (n : ℕ) (small : (i : ℕ) → i < I z → mag i < 2 ^ n) where
     pub none-big : (i : ℕ) → i < I z → ι (big mag n i) ≡ 0
@@ -54,20 +71,7 @@ module _ (z : Size) (mag : ℕ → ℕ) where
 
     -- the bound
     pub bits-bound : (neg : ℕ → Bool) → length (body z mag neg n) ≤ worst z n
-    unfolding worst splits nonzeros
-    bits-bound neg =
-        omega (
-          arith,
-          bits-count neg,
-          sum-le 0 n (λ b. parts z mag b) (λ _. I z) (λ b u v. parts-le z mag b),
-          sum-const 0 n (I z),
-          sum-le (z .e) (Q z - z .e) (λ i. ι (split-desc z mag 0 i)) (λ _. 1) (λ i u v. ι-le (split-desc z mag 0 i)),
-          sum-const (z .e) (Q z - z .e) 1,
-          sum-le (z .e) (z .j - z .e) (λ i. ι (split-grand z mag 0 i)) (λ _. 1) (λ i u v. ι-le (split-grand z mag 0 i)),
-          sum-const (z .e) (z .j - z .e) 1,
-          sum-le 0 (I z) (λ i. ι (ltb 0 (mag i))) (λ _. 1) (λ i u v. ι-le (ltb 0 (mag i))),
-          sum-const 0 (I z) 1,
-        )
+    bits-bound neg = omega (arith, bits-count neg, counted-bound n)
 
   -- where all is big, all is split and every part is a coefficient
   module _ (b : ℕ) (all : (i : ℕ) → i < I z → T (big mag b i)) where

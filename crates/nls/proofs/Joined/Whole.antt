@@ -1,5 +1,5 @@
 -- The whole stream of an array of bits, for side 2^N and L levels: what it is, that it ends, and how many bits it has.
-use Prim.Native.Nat.{ℕ, suc, _+_, _*_, _-_, _^_, _/_, _≤_, _<_}
+use Prim.Native.Nat.{ℕ, zero, suc, _+_, _*_, _-_, _^_, _/_, _≤_, _<_}
 use mathlib.Core.Path.{_≡_, refl, ap, sym, _∙_}
 use mathlib.Core.Bool.{Bool}
 use mathlib.Core.List.{List, _++_}
@@ -27,9 +27,9 @@ use Rattle.nls.proofs.Joined.Planes.{during-plane}
 abbrev pub bound : ℕ → ℕ → ℕ → ℕ
 bound N L P = 4 ^ N * (P + 1) + (4 ^ N - 4 ^ (N - L)) / 4 + (4 ^ N - 4 * 4 ^ (N - L)) / 16
 
--- the whole stream of an array: the bound is fuel enough
+-- the whole stream of an array: four answers for each place in each plane are enough
 unfoldable pub whole : ℕ → ℕ → ℕ → Arr → List Bool
-whole N L P A = answersOf N (bits-of A) (bound N L P) (begin N L P)
+whole N L P A = answersOf N (bits-of A) (4 * 4 ^ N * P) (begin N L P)
 
 module _ (N L : ℕ) (b : 1 ≤ L) (c : L < N) where
   abbrev z : Size
@@ -58,13 +58,13 @@ module _ (N L : ℕ) (b : 1 ≤ L) (c : L < N) where
         (runs-stream N (bits-of A) (stateAt P pixels 0 (start-l z)) (stateAt 0 pixels 0 (run .0)) (body z (A .mag) (A .neg) P) (run .1) refl n)
 
     -- the stream is the body that the magnitudes alone give
-    pub stream-is-body : (n : ℕ) → bound N L P ≤ n → answersOf N (bits-of A) n (begin N L P) ≡ body z (A .mag) (A .neg) P
-    stream-is-body n h =
-        stream-take n ∙ take-all n (body z (A .mag) (A .neg) P) (omega (arith, h, bits-bound z (A .mag) P small (A .neg), worst-is N L P b c))
-
     pub whole-is-body : whole N L P A ≡ body z (A .mag) (A .neg) P
-    unfolding whole
-    whole-is-body = stream-is-body (bound N L P) (le-refl _)
+    unfolding whole body
+    whole-is-body = stream-take (4 * 4 ^ N * P) ∙ take-all (4 * 4 ^ N * P) (body z (A .mag) (A .neg) P) (enough P refl)
+      where
+        enough : (n : ℕ) → P ≡ n → length (body z (A .mag) (A .neg) P) ≤ 4 * 4 ^ N * P
+        enough zero e = rw e (omega arith)
+        enough (suc n) e = omega (arith, bits-bound z (A .mag) P small (A .neg), worst-is N L P b c, ap (λ (k : ℕ). 4 ^ N * k) e)
 
     -- it ends: after it the machine is over, and its marks are those of the parts that stand
     pub whole-ends : (m : List ℕ) × (reach (4 ^ N) (begin N L P) (whole N L P A) ≡ stateAt 0 pixels 0 m) × Held z (A .mag) 0 m
@@ -82,9 +82,6 @@ module _ (N L : ℕ) (b : 1 ≤ L) (c : L < N) where
     -- the number of bits
     pub count : length (whole N L P A) ≡ sum 0 P (λ k. parts z (A .mag) k) + splits z (A .mag) 0 + nonzeros z (A .mag)
     count = ap (λ (u : List Bool). length u) whole-is-body ∙ bits-count z (A .mag) P small (A .neg)
-
-    pub bounded : length (whole N L P A) ≤ bound N L P
-    bounded = omega (arith, ap (λ (u : List Bool). length u) whole-is-body, bits-bound z (A .mag) P small (A .neg), worst-is N L P b c)
 
     -- plane by plane: what is taken while plane k is in progress
     pub plane-bits : (k : ℕ) → k < P → during N k (begin N L P) (whole N L P A) ≡ plane z (A .mag) (A .neg) k

@@ -1,7 +1,7 @@
 -- Runs of the scan: silent moves end, and a settled run can be followed one visit at a time.
 use mathlib.Core.Path.{_≡_, refl, sym, ap, subst}
 use mathlib.Core.Bool.{Bool, true, false}
-use mathlib.Core.Option.{Option, none, some}
+use mathlib.Core.Option.{Option, none, some, IsSome}
 use mathlib.Core.List.{List, [], _∷_, _++_}
 use Prim.Native.Nat.{ℕ, zero, suc, _-_, _^_, _≤_, _<_}
 use native.Mathlib.Omega.{arith}
@@ -10,7 +10,7 @@ use lib.ListN.{length, getD, take}
 use lib.Dec.{ltb, eqb, lit<, lit≤}
 use borrow.Author.Tests.{ltb-true}
 use Rattle.nls.specs.Marks.{skip, setSkip, startMarks}
-use Rattle.nls.specs.Scan.{State, Look, over, silent, asks, Question, Pass, pixels, sets, refining, stateAt, look, lookAt, lookPixels, lookSets, lookRefining, movesLeft, silently, settle, ask, next, reach, start, asked}
+use Rattle.nls.specs.Scan.{State, Look, over, silent, asks, Question, Pass, pixels, sets, refining, stateAt, look, lookAt, lookPixels, lookSets, lookRefining, tell, movesLeft, silently, settle, ask, next, reach, start, asked}
 use Rattle.nls.proofs.Arrays.{answersOf, Bits, ans, told, Fit}
 
 pub skip-pos : (m : ℕ) → 1 ≤ skip m
@@ -132,6 +132,68 @@ module _ (I : ℕ) where
       go over q f ih z = let bad : _≡_ {A = ℕ} 0 1 = cc in omega arith
       go (silent r) q f ih z = ih r t (omega (arith, f, h)) z
       go (asks a) q f ih z = let bad : _≡_ {A = ℕ} 0 1 = cc in omega arith
+
+  -- nor is any state after bits
+  abbrev pub Settled : State → Type 0
+  Settled s = (t : State) → look I s ≡ silent t → ⊥
+
+  pub start-settled : (D P : ℕ) → Settled (start I D P)
+  unfolding start settle
+  start-settled D P t e = quiet-settled (movesLeft I (stateAt P pixels 0 (startMarks I D))) (stateAt P pixels 0 (startMarks I D)) t (omega arith) e
+
+  pub next-settled : (s : State) (a : Bool) → Settled (next I s a)
+  unfolding next settle
+  next-settled s a t e = quiet-settled (movesLeft I (tell I s a)) (tell I s a) t (omega arith) e
+
+  pub reach-settled : (s : State) (u : List Bool) → Settled s → Settled (reach I s u)
+  unfolding reach
+  reach-settled s [] h = h
+  reach-settled s (a ∷ u) h = reach-settled (next I s a) u (next-settled s a)
+
+  -- the scan is over only where no plane is left
+  abbrev EndsAt : ℕ → Look → Type 0
+  EndsAt l over = l ≡ 0
+  EndsAt l (silent t) = Unit {0}
+  EndsAt l (asks q) = Unit {0}
+
+  ends-pixels : (l b i : ℕ) (m : List ℕ) (x y : Bool) → EndsAt l (lookPixels b i m x y)
+  ends-pixels l b i m false y = tt
+  ends-pixels l b i m true true = tt
+  ends-pixels l b i m true false = tt
+
+  ends-sets : (l b i : ℕ) (m : List ℕ) (x d g c : Bool) → EndsAt l (lookSets b i m x d g c)
+  ends-sets l b i m false d g c = tt
+  ends-sets l b i m true true g c = tt
+  ends-sets l b i m true false true c = tt
+  ends-sets l b i m true false false true = tt
+  ends-sets l b i m true false false false = tt
+
+  ends-refining : (l b i : ℕ) (m : List ℕ) (x s n : Bool) → EndsAt l (lookRefining b i m x s n)
+  ends-refining l b i m false s n = tt
+  ends-refining l b i m true true n = tt
+  ends-refining l b i m true false true = tt
+  ends-refining l b i m true false false = tt
+
+  ends-at : (l : ℕ) (p : Pass) (i : ℕ) (w : Bool) (m : List ℕ) → EndsAt l (lookAt I l p i w m)
+  ends-at zero p i w m = refl
+  ends-at (suc b) p i true m = tt
+  ends-at (suc b) pixels i false m = ends-pixels (suc b) b i m (ltb i I) (eqb (getD m i 0) 1)
+  ends-at (suc b) sets i false m = ends-sets (suc b) b i m (ltb i I) (eqb (getD m i 0) 5) (eqb (getD m i 0) 6) (eqb (getD m i 0) 4)
+  ends-at (suc b) refining i false m = ends-refining (suc b) b i m (ltb i I) (eqb (getD m i 0) 3) (eqb (getD m i 0) 2)
+
+  -- where no plane is left nothing is asked, and the other way round in a state that does not move silently
+  pub left-none : (s : State) → s .left ≡ 0 → ask I s ≡ none
+  unfolding ask
+  left-none s e = ap (λ (l : ℕ). asked I (lookAt I l (s .pass) (s .place) (s .pending) (s .marks))) e
+
+  pub none-left : (s : State) → Settled s → ask I s ≡ none → s .left ≡ 0
+  unfolding ask
+  none-left s h e = on (look I s) refl (ends-at (s .left) (s .pass) (s .place) (s .pending) (s .marks)) e
+    where
+      on : (k : Look) → look I s ≡ k → EndsAt (s .left) k → asked I k ≡ none → s .left ≡ 0
+      on over q f z = f
+      on (silent t) q f z = absurd (h t q)
+      on (asks a) q f z = absurd (subst (λ (o : Option Question). IsSome o) z tt)
 
 -- bits that an array answers, and its stream
 module _ (N : ℕ) where
