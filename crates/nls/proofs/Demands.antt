@@ -2,28 +2,27 @@
 -- N and L are any sizes with L from 1 to N-1, P is any number of planes, and an array is a list of 4^N integers.
 use Prim.Native.Nat.{ℕ, _+_, _*_, _^_, _-_, _/_, min, _≤_, _<_}
 use mathlib.Core.Path.{_≡_, ap, subst}
-use mathlib.Core.Bool.{Bool}
-use mathlib.Core.List.{List}
+use mathlib.Core.Bool.{Bool, true}
+use mathlib.Core.List.{List, [], _∷_, _++_}
 use mathlib.Core.Option.{none}
 use native.Mathlib.Omega.{arith}
 use lib.IntN.{ℤ, pos, natAbs, _-ℤ_}
-use lib.ListN.{length, take, replicate}
+use lib.ListN.{length, take, replicate, getD}
 use Rattle.sizes.specs.Sizes.{allOf, coarsestOf, Sized}
 use Rattle.sizes.specs.Tables.{table}
 use Rattle.coef.specs.Coef.{at, IsPlanes}
+use Rattle.nls.specs.Marks.{noMark}
 use Rattle.nls.specs.Scan.{State, silent, look, ask}
 use Rattle.nls.specs.Stream.{answers, sent, begin, after, stream, during, worstBody}
 use Rattle.nls.specs.Parts.{sumTo, parts, partSizes, splits, splitsIn, foundIn, nonzeros}
-use Rattle.nls.specs.Reading.{midpoint, valueBy, highBits, lastPlane, precisionAt, valuesBy, precisions, planesFinished, worstError}
+use Rattle.nls.specs.Reading.{midpoint, valueBy, highBits, lastPlane, precisionAt, valuesBy, precisions, planesFinished, worstError, CompletedBy}
 use Rattle.nls.specs.Judging.{Begins, Fits, Verdict, taken, Judged}
 use Rattle.nls.proofs.Streams as streams
+use Rattle.nls.proofs.Waiting as waiting
 use Rattle.nls.proofs.Verdicts as verdicts
 use Rattle.nls.proofs.Values as values
 use Rattle.nls.proofs.Counts as counts
 use Rattle.nls.proofs.Finished as finished
-use lib.ListN.{getD}
-use Rattle.nls.specs.Marks.{noMark}
-use Rattle.nls.specs.Reading.{CompletedBy}
 use Rattle.nls.proofs.Precise as precise
 use Rattle.nls.proofs.Visited as visited
 use Rattle.nls.proofs.Visited.{Passed}
@@ -45,15 +44,6 @@ module _ (N L P : ℕ) (sized : Sized N L) where
     -- the stream is whole: after it no plane is left, and nothing is asked
     pub stream-ends : (after N L P (stream N L P A)) .left ≡ 0
     stream-ends = streams.ends-left N L sized P A (planes .below)
-
-  -- settling always ends: no state after bits moves silently
-  pub settles : (u : List Bool) (t : State) → look (allOf N) (after N L P u) ≡ silent t → ⊥
-  settles u t e = streams.settles N L P u t e
-
-  -- and nothing is asked exactly where no plane is left
-  pub ended-none : (u : List Bool)
-      → ((after N L P u) .left ≡ 0 → ask (allOf N) (after N L P u) ≡ none) × (ask (allOf N) (after N L P u) ≡ none → (after N L P u) .left ≡ 0)
-  ended-none u = (streams.left-asks-none N L P u, streams.asks-none-left N L P u)
 
   -- "A whole stream decodes to the same array": with precisions 0, all planes finished and worst error 0
   module _ (A : List ℤ) (size : length A ≡ allOf N) (planes : IsPlanes A P) where
@@ -136,6 +126,20 @@ module _ (N L P : ℕ) (sized : Sized N L) where
 
 -- ---- on any bits, whether or not an array fits them
 module _ (N L P : ℕ) (sized : Sized N L) where
+  -- "Silent moves before that bit have been made": settling always ends, no state after bits moves silently
+  pub settles : (u : List Bool) (t : State) → look (allOf N) (after N L P u) ≡ silent t → ⊥
+  settles u t e = streams.settles N L P u t e
+
+  -- and nothing is asked exactly where no plane is left
+  pub ended-none : (u : List Bool)
+      → ((after N L P u) .left ≡ 0 → ask (allOf N) (after N L P u) ≡ none) × (ask (allOf N) (after N L P u) ≡ none → (after N L P u) .left ≡ 0)
+  ended-none u = (streams.left-asks-none N L P u, streams.asks-none-left N L P u)
+
+  -- "A test bit 1 whose sign is missing has changed no mark."
+  pub sign-missing : (u : List Bool) (a : Bool)
+      → (after N L P (u ++ (a ∷ []))) .pending ≡ true → (after N L P (u ++ (a ∷ []))) .marks ≡ (after N L P u) .marks
+  sign-missing = waiting.waiting-marks N L P
+
   -- "A coefficient's precision k: b if its own bit of the plane b in progress was read (with its sign, where one follows)": that plane is left - 1
   pub precision-read : (u : List Bool) (i k : ℕ) → i < allOf N → CompletedBy N L P u i k → precisionAt N L P u i + 1 ≡ (after N L P u) .left
   precision-read = precise.precision-read N L P
