@@ -151,3 +151,7 @@ module _ (N L P : ℕ) (sized : Sized N L) where
   -- "Skips: MIP, MNP, MSP, MCP 1; MD 4; MG 16; MNk 4^k": none for mark 0, and in no state of a run is a place looked at that has it
   pub no-mark-0 : (s : State) → Passed N L P s → s .place < allOf N → getD (s .marks) (s .place) 0 ≡ noMark → ⊥
   no-mark-0 = visited.no-mark-0 N L sized P
+
+  -- "MNk is k+5 .. One byte a place": in a table of 4^N marks k is at most N-1
+  pub codes-fit : (u : List Bool) (i : ℕ) → getD ((after N L P u) .marks) i 0 ≤ N + 4
+  codes-fit = streams.codes-fit N L sized P

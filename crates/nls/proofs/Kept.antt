@@ -1,11 +1,12 @@
--- What every run keeps of its marks, on any bits: their number, no mark of a set below D, no MG below 4D.
+-- What every run keeps of its marks, on any bits: their number, no mark of a set below D, no MG below 4D, no MNk below 4^k.
 -- So a set that is asked about has a place of at least D/4: it has members.
-use Prim.Native.Nat.{ℕ, zero, suc, _+_, _*_, _-_, _/_, _≤_, _<_}
-use mathlib.Core.Path.{_≡_, refl, sym, _∙_}
+use Prim.Native.Nat.{ℕ, zero, suc, _+_, _*_, _-_, _/_, _^_, _≤_, _<_}
+use mathlib.Core.Path.{_≡_, refl, sym, subst, _∙_}
 use mathlib.Core.Bool.{Bool, true, false}
 use mathlib.Core.Logic.{⊎-elim}
 use mathlib.Core.Option.{Option, none, some}
 use mathlib.Core.List.{List, [], _∷_, _++_}
+use native.Mathlib.Nat.{pow-succ'}
 use native.Mathlib.Omega.{arith}
 use borrow.Author.Tests.{eqb-true}
 use lib.Dec.{ltb, eqb}
@@ -53,6 +54,7 @@ pub record Kept (D I : ℕ) (m : List ℕ) : Type 0 where
   pub long : length m ≡ I
   pub descs : (i : ℕ) → 5 ≤ getD m i 0 → D ≤ i
   pub grands : (i : ℕ) → getD m i 0 ≡ 6 → 4 * D ≤ i
+  pub codes : 4 ≤ D → (i : ℕ) → 7 ≤ getD m i 0 → 4 ^ (getD m i 0 - 5) ≤ i
 
 -- the set of a question has members
 abbrev pub Rooted : ℕ → Question → Type 0
@@ -66,8 +68,8 @@ AllRooted D none = Unit {0}
 AllRooted D (some q) = Rooted D q
 
 module _ (D I : ℕ) where
-  kept-set : (m : List ℕ) (i v : ℕ) → (5 ≤ v → D ≤ i) → (v ≡ 6 → 4 * D ≤ i) → Kept D I m → Kept D I (set m i v)
-  kept-set m i v p q k =
+  kept-set : (m : List ℕ) (i v : ℕ) → (5 ≤ v → D ≤ i) → (v ≡ 6 → 4 * D ≤ i) → (4 ≤ D → 7 ≤ v → 4 ^ (v - 5) ≤ i) → Kept D I m → Kept D I (set m i v)
+  kept-set m i v p q r k =
       record {
         long = length-set m i v ∙ k .long;
         descs = λ y h.
@@ -75,26 +77,38 @@ module _ (D I : ℕ) where
             (set-cases m i v y);
         grands = λ y h.
             ⊎-elim (λ s. let r : 4 * D ≤ i = q (sym (s .1) ∙ h) in omega (arith, r, s .0)) (λ s. k .grands y (sym s ∙ h)) (set-cases m i v y);
+        codes = λ w y h.
+            ⊎-elim
+            (λ s. let b : 4 ^ (v - 5) ≤ i = r w (omega (arith, h, s .1)) in
+            subst (λ (x : ℕ). 4 ^ (x - 5) ≤ y) (sym (s .1)) (omega (arith, b, s .0)))
+            (λ s. subst (λ (x : ℕ). 4 ^ (x - 5) ≤ y) (sym s) (k .codes w y (omega (arith, h, s))))
+            (set-cases m i v y);
       }
 
   -- a coefficient's mark
   kept-low : (m : List ℕ) (i v : ℕ) → v < 5 → Kept D I m → Kept D I (set m i v)
-  kept-low m i v h k = kept-set m i v (λ p. absurd (omega (arith, p, h))) (λ p. absurd (omega (arith, p, h))) k
+  kept-low m i v h k = kept-set m i v (λ p. absurd (omega (arith, p, h))) (λ p. absurd (omega (arith, p, h))) (λ w p. absurd (omega (arith, p, h))) k
 
-  kept-push : (n j code : ℕ) (m : List ℕ) → 7 ≤ code → D ≤ j → Kept D I m → Kept D I (pushFrom I n j code m)
+  kept-push : (n j code : ℕ) (m : List ℕ) → 7 ≤ code → D ≤ j → (4 ≤ D → 4 ^ (code - 5) ≤ j) → Kept D I m → Kept D I (pushFrom I n j code m)
   unfolding pushFrom
-  kept-push zero j code m c h k = k
-  kept-push (suc n) j code m c h k = on (ltb j I) (kept-push n (4 * j) (code + 1) (set m j code) (omega arith) (omega arith))
+  kept-push zero j code m c h r k = k
+  kept-push (suc n) j code m c h r k = on (ltb j I) (kept-push n (4 * j) (code + 1) (set m j code) (omega arith) (omega arith) further)
     where
       on : (t : Bool) → (Kept D I (set m j code) → Kept D I (pushFrom I n (4 * j) (code + 1) (set m j code)))
           → Kept D I (elim t as (λ _. List ℕ) [ true ↦ pushFrom I n (4 * j) (code + 1) (set m j code) | false ↦ m ])
-      on true ih = ih (kept-set m j code (λ p. h) (λ p. absurd (omega (arith, p, c))) k)
+      on true ih = ih (kept-set m j code (λ p. h) (λ p. absurd (omega (arith, p, c))) (λ w p. r w) k)
       on false ih = k
+
+      further : 4 ≤ D → 4 ^ (code + 1 - 5) ≤ 4 * j
+      further w =
+          let e : code + 1 - 5 ≡ suc (code - 5) = omega (arith, c) in
+          subst (λ (x : ℕ). 4 ^ x ≤ 4 * j) (sym e) (omega (arith, r w, pow-succ' 4 (code - 5)))
 
   -- MD, pushed
   kept-root : (i : ℕ) (m : List ℕ) → D ≤ i → Kept D I m → Kept D I (push I i (set m i 5))
   kept-root i m h k =
-      kept-push I (4 * i) 7 (set m i 5) (omega arith) (omega arith) (kept-set m i 5 (λ p. h) (λ p. absurd (omega (arith, p))) k)
+      kept-push I (4 * i) 7 (set m i 5) (omega arith) (omega arith) (λ w. omega (arith, w, h))
+      (kept-set m i 5 (λ p. h) (λ p. absurd (omega (arith, p))) (λ w p. absurd (omega (arith, p))) k)
 
   kept-desc : (i : ℕ) (m : List ℕ) (t : Bool) → D ≤ i → Kept D I m → Kept D I (splitDesc I i m t)
   kept-desc i m t h k =
@@ -103,7 +117,7 @@ module _ (D I : ℕ) where
       (kept-low _ (i + 2) 4 (omega arith) (kept-low _ (i + 1) 4 (omega arith) (kept-low m i 4 (omega arith) k))))
     where
       on : (t : Bool) → Kept D I (four i 4 m) → Kept D I (splitDesc I i m t)
-      on true d = kept-set (four i 4 m) (4 * i) 6 (λ p. omega arith) (λ p. omega arith) d
+      on true d = kept-set (four i 4 m) (4 * i) 6 (λ p. omega arith) (λ p. omega arith) (λ w p. absurd (omega (arith, p))) d
       on false d = d
 
   kept-grand : (i : ℕ) (m : List ℕ) → D ≤ i → Kept D I m → Kept D I (splitGrand I i m)
@@ -185,6 +199,7 @@ module _ (D I : ℕ) where
             long = omega (arith, length-append {A = ℕ} (replicate D 1) (replicate (I - D) 0), length-replicate {A = ℕ} D 1, length-replicate {A = ℕ} (I - D) 0);
             descs = λ y p. absurd (omega (arith, p, ones D (I - D) y));
             grands = λ y p. absurd (omega (arith, p, ones D (I - D) y));
+            codes = λ w y p. absurd (omega (arith, p, ones D (I - D) y));
           }
 
   -- what is asked of marks that are kept

@@ -1,20 +1,23 @@
 -- The stream of an array of numbers: it ends, a budget cuts it, encoder and decoder stay in step, and which bits begin it.
-use Prim.Native.Nat.{ℕ, zero, suc, _*_, _^_, min, _<_}
+use Prim.Native.Nat.{ℕ, zero, suc, _+_, _-_, _*_, _^_, min, _≤_, _<_}
 use mathlib.Core.Path.{_≡_, refl, sym, ap, subst, _∙_}
 use mathlib.Core.Bool.{Bool}
+use mathlib.Core.Logic.{⊎-elim}
 use mathlib.Core.Option.{Option, none, some}
 use mathlib.Core.List.{List, [], _∷_, _++_}
-use native.Mathlib.Nat.{le-refl}
+use native.Mathlib.Nat.{le-refl, pow-le-pow-right}
 use native.Mathlib.Omega.{arith}
 use lib.IntN.{ℤ}
-use lib.ListN.{length, take, drop, length-take, take-append-drop}
+use lib.ListN.{length, getD, take, drop, length-take, take-append-drop, List·getD-eq-default}
 use lib.Seq.{take-all}
 use Rattle.sizes.specs.Sizes.{allOf, coarsestOf, Sized}
+use Rattle.sizes.proofs.Laws.{coarsest-least}
 use Rattle.coef.specs.Coef.{magAt, IsPlanes}
 use Rattle.nls.specs.Scan.{Question, State, pixels, stateAt, ask, next, reach}
 use Rattle.nls.specs.Stream.{answer, answers, sent, begin, after, stream}
 use Rattle.nls.specs.Judging.{Begins}
 use Rattle.nls.proofs.Arrays.{bits-of, answersOf, Fit}
+use Rattle.nls.proofs.Counting.Sums.{order}
 use Rattle.nls.proofs.Machine.Run.{Settled, start-settled, reach-settled, left-none, none-left, fit-prefix, stream-fits, fits-stream}
 use Rattle.nls.proofs.Joined.Whole as Whole
 use Rattle.nls.proofs.Kept.{kept-reach}
@@ -56,6 +59,28 @@ module _ (N L : ℕ) (z : Sized N L) (P : ℕ) where
   pub marks-length : (u : List Bool) → length ((after N L P u) .marks) ≡ allOf N
   marks-length u =
       (kept-reach (coarsestOf N L) (allOf N) u (begin N L P) (begin-kept N L z P)) .long
+
+  -- and holds no mark above MN(N-1): the codes of a table of 4^N marks
+  pub codes-fit : (u : List Bool) (i : ℕ) → getD ((after N L P u) .marks) i 0 ≤ N + 4
+  codes-fit u i = ⊎-elim (λ h. omega (arith, h, z .least, z .most)) far (order (getD ((after N L P u) .marks) i 0) 6)
+    where
+      m : List ℕ
+      m = (after N L P u) .marks
+
+      -- a place with MNk is at least 4^k, and below 4^N
+      high : 6 < getD m i 0 → 4 ^ (getD m i 0 - 5) ≤ i
+      high h =
+          (kept-reach (coarsestOf N L) (allOf N) u (begin N L P) (begin-kept N L z P)) .codes (coarsest-least N L z) i (omega (arith, h))
+
+      there : 6 < getD m i 0 → i < 4 ^ N
+      there h = ⊎-elim (λ s. absurd (omega (arith, h, List·getD-eq-default m 0 {n = i} s))) (λ s. omega (arith, s, marks-length u)) (order (length m) i)
+
+      far : 6 < getD m i 0 → getD m i 0 ≤ N + 4
+      far h =
+          ⊎-elim (λ k. k)
+          (λ k. let up : 4 ^ N ≤ 4 ^ (getD m i 0 - 5) = pow-le-pow-right {n = 4} (omega arith) {i = N} {j = getD m i 0 - 5} (omega (arith, k)) in
+          absurd (omega (arith, up, high h, there h)))
+          (order (getD m i 0) (N + 4))
 
   module _ (A : List ℤ) where
     -- what A answers fits it, for however many planes
