@@ -76,7 +76,7 @@ module _ (N L : ℕ) (A : List ℤ) (descs grands outs budget : ℕ) (ready : En
           let begun : m₀ ≡ startMarks (allOf N) (coarsestOf N L) = em ∙ rw (ea, ec) in
           let same : planes (scanOf (writer A d g cap) all) P (st m₀ out₀ 0) ≡ planes (scanOf (writer A d g cap) (allOf N)) (planesOf A) (st (startMarks (allOf N) (coarsestOf N L)) out₀ 0) = rw (ea, ep, begun) in
           let p =
-          sends N L (planesOf A) A d g says cap out₀ (omega (arith, cut, eo, ready .outRoom)) (omega (arith, cut)) budget cut
+          sends N L (planesOf A) A d g says cap out₀ (omega (arith, cut, eo, ready .outRoom)) z (planes-of A) budget cut
           (omega (arith, side-least N (ready .side))) (side-most N (ready .side)) (coarsest-least N L z) in (
             h .count ∙ ap (λ (x : Ran (Sv Bytes)). last x .rest .n) same ∙ p .count,
             h .marked ∙ ap (λ (x : Ran (Sv Bytes)). last x .marks) same ∙ p .marked,

@@ -1,5 +1,5 @@
 -- The encoder puts the machine's stream, cut at the budget.
-use Prim.Native.Nat.{ℕ, zero, suc, _+_, _-_, _*_, _/_, _%_, _^_, _≤_, _<_, min}
+use Prim.Native.Nat.{ℕ, zero, suc, _+_, _*_, _/_, _%_, _^_, _≤_, _<_, min}
 use mathlib.Core.Path.{_≡_, refl, sym, ap, subst, _∙_}
 use mathlib.Core.Logic.{_⊎_, inl, inr}
 use mathlib.Core.Option.{Option, none, some}
@@ -8,17 +8,19 @@ use mathlib.Core.Bool.{Bool, true, false, false≢true}
 use native.Mathlib.Omega.{arith}
 use lib.IntN.{ℤ}
 use lib.ListN.{length, set, getD, take, drop, length-append}
-use lib.Seq.{take-all, take-at}
-use Rattle.sizes.specs.Sizes.{allOf, coarsestOf}
+use lib.Seq.{take-all}
+use Rattle.sizes.specs.Sizes.{allOf, coarsestOf, Sized}
 use Rattle.bits.specs.Bits.{bit, bytesFor, packed, withBit}
 use Rattle.bits.proofs.Laws.{packed-nil, put-packed}
-use Rattle.coef.specs.Coef.{magAt, negative}
+use Rattle.coef.specs.Coef.{magAt, negative, IsPlanes}
 use Rattle.tree.specs.Summaries.{descOr, grandOr}
 use Rattle.nls.specs.Marks.{startMarks}
 use Rattle.nls.specs.Scan.{Question, bitOf, signOf, inDesc, inGrand, Pass, pixels, State, stateAt, over, silent, asks, look, tell, settle, ask, next, reach}
 use Rattle.nls.specs.Stream.{answer, answers, begin, after, stream, worstBody}
 use Rattle.nls.proofs.Machine.Run.{settle-hush, settle-asks, settle-over}
 use Rattle.nls.proofs.Counting.Sums.{order}
+use Rattle.nls.proofs.Counts.{stream-bound}
+use Rattle.nls.proofs.Streams.{budget-bits}
 use Rattle.walk.specs.Scans.{Ran, out, bad, on, last, planes, leftOf}
 use Rattle.walk.specs.Visits.{Source, Sv, sv, scanOf}
 use Rattle.encoder.specs.Writing.{Bytes, bytes, replies, writer, st}
@@ -59,21 +61,18 @@ answers-zero : (N L : ℕ) (A : List ℤ) (s : State) → answers N L A 0 s ≡ 
 unfolding answers
 answers-zero N L A s = refl
 
-module _ (N L P : ℕ) (A : List ℤ) (d g : List ℕ) (says : Says N L A d g) (cap : ℕ) (held : List ℕ) (room : cap ≤ 8 * length held) (fits : cap ≤ worstBody N L P) where
+module _ (N L P : ℕ) (A : List ℤ) (d g : List ℕ) (says : Says N L A d g) (cap : ℕ) (held : List ℕ) (room : cap ≤ 8 * length held) where
   abbrev I : ℕ
   I = 4 ^ N
-
-  abbrev most : ℕ
-  most = worstBody N L P
 
   abbrev K : Source Bytes
   K = writer A d g cap
 
-  -- so far: the bits, where they lead, what the stream still has, and what is put
+  -- so far: the bits, where they lead, that they are the first answers and which follow, and what is put
   pub record Far (s : State) (o : Bytes) : Type 0 where
     pub bits : List Bool
     pub led : Led N (begin N L P) s bits
-    pub rest : stream N L P A ≡ bits ++ answers N L A (most - length bits) (settle I s)
+    pub rest : (n : ℕ) → answers N L A (length bits + n) (begin N L P) ≡ bits ++ answers N L A n (settle I s)
     pub count : o .n ≡ length bits
     pub wrote : o .out ≡ packed bits ++ drop (bytesFor (length bits)) held
 
@@ -85,18 +84,18 @@ module _ (N L P : ℕ) (A : List ℤ) (d g : List ℕ) (says : Says N L A d g) (
       let u : List Bool = f .bits in
       let y : replies A d g q ≡ answer N L A q = true-reply N L A d g says q p in
       let l : length (u ++ a ∷ []) ≡ length u + 1 = length-append u (a ∷ []) in
-      let k : most - length u ≡ suc (most - length (u ++ a ∷ [])) = omega (arith, l, h, f .count, fits) in
+      let k : (n : ℕ) → length (u ++ a ∷ []) + n ≡ length u + suc n = λ n. omega (arith, l) in
       let t : settle I s ≡ s = settle-asks I s q e in
-      let r₁ : answers N L A (most - length u) (settle I s) ≡ a ∷ answers N L A (most - length (u ++ a ∷ [])) (settle I (tell I s a)) =
-      ap (λ (x : State). answers N L A (most - length u) x) t
-      ∙ ap (λ (x : ℕ). answers N L A x s) k
-      ∙ answers-some N L A (most - length (u ++ a ∷ [])) s q (asks-some I s q e)
-      ∙ ap {B = List Bool} (λ (x : Bool). x ∷ answers N L A (most - length (u ++ a ∷ [])) (next I s x)) (sym y) in
+      let r₁ : (n : ℕ) → answers N L A (suc n) (settle I s) ≡ a ∷ answers N L A n (settle I (tell I s a)) = λ n.
+      ap (λ (x : State). answers N L A (suc n) x) t
+      ∙ answers-some N L A n s q (asks-some I s q e)
+      ∙ ap {B = List Bool} (λ (x : Bool). x ∷ answers N L A n (next I s x)) (sym y) in
       let b : bytesFor (length u + 1) ≡ bytesFor (length (u ++ a ∷ [])) = ap (λ (x : ℕ). bytesFor x) (sym l) in
       record {
         bits = u ++ a ∷ [];
         led = led-told N (begin N L P) s u q a (f .led) e;
-        rest = f .rest ∙ ap (λ (x : List Bool). u ++ x) r₁ ∙ sym (append-assoc u (a ∷ []) (answers N L A (most - length (u ++ a ∷ [])) (settle I (tell I s a))));
+        rest = λ n. ap (λ (x : ℕ). answers N L A x (begin N L P)) (k n) ∙ f .rest (suc n) ∙ ap (λ (x : List Bool). u ++ x) (r₁ n)
+            ∙ sym (append-assoc u (a ∷ []) (answers N L A n (settle I (tell I s a))));
         count = omega (arith, l, f .count);
         wrote = ap (λ (x : ℕ). withBit (o .out) x a) (f .count) ∙ ap (λ (x : List ℕ). withBit x (length u) a) (f .wrote)
             ∙ put-packed u held a (omega (arith, h, f .count, room)) ∙ ap (λ (x : ℕ). packed (u ++ a ∷ []) ++ drop x held) b;
@@ -108,7 +107,7 @@ module _ (N L P : ℕ) (A : List ℤ) (d g : List ℕ) (says : Says N L A d g) (
         silence = λ s r o f e. record {
           bits = f .bits;
           led = led-silent N (begin N L P) s r (f .bits) (f .led) e;
-          rest = f .rest ∙ ap (λ (x : State). f .bits ++ answers N L A (most - length (f .bits)) x) (settle-hush I s r e);
+          rest = λ n. f .rest n ∙ ap (λ (x : State). f .bits ++ answers N L A n x) (settle-hush I s r e);
           count = f .count;
           wrote = f .wrote;
         };
@@ -117,27 +116,40 @@ module _ (N L P : ℕ) (A : List ℤ) (d g : List ℕ) (says : Says N L A d g) (
       }
 
   first : Far (stateAt P pixels 0 (startMarks I (coarsestOf N L))) (bytes held 0)
-  unfolding stream reach
+  unfolding reach
   first =
       record {
         bits = [];
         led = led-start N (coarsestOf N L) P;
-        rest = ap (λ (x : State). answers N L A most x) (sym (led-start N (coarsestOf N L) P)) ∙ ap (λ (k : ℕ). answers N L A k (settle I (stateAt P pixels 0 (startMarks I (coarsestOf N L))))) {x = most} {y = most - 0} (omega arith);
+        rest = λ n. ap (λ (k : ℕ). answers N L A k (begin N L P)) {x = 0 + n} {y = n} (omega arith) ∙ ap (λ (x : State). answers N L A n x) (sym (led-start N (coarsestOf N L) P));
         count = refl;
         wrote = ap (λ (x : List ℕ). x ++ held) (sym packed-nil);
       }
 
   -- the bits are the stream's first ones, for a budget that is cut to the worst body
-  module _ (budget : ℕ) (cut : cap ≡ min budget most) where
-    taken : (u : List Bool) (n : ℕ) (s : State) → length u ≡ cap → stream N L P A ≡ u ++ answers N L A (most - length u) s → take budget (stream N L P A) ≡ u
-    taken u n s h e = go (order budget most)
+  module _ (sized : Sized N L) (planes-are : IsPlanes A P) (budget : ℕ) (cut : cap ≡ min budget (worstBody N L P)) where
+    -- the cap takes no more off than the budget does
+    capped : take budget (stream N L P A) ≡ take cap (stream N L P A)
+    capped = go (order budget (worstBody N L P))
       where
-        go : (budget ≤ most) ⊎ (most < budget) → take budget (stream N L P A) ≡ u
-        go (inl l) = ap (λ (x : List Bool). take budget x) e ∙ take-at u (answers N L A (most - length u) s) budget (omega (arith, h, cut, l))
+        go : (budget ≤ worstBody N L P) ⊎ (worstBody N L P < budget) → take budget (stream N L P A) ≡ take cap (stream N L P A)
+        go (inl l) = let e : budget ≡ cap = omega (arith, cut, l) in ap (λ (k : ℕ). take k (stream N L P A)) e
         go (inr l) =
-            let z : most - length u ≡ 0 = omega (arith, h, cut, l) in
-            ap (λ (x : List Bool). take budget x) (e ∙ ap (λ (k : ℕ). u ++ answers N L A k s) z ∙ ap (λ (x : List Bool). u ++ x) (answers-zero N L A s) ∙ append-nil u)
-            ∙ take-all budget u (omega (arith, h, cut, l))
+            take-all budget (stream N L P A) (omega (arith, l, stream-bound N L P sized A planes-are))
+            ∙ sym (take-all cap (stream N L P A) (omega (arith, cut, l, stream-bound N L P sized A planes-are)))
+
+    taken : (u : List Bool) (s : State) → length u ≡ cap → ((n : ℕ) → answers N L A (length u + n) (begin N L P) ≡ u ++ answers N L A n s) → take budget (stream N L P A) ≡ u
+    taken u s h e =
+        let k : cap ≡ length u + 0 = omega (arith, h) in
+        capped ∙ sym (budget-bits N L sized P A (planes-are .below) cap) ∙ ap (λ (x : ℕ). answers N L A x (begin N L P)) k
+        ∙ e 0 ∙ ap (λ (x : List Bool). u ++ x) (answers-zero N L A s) ∙ append-nil u
+
+    -- where nothing follows they are all
+    all-taken : (u : List Bool) (s : State) → ask I s ≡ none → ((n : ℕ) → answers N L A (length u + n) (begin N L P) ≡ u ++ answers N L A n s) → stream N L P A ≡ u
+    all-taken u s h e =
+        let n : ℕ = length (stream N L P A) in
+        sym (take-all (length u + n) (stream N L P A) (omega arith)) ∙ sym (budget-bits N L sized P A (planes-are .below) (length u + n))
+        ∙ e n ∙ ap (λ (x : List Bool). u ++ x) (answers-none N L A n s h) ∙ append-nil u
 
     abbrev sent : List Bool
     sent = take budget (stream N L P A)
@@ -162,14 +174,13 @@ module _ (N L P : ℕ) (A : List ℤ) (d g : List ℕ) (says : Says N L A d g) (
       where
         go : (l : ℕ) (r : Ran (Sv Bytes)) → Ended K N Far l r → Put N L P A held sent (last r .rest .n) (last r .marks) (last r .rest .out)
         go l (out v) (dry s q o f e b c _ h) =
-            put (f .bits) (o .n) (s .marks) (o .out) (taken (f .bits) (o .n) (settle I s) (omega (arith, f .count, b, c)) (f .rest)) (f .count) (f .wrote)
+            put (f .bits) (o .n) (s .marks) (o .out) (taken (f .bits) (settle I s) (omega (arith, f .count, b, c)) (f .rest)) (f .count) (f .wrote)
             (ap (λ (x : State). x .marks) (led-there N (begin N L P) s (f .bits) q (f .led) e))
         go l (bad v) (barred b i q m o f e li h x z) = absurd (false≢true z)
         go l (on v) (z, h) =
             let f : Far (stateAt 0 pixels 0 (v .marks)) (v .rest) = h .held in
             let t : settle I (stateAt 0 pixels 0 (v .marks)) ≡ stateAt 0 pixels 0 (v .marks) = settle-over I (stateAt 0 pixels 0 (v .marks)) refl in
             let w : stream N L P A ≡ f .bits =
-            f .rest ∙ ap (λ (x : State). f .bits ++ answers N L A (most - length (f .bits)) x) t
-            ∙ ap (λ (x : List Bool). f .bits ++ x) (answers-none N L A (most - length (f .bits)) (stateAt 0 pixels 0 (v .marks)) (over-none I (v .marks))) ∙ append-nil (f .bits) in
+            all-taken (f .bits) (stateAt 0 pixels 0 (v .marks)) (over-none I (v .marks)) (λ n. f .rest n ∙ ap (λ (x : State). f .bits ++ answers N L A n x) t) in
             put (f .bits) (v .rest .n) (v .marks) (v .rest .out) (ap (λ (x : List Bool). take budget x) w ∙ take-all budget (f .bits) (omega (arith, f .count, h .cap, cut))) (f .count) (f .wrote)
             (ap (λ (x : State). x .marks) (led-over N (begin N L P) (stateAt 0 pixels 0 (v .marks)) (f .bits) (f .led) refl))

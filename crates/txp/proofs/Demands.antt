@@ -26,6 +26,7 @@ use Rattle.nls.specs.Stream.{stream, worstBody}
 use Rattle.nls.specs.Reading.{midpoint, valueBy, highBits, precisionAt, valuesBy, precisions, planesFinished, worstError}
 use Rattle.nls.specs.Judging.{Begins, Fits, Verdict, taken, contradiction, beyond}
 use Rattle.nls.proofs.Demands as scan
+use Rattle.nls.proofs.Counts.{stream-bound}
 use Rattle.room.specs.Ready.{EncodeReady}
 use Rattle.room.proofs.Laws.{encode-ready}
 use Rattle.encoder.specs.Body.{sentBits, sentMarks}
@@ -79,7 +80,7 @@ module _ (N L : ℕ) (side : sideFits N ≡ true) (levels : levelsFit N L ≡ tr
 
   -- and check 6's room is always enough for them: demand 3's bound makes it so
   pub room-enough : headerSize + bytesFor (length (sentBits N L A budget)) ≤ headerSize + bytesFor (min budget (worstBody N L (planesOf A)))
-  room-enough = omega (arith, length-take budget (stream N L (planesOf A) A), scan.bound N L (planesOf A) z A planes)
+  room-enough = omega (arith, length-take budget (stream N L (planesOf A) A), stream-bound N L (planesOf A) z A planes)
 
   -- its usable bits are the bits that were written
   pub written-bits : usableBits (fileOf N L A budget) ≡ sentBits N L A budget

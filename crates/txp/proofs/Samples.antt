@@ -9,7 +9,7 @@ use Rattle.tree.specs.Tree.{children, descendants, desc, grand}
 use Rattle.tree.specs.Summaries.{orAll, descOr, grandOr}
 use Rattle.nls.specs.Marks.{skip, setSkip, pushFrom, pushRoots, startMarks}
 use Rattle.nls.specs.Scan.{silently, settle, ask, next, start}
-use Rattle.nls.specs.Stream.{answer, answers, worstBody, stream}
+use Rattle.nls.specs.Stream.{answer, answers, stream}
 use Rattle.nls.specs.Samples.{Holds, Each, linear, picture, pictured}
 use Rattle.nls.proofs.Samples as scan
 use Rattle.txp.specs.Header.{headerBytes}
@@ -17,12 +17,12 @@ use Rattle.txp.specs.Samples.{file, pictureFile, samples}
 
 file-holds : Holds file
 unfolding linear table bit packed number planesOf largest digits children descendants desc grand flatMap orAll descOr grandOr
-    skip setSkip pushFrom pushRoots startMarks silently settle ask next start answer answers worstBody stream headerBytes
+    skip setSkip pushFrom pushRoots startMarks silently settle ask next start answer answers stream headerBytes
 file-holds = refl
 
 picture-holds : Holds pictureFile
 unfolding picture pictured linearly toRaster rowOf colOf table bit packed number planesOf largest digits children descendants desc grand flatMap orAll descOr grandOr
-    skip setSkip pushFrom pushRoots startMarks silently settle ask next start answer answers worstBody stream headerBytes
+    skip setSkip pushFrom pushRoots startMarks silently settle ask next start answer answers stream headerBytes
 picture-holds = refl
 
 pub all-samples : Each samples
