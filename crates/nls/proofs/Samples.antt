@@ -1,4 +1,4 @@
--- The starred samples hold, by computation.
+-- The samples hold, by computation.
 use mathlib.Core.Path.{refl, subst}
 use mathlib.Core.Bool.{Bool, true, false}
 use mathlib.Core.List.{List, _∷_, _++_, flatMap}
@@ -39,4 +39,4 @@ unfolding body raster linear whole valuesAt errorAt picture pictured wholePictur
     children descendants desc grand anyIn flatMap orAll descOr grandOr skip setSkip pushFrom pushRoots startMarks
     silently settle ask next reach start answer answers worstBody stream during
     sumTo found descSplit grandSplit standsAlone descStands grandStands parts splits nonzeros learned valueBy
-all-samples = (refl, (refl, (refl, (refl, (refl, (refl, (refl, (refl, (refl, (refl, (refl, (refl, (refl, (refl, (six, (eight, (refl, (refl, (refl, (refl, (refl, (refl, tt))))))))))))))))))))))
+all-samples = (refl, (refl, (refl, (refl, (refl, (refl, (refl, (refl, (refl, (refl, (refl, (refl, (refl, (refl, (six, (eight, (refl, (refl, (refl, (refl, (refl, (refl, (refl, tt)))))))))))))))))))))))

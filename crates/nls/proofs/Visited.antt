@@ -28,7 +28,7 @@ pub data Passed (N L P : ℕ) : State → Type 0 where
   moved : (s t : State) → Passed N L P s → look (allOf N) s ≡ silent t → Passed N L P t
   told : (s : State) (q : Question) (a : Bool) → Passed N L P s → look (allOf N) s ≡ asks q → Passed N L P (tell (allOf N) s a)
 
--- what is known where any answer may be given: nothing that an answer could fail to bring
+-- for the invariant of Machine/Steps: nothing that an answer must bring, so that any answer keeps it
 abbrev free : Fam
 free = record {
   X = λ b j. Unit {0};
@@ -89,7 +89,7 @@ module _ {D I : ℕ} (sz : Tiled D I) (P : ℕ) where
       p : Sets sz (preds free b) (λ j. Unit {0}) i (g .1 .0) m
       p = g .1 .1
 
-      -- the scan is within four only at MCP
+      -- at a place that is no multiple of 4 the mark is MCP
       aligned : Dec (i % 4 ≡ 0) → i % 4 ≡ 0
       aligned (yes z) = z
       aligned (no z) = absurd (eqb-false (getD m i 0) 4 ec (p .core .tab .solo i hi ((p .ali z) .1) ∙ (p .ali z) .2))

@@ -51,7 +51,15 @@ picture =
 
 -- in linear order, and its whole stream
 unfoldable pub pictured : List ℤ
-pictured = linearly 3 picture
+pictured =
+    pos 63 ∷ negsuc 33 ∷ negsuc 30 ∷ pos 23 ∷ pos 49 ∷ pos 10 ∷ pos 14 ∷ negsuc 12
+    ∷ pos 15 ∷ pos 14 ∷ negsuc 8 ∷ negsuc 6 ∷ pos 3 ∷ negsuc 11 ∷ negsuc 13 ∷ pos 8
+    ∷ pos 7 ∷ pos 13 ∷ pos 3 ∷ pos 4 ∷ negsuc 11 ∷ pos 7 ∷ pos 6 ∷ negsuc 0
+    ∷ pos 5 ∷ negsuc 6 ∷ pos 4 ∷ negsuc 1 ∷ pos 3 ∷ pos 9 ∷ pos 3 ∷ pos 2
+    ∷ negsuc 4 ∷ pos 9 ∷ pos 3 ∷ pos 0 ∷ negsuc 0 ∷ pos 47 ∷ negsuc 2 ∷ pos 2
+    ∷ pos 2 ∷ negsuc 2 ∷ pos 5 ∷ pos 11 ∷ pos 6 ∷ negsuc 3 ∷ pos 5 ∷ pos 6
+    ∷ pos 4 ∷ pos 6 ∷ pos 3 ∷ negsuc 1 ∷ negsuc 1 ∷ pos 2 ∷ pos 0 ∷ pos 4
+    ∷ pos 3 ∷ pos 6 ∷ pos 0 ∷ pos 3 ∷ pos 3 ∷ pos 6 ∷ negsuc 3 ∷ pos 4 ∷ []
 
 unfoldable pub wholePicture : List Bool
 wholePicture = stream 3 2 6 pictured
@@ -97,7 +105,8 @@ scanSamples =
     ∷ judged 1 (replicate 4 false ++ (true ∷ replicate 4 false)) (contradiction 8)
     -- "worst body for N=2, L=1, P=3 is 67"
     ∷ numbers (worstBody 2 1 3 ∷ []) (67 ∷ [])
-    -- the picture: P, then bits, parts and sets split of each plane, then its body
+    -- the picture: its order and P, then bits, parts and sets split of each plane, then its body
+    ∷ coefficients (linearly 3 picture) pictured
     ∷ numbers (planesOf pictured ∷ []) (6 ∷ [])
     ∷ numbers (map (λ b. length (during 3 b (begin 3 2 6) wholePicture)) (5 ∷ 4 ∷ 3 ∷ 2 ∷ 1 ∷ 0 ∷ [])) (29 ∷ 23 ∷ 64 ∷ 92 ∷ 82 ∷ 66 ∷ [])
     ∷ numbers (map (λ b. parts 3 2 pictured b) (5 ∷ 4 ∷ 3 ∷ 2 ∷ 1 ∷ 0 ∷ [])) (21 ∷ 21 ∷ 43 ∷ 64 ∷ 64 ∷ 64 ∷ [])

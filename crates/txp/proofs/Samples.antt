@@ -3,14 +3,13 @@ use mathlib.Core.Path.{refl}
 use mathlib.Core.List.{flatMap}
 use Rattle.sizes.specs.Tables.{table}
 use Rattle.bits.specs.Bits.{bit, packed, number}
-use Rattle.places.specs.Order.{linearly, toRaster, rowOf, colOf}
 use Rattle.coef.specs.Coef.{planesOf, largest, digits}
 use Rattle.tree.specs.Tree.{children, descendants, desc, grand}
 use Rattle.tree.specs.Summaries.{orAll, descOr, grandOr}
 use Rattle.nls.specs.Marks.{skip, setSkip, pushFrom, pushRoots, startMarks}
 use Rattle.nls.specs.Scan.{silently, settle, ask, next, start}
 use Rattle.nls.specs.Stream.{answer, answers, stream}
-use Rattle.nls.specs.Samples.{Holds, Each, linear, picture, pictured}
+use Rattle.nls.specs.Samples.{Holds, Each, linear, pictured}
 use Rattle.nls.proofs.Samples as scan
 use Rattle.txp.specs.Header.{headerBytes}
 use Rattle.txp.specs.Samples.{file, pictureFile, samples}
@@ -21,7 +20,7 @@ unfolding linear table bit packed number planesOf largest digits children descen
 file-holds = refl
 
 picture-holds : Holds pictureFile
-unfolding picture pictured linearly toRaster rowOf colOf table bit packed number planesOf largest digits children descendants desc grand flatMap orAll descOr grandOr
+unfolding pictured table bit packed number planesOf largest digits children descendants desc grand flatMap orAll descOr grandOr
     skip setSkip pushFrom pushRoots startMarks silently settle ask next start answer answers stream headerBytes
 picture-holds = refl
 
