@@ -1,6 +1,8 @@
-// Whole streams of 256 x 256 coefficients, L = 5, through plain C, C written for speed, and the proved library.
+// Whole streams of 256 x 256 coefficients, L = 5, through plain C, C written for speed, and the proved library; and the
+// change between the two orders of such an array, in plain C and in the proved library.
 //   bench count 12|20 plain|fast|txp   encodes and decodes once: what callgrind counts (bench.sh)
-//   bench time REPS                    the best time of each, in ns for each coded bit
+//   bench order plain|txp              both changes of order once: the same
+//   bench time REPS                    the best time of each coder, in ns for each coded bit
 #define _GNU_SOURCE
 #include "../include/txp.h"
 #include "gen.h"
@@ -36,6 +38,29 @@ static const struct { const char *name; nls_encoder *encode; nls_decoder *decode
     {"fast", nls_fast_encode, nls_fast_decode},
     {"txp", txp_bench_encode, txp_bench_decode},
 };
+
+void txp_bench_linear(const int32_t *from, unsigned n, int32_t *to) {
+    txp_answer a;
+    txp_to_linear(n, from, I, to, I, &a);
+}
+
+void txp_bench_raster(const int32_t *from, unsigned n, int32_t *to) {
+    txp_answer a;
+    txp_to_raster(n, from, I, to, I, &a);
+}
+
+// There and back; the linear array is that of plain C.
+static int order(const char *name) {
+    static int32_t raster[I], first[I];
+    int proved = !strcmp(name, "txp");
+    for (uint32_t p = 0; p < I; p++) raster[p] = (int32_t)(p * 2654435761u);
+    if (proved) nls_plain_linear(raster, N, first);
+    (proved ? txp_bench_linear : nls_plain_linear)(raster, N, coef);
+    (proved ? txp_bench_raster : nls_plain_raster)(coef, N, values);
+    if (memcmp(values, raster, sizeof raster) || (proved && memcmp(coef, first, sizeof first)))
+        return printf("order, %s: wrong\n", name), 1;
+    return 0;
+}
 
 static void data(int planes) {
     gen_laplace(coef, N, L, 4, 3, 4095);
@@ -79,6 +104,7 @@ int main(int argc, char **argv) {
                 return printf("%u\n", bits), 0;
             }
     }
+    if (argc == 3 && !strcmp(argv[1], "order")) return order(argv[2]);
     if (argc == 3 && !strcmp(argv[1], "time") && atoi(argv[2]) > 1) {
         for (int planes = 12; planes <= 20; planes += 8) {
             gen_state = 0x9e3779b97f4a7c15u;
@@ -90,5 +116,5 @@ int main(int argc, char **argv) {
         }
         return 0;
     }
-    return fprintf(stderr, "usage: bench count 12|20 plain|fast|txp, or bench time REPS\n"), 2;
+    return fprintf(stderr, "usage: bench count 12|20 plain|fast|txp, bench order plain|txp, or bench time REPS\n"), 2;
 }

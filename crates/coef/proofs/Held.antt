@@ -3,16 +3,16 @@ use mathlib.Core.Path.{_≡_, refl, sym, _∙_, ap, subst}
 use mathlib.Core.Bool.{Bool, true, false, true≢false, false≢true}
 use Prim.Native.Nat.{ℕ, zero, suc, _+_, _<_, _≤_, _^_}
 use native.Mathlib.Omega.{arith}
-use lib.Arith.{lt-of-le-ne}
+use borrow.Author.Tests.{ltb-true, ltb-false, le-leb, lt-leb}
 use lib.Dec.{T, leb·suc-zero, le→leb, lt→ltb}
 use lib.Ieee.{binary32, inFloat}
 use lib.IntN.{ℤ, pos, negsuc, sucℤ, negℤ, _+ℤ_, _-ℤ_, +ℤ-idl, +ℤ-one}
-use lib.Signed.{ltZ, nonNeg, mag}
+use lib.Signed.{ltZ, leZ, nonNeg, mag}
 use mir.Facts.{toZ-ofZ, toZ-pos}
 use mir.Syntax.{w32}
 use mir.Val.{SFits, Fits, ofZ, toZ}
 use Rattle.sizes.specs.Sizes.{limit}
-use Rattle.coef.specs.Coef.{negative, magnitude, signed}
+use Rattle.coef.specs.Coef.{negative, magnitude, signed, within}
 
 -- an element of a `&[i32]`, as a read hands it over
 pub read-back : (z : ℤ) → mag z < 2 ^ 31 → toZ w32 (ofZ w32 z) ≡ z
@@ -26,14 +26,21 @@ lt-zero z f = ap (λ (y : ℤ). ltZ y (pos 0)) (toZ-ofZ f) ∙ go z
     go (pos a) = leb·suc-zero a
     go (negsuc a) = refl
 
--- the least number, by its bits
-pub not-least : (z : ℤ) → SFits w32 z → (ofZ w32 z ≡ 2147483648 → ⊥) → magnitude z < 2 ^ 31
-not-least (pos a) f n = f .sfits
-not-least (negsuc a) f n = lt-of-le-ne (f .sfits) (λ (e : suc a ≡ 2147483648). n (omega arith))
+-- the tests against the least and the largest coefficient, which are the limit with a sign
+pub under-least : (z : ℤ) → SFits w32 z → ltZ (toZ w32 (ofZ w32 z)) (signed true limit) ≡ true → within z ≡ false
+under-least z f e = go z (ap (λ (y : ℤ). ltZ y (signed true limit)) (sym (toZ-ofZ f)) ∙ e)
+  where
+    go : (z : ℤ) → ltZ z (signed true limit) ≡ true → within z ≡ false
+    go (pos a) e = absurd (false≢true e)
+    go (negsuc a) e = lt-leb (suc a) limit (omega (arith, ltb-true 16777214 a e))
 
-pub least : (z : ℤ) → SFits w32 z → ofZ w32 z ≡ 2147483648 → magnitude z ≡ 2147483648
-least (pos a) f e = omega (arith, f .sfits)
-least (negsuc a) f e = omega (arith, f .sfits)
+pub up-to-most : (z : ℤ) → SFits w32 z → ltZ (toZ w32 (ofZ w32 z)) (signed true limit) ≡ false → leZ (toZ w32 (ofZ w32 z)) (signed false limit) ≡ within z
+up-to-most z f e =
+    ap (λ (y : ℤ). leZ y (signed false limit)) (toZ-ofZ f) ∙ go z (ap (λ (y : ℤ). ltZ y (signed true limit)) (sym (toZ-ofZ f)) ∙ e)
+  where
+    go : (z : ℤ) → ltZ z (signed true limit) ≡ false → leZ z (signed false limit) ≡ within z
+    go (pos a) e = refl
+    go (negsuc a) e = sym (le-leb (suc a) limit (omega (arith, ltb-false 16777214 a e)))
 
 -- a checked negation
 neg-fits : (z : ℤ) → magnitude z < 2 ^ 31 → SFits w32 (negℤ z)

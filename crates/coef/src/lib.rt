@@ -3,6 +3,8 @@ use refusals::Refusal;
 use sizes::LIMIT;
 ghost use mathlib.Core.Path.{_≡_};
 ghost use Prim.Native.Nat.{ℕ, _≤_, _<_, _^_, max};
+ghost use lib.Dec.{eqb};
+ghost use lib.ListN.{length};
 ghost use Rattle.sizes.specs.Sizes.{limit};
 ghost use Rattle.coef.specs.Coef.{negative, magnitude, signed, within, magAt, partedOf, joinedOf, firstOver, IsPlanes, floatOf, Exactly};
 
@@ -26,8 +28,10 @@ pub enum Float {
     Refused(Refusal),
 }
 
-// The least 32-bit signed number, which has no negative in its type.
-const LEAST: i32 = -2147483648;
+// The least and the largest coefficient: the limit, with a sign.
+const LEAST_COEFFICIENT: i32 = -16777215;
+
+const MOST_COEFFICIENT: i32 = 16777215;
 
 // Whether x is below 0.
 pub fn is_negative(x: i32) -> bool
@@ -57,21 +61,28 @@ pub fn magnitude(x: i32) -> u32
     x as u32
 }
 
-// Sign and magnitude of a coefficient. The least number is refused before any negation.
+// Whether a coefficient is within the limit. Nothing is negated, since the least number has no negative in its type.
+fn is_within(x: i32) -> bool
+    ensures { λ r. ⌜ r ≡ within x ⌝ }
+{
+    if x < LEAST_COEFFICIENT {
+        return false;
+    }
+    x <= MOST_COEFFICIENT
+}
+
+// Sign and magnitude of a coefficient. What is over the limit is refused before any negation, the least number with it.
 pub fn part_of(x: i32) -> Parted
     ensures { λ r. ⌜ r ≡ partedOf x ⌝ }
 {
-    if x == LEAST {
+    if !is_within(x) {
         return Parted::TooLarge;
     }
     let size = negated_if_below(x);
-    if size <= LIMIT {
-        return Parted::Is(Signed {
-            negative: x < 0,
-            magnitude: size,
-        });
-    }
-    Parted::TooLarge
+    Parted::Is(Signed {
+        negative: x < 0,
+        magnitude: size,
+    })
 }
 
 // A magnitude within the limit, with a sign.
@@ -97,18 +108,25 @@ pub fn join_of(s: Signed) -> Joined
     Joined::TooLarge
 }
 
-// Whether a coefficient is within the limit.
-fn is_within(x: i32) -> bool
-    ensures { λ r. ⌜ r ≡ within x ⌝ }
+// Whether every coefficient is within the limit. The walk has no early end and no branch, so that several entries are taken at a time.
+fn all_within(a: &[i32]) -> bool
+    ensures { λ r. ⌜ r ≡ eqb (firstOver (now (a .entry))) (length (now (a .entry))) ⌝ }
 {
-    magnitude(x) <= LIMIT
+    let mut all = true;
+    let mut i = 0;
+    while i < a.len() {
+        let x = a[i];
+        all = all & is_within(x);
+        i += 1;
+    }
+    all
 }
 
 // The first place of a coefficient over the limit, or the length where there is none.
 pub fn first_over(a: &[i32]) -> usize
     ensures { λ r. ⌜ r ≡ firstOver (now (a .entry)) ⌝ }
 {
-    if largest(a) <= LIMIT {
+    if all_within(a) {
         return a.len();
     }
     let mut i = 0;

@@ -2,4 +2,5 @@ pub mod Laws
 pub mod Sample
 pub mod Decided
 pub mod Lookups
+pub mod Fours
 pub mod Checks

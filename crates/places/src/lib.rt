@@ -4,8 +4,9 @@ mod tables;
 use refusals::Outcome;
 use refusals::Refusal;
 ghost use mathlib.Core.Path.{_≡_};
-ghost use Prim.Native.Nat.{_≤_, _<_, _^_};
-ghost use lib.ListN.{length};
+ghost use Prim.Native.Nat.{_+_, _≤_, _<_, _^_};
+ghost use lib.IntN.{pos};
+ghost use lib.ListN.{length, getD, set};
 ghost use Rattle.refusals.specs.Checks.{firstOf, lentAfter};
 ghost use Rattle.refusals.specs.declared.Outcome.the-variants.{Done};
 ghost use Rattle.places.specs.Spread.{spreader};
@@ -144,24 +145,49 @@ fn check_arrays(n: u32, input: usize, output: usize) -> Outcome
     Outcome::Refused(Refusal::Side)
 }
 
-// Fills the first 4^n entries of the output, from the front.
+// The side of the square.
+fn side_of(n: u32) -> usize
+    requires { ⌜ n ≤ 16 ⌝ }
+    ensures { λ r. ⌜ r ≡ 2 ^ n ⌝ }
+{
+    1usize << n
+}
+
+// Four entries of the output, from `first` on: two entries that follow one another, and the two that lie `step` further.
+fn copy_four(from: &[i32], at: usize, step: usize, to: &mut [i32], first: usize)
+    requires { ⌜ (at + step + 1 < length (now from)) × (first + 3 < length (now to)) ⌝ }
+    ensures { λ r. ⌜ now (to .exit) ≡ set (set (set (set (now (to .entry)) first (getD (now (from .entry)) at (pos 0))) (first + 1) (getD (now (from .entry)) (at + 1) (pos 0)))
+        (first + 2) (getD (now (from .entry)) (at + step) (pos 0))) (first + 3) (getD (now (from .entry)) (at + step + 1) (pos 0)) ⌝ }
+{
+    let a = from[at];
+    let b = from[at + 1];
+    let c = from[at + step];
+    let d = from[at + step + 1];
+    to[first] = a;
+    to[first + 1] = b;
+    to[first + 2] = c;
+    to[first + 3] = d;
+}
+
+// Fills the first 4^n entries of the output, from the front, four at a time: four linear places lie in two rows.
 fn fill_linear(n: u32, from: &[i32], to: &mut [i32])
-    requires { ⌜ (n ≤ 16) × (length (now from) ≡ 4 ^ n) × (4 ^ n ≤ length (now to)) ⌝ }
+    requires { ⌜ (2 ≤ n) × (n ≤ 16) × (length (now from) ≡ 4 ^ n) × (4 ^ n ≤ length (now to)) ⌝ }
     ensures { λ r. ⌜ now (to .exit) ≡ lentAfter Done (linearly n (now (from .entry))) (now (to .entry)) ⌝ }
 {
     let entries = tables::gather_table();
+    let side = side_of(n);
     let mut q: usize = 0;
     while q < from.len() {
         let p = separate(&entries, n, Linear(q as u32));
         let at = p.0 as usize;
-        let v = from[at];
-        to[q] = v;
-        q += 1;
+        copy_four(from, at, side, to, q);
+        q += 4;
     }
 }
 
+// The same for raster places: four of them lie in one row, and so in two fours of linear places.
 fn fill_raster(n: u32, from: &[i32], to: &mut [i32])
-    requires { ⌜ (n ≤ 16) × (length (now from) ≡ 4 ^ n) × (4 ^ n ≤ length (now to)) ⌝ }
+    requires { ⌜ (2 ≤ n) × (n ≤ 16) × (length (now from) ≡ 4 ^ n) × (4 ^ n ≤ length (now to)) ⌝ }
     ensures { λ r. ⌜ now (to .exit) ≡ lentAfter Done (rasterly n (now (from .entry))) (now (to .entry)) ⌝ }
 {
     let entries = tables::spread_table();
@@ -169,9 +195,8 @@ fn fill_raster(n: u32, from: &[i32], to: &mut [i32])
     while p < from.len() {
         let q = interleave(&entries, n, Raster(p as u32));
         let at = q.0 as usize;
-        let v = from[at];
-        to[p] = v;
-        p += 1;
+        copy_four(from, at, 4, to, p);
+        p += 4;
     }
 }
 

@@ -5,14 +5,12 @@ use Prim.Native.Nat.{ℕ, suc, _+_, _-_, _≤_, _<_}
 use native.Mathlib.Numerals.{add-one}
 use native.Mathlib.Omega.{arith}
 use borrow.Author.Needs.{needs}
-use borrow.Author.Tests.{not-true, not-false, le-leb}
+use borrow.Author.Tests.{not-true, not-false, eqb-true}
 use lib.IntN.{ℤ, pos}
 use lib.ListN.{length, drop, drop-of-length-le}
 use lib.Seq.{drop-cons}
-use Rattle.sizes.specs.Sizes.{limit}
-use Rattle.coef.specs.Coef.{within, at, magAt, firstOver}
+use Rattle.coef.specs.Coef.{within, at, firstOver}
 use Rattle.coef.proofs.Held.{read-back}
-use Rattle.coef.proofs.Laws.{first-none}
 use Rattle.coef.proofs.first_over.Statement.{statement}
 use Rattle.coef.proofs.first_over.Tie as tie
 
@@ -34,13 +32,13 @@ Inv-loop a i₀ i = (i ≤ length a) × (firstOver a ≡ i + firstOver (drop i a
 abbrev μ-loop : tie.MeasureT-loop
 μ-loop a i₀ i = length a - i
 
-largest-requires : tie.Need-largest-requires Inv-loop μ-loop
-largest-requires c κs = search needs
+all-within-requires : tie.Need-all-within-requires Inv-loop μ-loop
+all-within-requires c κs = search needs
 
 returns : tie.Need-returns Inv-loop μ-loop
 returns c =
     let a = c .before .before .args .a .now in
-    sym (first-none a (λ i. le-leb (magAt a i) limit (omega (arith, c .before .largest .ensures .0 i, c .if1 .taken))))
+    sym (eqb-true (firstOver a) (length a) (sym (c .before .all-within .ensures) ∙ c .if1 .taken))
 
 loop-holds : tie.Need-loop-holds Inv-loop μ-loop
 loop-holds c = search needs
@@ -83,7 +81,7 @@ first-over-spec =
     (tie.spec
     Inv-loop
     μ-loop
-    largest-requires
+    all-within-requires
     returns
     loop-holds
     mul-x

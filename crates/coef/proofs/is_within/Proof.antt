@@ -1,19 +1,13 @@
-use mathlib.Core.Path.{_∙_, ap}
-use Prim.Native.Nat.{ℕ}
-use lib.Dec.{leb}
-use lib.IntN.{ℤ}
-use mir.Facts.{toZ-ofZ}
-use borrow.Author.Needs.{needs}
-use Rattle.sizes.specs.Sizes.{limit}
-use Rattle.coef.specs.Coef.{within}
+use mathlib.Core.Path.{sym}
+use Rattle.coef.proofs.Held.{under-least, up-to-most}
 use Rattle.coef.proofs.is_within.Statement.{statement}
 use Rattle.coef.proofs.is_within.Tie as tie
 
-magnitude-requires : tie.Need-magnitude-requires
-magnitude-requires c κs = search needs
-
 returns : tie.Need-returns
-returns c = ap (λ (m : ℕ). leb m limit) (c .magnitude .ensures) ∙ ap (λ (z : ℤ). within z) (toZ-ofZ (c .before .fits .x))
+returns c = sym (under-least (c .before .args .x) (c .before .fits .x) (c .if1 .taken))
+
+returns-2 : tie.Need-returns-2
+returns-2 c = up-to-most (c .before .args .x) (c .before .fits .x) (c .if1 .left)
 
 pub is-within-spec : {M : Type 1} → statement M
-is-within-spec = tie.close (tie.spec magnitude-requires returns)
+is-within-spec = tie.close (tie.spec returns returns-2)

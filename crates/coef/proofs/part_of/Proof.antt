@@ -1,41 +1,41 @@
-use mathlib.Core.Path.{_≡_, _∙_, ap}
-use mathlib.Core.Bool.{Bool}
-use Prim.Native.Nat.{ℕ, _<_, _≤_}
+use mathlib.Core.Path.{_≡_, sym, _∙_, ap}
+use mathlib.Core.Bool.{Bool, true, false}
+use Prim.Native.Nat.{ℕ}
 use native.Mathlib.Omega.{arith}
-use borrow.Author.Tests.{lt-leb, le-leb}
+use borrow.Author.Needs.{needs}
+use borrow.Author.Tests.{not-true, not-false}
 use mir.Facts.{toZ-ofZ}
-use Rattle.sizes.specs.Sizes.{limit}
-use Rattle.coef.specs.Coef.{negative, magnitude}
+use Rattle.coef.specs.Coef.{negative, magnitude, within}
 use Rattle.coef.specs.declared.Parted.the-variants.{Is}
-use Rattle.coef.proofs.Held.{lt-zero, not-least, least}
+use Rattle.coef.proofs.Held.{lt-zero}
+use Rattle.coef.proofs.Laws.{within-le}
 use Rattle.coef.proofs.part_of.Statement.{statement}
 use Rattle.coef.proofs.part_of.Tie as tie
 
+is-within-requires : tie.Need-is-within-requires
+is-within-requires c κs = search needs
+
+-- what the test answered is so of the coefficient
+told : (c : tie.After-is-within) → c .is-within .result ≡ within (c .before .args .x)
+told c = c .is-within .ensures ∙ ap within (toZ-ofZ (c .before .fits .x))
+
 returns : tie.Need-returns
-returns c =
-    let h : limit < magnitude (c .before .args .x) = omega (arith, least (c .before .args .x) (c .before .fits .x) (c .if1 .taken)) in
-    rw (lt-leb _ _ h)
+returns c = rw (sym (told (c .before)) ∙ not-true (c .before .is-within .result) (c .if1 .taken))
 
 negated-if-below-requires : tie.Need-negated-if-below-requires
 negated-if-below-requires c κs =
-    rw (toZ-ofZ (c .before .fits .x)) (not-least (c .before .args .x) (c .before .fits .x) (c .if1 .left))
+    let x = c .before .before .args .x in
+    rw (toZ-ofZ (c .before .before .fits .x)) (omega (arith, within-le x (sym (told (c .before)) ∙ not-false (c .before .is-within .result) (c .if1 .left))))
 
 returns-2 : tie.Need-returns-2
 returns-2 c =
     let x = c .before .before .before .args .x in
     let f = c .before .before .before .fits .x in
-    let m = c .before .negated-if-below .result in
-    let e : m ≡ magnitude x = c .before .negated-if-below .ensures ∙ ap magnitude (toZ-ofZ f) in
-    let h : magnitude x ≤ limit = omega arith in
-    rw (le-leb _ _ h)
+    let m = c .negated-if-below .result in
+    let e : m ≡ magnitude x = c .negated-if-below .ensures ∙ ap magnitude (toZ-ofZ f) in
+    let w : within x ≡ true = sym (told (c .before .before)) ∙ not-false (c .before .before .is-within .result) (c .before .if1 .left) in
+    rw w
     (ap (λ (n : Bool). Is (record { negative = n; magnitude = m })) (lt-zero x f) ∙ ap (λ (k : ℕ). Is (record { negative = negative x; magnitude = k })) e)
 
-returns-3 : tie.Need-returns-3
-returns-3 c =
-    let x = c .before .before .before .args .x in
-    let e : c .before .negated-if-below .result ≡ magnitude x = c .before .negated-if-below .ensures ∙ ap magnitude (toZ-ofZ (c .before .before .before .fits .x)) in
-    let h : limit < magnitude x = omega arith in
-    rw (lt-leb _ _ h)
-
 pub part-of-spec : {M : Type 1} → statement M
-part-of-spec = tie.close (tie.spec returns negated-if-below-requires returns-2 returns-3)
+part-of-spec = tie.close (tie.spec is-within-requires returns negated-if-below-requires returns-2)

@@ -18,7 +18,7 @@ fill-linear-requires : tie.Need-fill-linear-requires
 fill-linear-requires c κs =
     let a = c .before .before .before .before .args in
     let e = arrays-passed (a .n) (length (a .from .now)) (length (a .to .now)) (sym (c .before .before .before .check-arrays .ensures) ∙ c .before .enum-told .given .1) in
-    (omega (arith, e), e .1, e .2)
+    (e .0, omega (arith, e), e .2, e .3)
 
 enum-told-2 : tie.Need-enum-told-2
 enum-told-2 c = search needs
