@@ -3,3 +3,4 @@ pub mod Sample
 pub mod Decided
 pub mod Lookups
 pub mod Checks
+pub mod Orders
