@@ -4,8 +4,8 @@
   header.py [DIR]     DIR is the repository, by default the one that this file is in
 
 Compared: the exported functions, their order, the name, width, sign and order of each parameter, the result; the answer's fields
-with the source's struct, with the order in which they are put and with the definition `entries`; the refusals' numbers; the limits
-and the sizes to lend; the declarations of examples/rust with the header; and that each public call of the base is exported or is
+with the source's struct, with the order in which they are put and with the definitions `Entry`, `entryOf` and `entries`; the refusals'
+numbers; the limits and the sizes to lend; the declarations of examples/rust with the header; and that each public call of the base is exported or is
 named in docs/DECISIONS.md.
 Exit status 1 where something differs.
 """
@@ -93,7 +93,12 @@ def fields(header):
     for n in names:
         same(f"the field `{n}` as put", answers.count(f"let {n} = a.{n};"), 1)
     spec = read("crates", "ctxp", "specs", "Answers.antt")
-    same("the answer's fields as defined", names, re.findall(r"a \.(\w+)", re.search(r"^entries a =(.*?)\[\]", spec, re.S | re.M)[1]))
+    same("the answer's fields as defined", names, re.search(r"^pub data Entry .*?where\n(.*?) : Entry", spec, re.S | re.M)[1].split())
+    same("the answer's fields as numbered", [(n, str(i)) for i, n in enumerate(names)],
+         re.findall(r"(\w+) ↦ (\d+)", re.search(r"^entryOf e = elim e \[(.*?)\]", spec, re.S | re.M)[1]))
+    same("the numbers of an answer that says nothing", len(names), int(re.search(r"^says \[\] = replicate (\d+) 0", spec, re.M)[1]))
+    inner = read("crates", "ctxp", "specs", "Inner.antt")
+    same("the struct's fields, entry after entry", names, re.findall(r"a \.(\w+)", re.search(r"^entries a =(.*?)\[\]", inner, re.S | re.M)[1]))
     return len(names)
 
 

@@ -1,4 +1,4 @@
--- What the contracts of `encode` and `decode` give together: demand 2 at the level of the calls. The hypotheses are clauses of the two contracts.
+-- What the contracts of `encode` and `decode` give together: demand 2 at the level of the calls. The hypotheses are the two contracts.
 use Prim.Native.Nat.{ℕ, _+_, _*_, _-_, _≤_, _<_, min}
 use mathlib.Core.Path.{_≡_, refl, sym, ap, subst, _∙_}
 use mathlib.Core.Bool.{Bool}
@@ -25,10 +25,10 @@ use Rattle.nls.specs.Reading.{midpoint, valueBy, highBits, precisionAt, valuesB
 use Rattle.nls.specs.Judging.{Begins, Fits, Contradicts, IsBeyond, Verdict, taken, contradiction, beyond, Judged}
 use Rattle.nls.proofs.Demands as demands
 use Rattle.nls.proofs.Verdicts.{judged-only}
-use Rattle.room.specs.Room.{writeChecks, readChecks, bodyBits}
+use Rattle.room.specs.Room.{readChecks, bodyBits}
 use Rattle.room.specs.Ready.{EncodeReady}
 use Rattle.room.proofs.Laws.{encode-ready, decode-well}
-use Rattle.encoder.specs.Body.{sentBits, writeAnswer, writeEnd, sentMarks, outputAfter}
+use Rattle.encoder.specs.Body.{sentBits, writeAnswer, sentMarks, outputAfter, Lent, writeOutcome, Writes}
 use Rattle.decoder.specs.Body.{readAnswer, Tables, tables, ownTables, over, BodyRead, ReadsTo}
 use Rattle.encoder.specs.declared.body.Written.{Written}
 use Rattle.encoder.specs.declared.body.WriteAnswer.{WriteAnswer}
@@ -89,19 +89,17 @@ module _ (N L P : ℕ) (z : Sized N L) (u : List Bool) (held : Tables) (answer :
 
 -- ---- `decode` of what `encode` wrote
 
-module _ (N L : ℕ) (A : List ℤ) (descs grands marks offset budget : ℕ) (out₀ out : List ℕ) (wrote : WriteAnswer)
-    (encoded : wrote ≡ writeAnswer N L A budget (firstOf (writeChecks N L A descs grands marks (length out₀) offset budget)))
-    (written : out ≡ outputAfter (writeEnd wrote) offset (packed (sentBits N L A budget)) out₀)
+module _ (N L : ℕ) (A : List ℤ) (offset budget : ℕ) (held left : Lent) (wrote : WriteAnswer) (writes : Writes N L A offset budget held wrote left)
     (w : Written) (done : wrote ≡ encode.Done w) where
   done-so : (o : Outcome) → writeAnswer N L A budget o ≡ encode.Done w → (o ≡ outcome.Done) × (w ≡ record { planes = planesOf A; bits = length (sentBits N L A budget) })
   done-so outcome.Done e = (refl, cc)
   done-so (outcome.Refused why) e = absurd (let z : _≡_ {A = ℕ} 0 1 = cc in omega arith)
 
-  checked : (firstOf (writeChecks N L A descs grands marks (length out₀) offset budget) ≡ outcome.Done) × (w ≡ record { planes = planesOf A; bits = length (sentBits N L A budget) })
-  checked = done-so (firstOf (writeChecks N L A descs grands marks (length out₀) offset budget)) (sym encoded ∙ done)
+  checked : (writeOutcome N L A offset budget held ≡ outcome.Done) × (w ≡ record { planes = planesOf A; bits = length (sentBits N L A budget) })
+  checked = done-so (writeOutcome N L A offset budget held) (sym (writes .answered) ∙ done)
 
-  ready : EncodeReady N L A descs grands (length out₀ - offset) budget × (allOf N ≤ marks) × (offset ≤ length out₀)
-  ready = encode-ready N L A descs grands marks (length out₀) offset budget (sym (checked .0))
+  ready : EncodeReady N L A (length (held .descs)) (length (held .grands)) (length (held .out) - offset) budget × (allOf N ≤ length (held .marks)) × (offset ≤ length (held .out))
+  ready = encode-ready N L A (length (held .descs)) (length (held .grands)) (length (held .marks)) (length (held .out)) offset budget (sym (checked .0))
 
   z : Sized N L
   z = sized N L (ready .0 .levels)
@@ -124,36 +122,38 @@ module _ (N L : ℕ) (A : List ℤ) (descs grands marks offset budget : ℕ) (ou
       go (no h) = take-all (length u) S (omega (arith, length-take budget S)) ∙ sym (take-all budget S (omega arith))
 
   -- and they are what `decode` reads where they were put
-  pub same-bits : bodyBits (w .bits) (drop offset out) ≡ sentBits N L A budget
+  pub same-bits : bodyBits (w .bits) (drop offset (left .out)) ≡ sentBits N L A budget
   same-bits =
-      let rest : List ℕ = drop (offset + length (packed u)) out₀ in
-      let put : out ≡ take offset out₀ ++ (packed u ++ rest) = written ∙ ap (λ (r : WriteAnswer). outputAfter (writeEnd r) offset (packed u) out₀) done in
-      let there : drop offset out ≡ packed u ++ rest = ap (λ (l : List ℕ). drop offset l) put ∙ drop-at (take offset out₀) (packed u ++ rest) offset (length-take-le offset out₀ (ready .2)) in
+      let rest : List ℕ = drop (offset + length (packed u)) (held .out) in
+      let put : left .out ≡ take offset (held .out) ++ (packed u ++ rest) =
+      ap (λ (x : Lent). x .out) (writes .filled) ∙ ap (λ (o : Outcome). outputAfter o offset (packed u) (held .out)) (checked .0) in
+      let there : drop offset (left .out) ≡ packed u ++ rest =
+      ap (λ (l : List ℕ). drop offset l) put ∙ drop-at (take offset (held .out)) (packed u ++ rest) offset (length-take-le offset (held .out) (ready .2)) in
       let bits : w .bits ≡ length u = ap (λ (x : Written). x .bits) (checked .1) in
       let most : min (length u) (8 * length (packed u ++ rest)) ≡ length u = omega (arith, length-append (packed u) rest, packed-length u) in
       rw (bits, there, most) (bitsOf-append (length u) (packed u) rest (omega (arith, packed-length u)) ∙ bitsOf-packed u)
 
-  module _ (held left : Tables) (read : ReadAnswer) (hv : allOf N ≤ length (held .values)) (hp : allOf N ≤ length (held .precisions)) (hm : allOf N ≤ length (held .marks))
-      (decoded : ReadsTo (firstOf (readChecks N L (w .planes) (length (held .values)) (length (held .precisions)) (length (held .marks)))) N L (w .planes) (bodyBits (w .bits) (drop offset out)) held read left) where
-    so : BodyRead N L P u held read left
+  module _ (given after : Tables) (read : ReadAnswer) (hv : allOf N ≤ length (given .values)) (hp : allOf N ≤ length (given .precisions)) (hm : allOf N ≤ length (given .marks))
+      (decoded : ReadsTo (firstOf (readChecks N L (w .planes) (length (given .values)) (length (given .precisions)) (length (given .marks)))) N L (w .planes) (bodyBits (w .bits) (drop offset (left .out))) given read after) where
+    so : BodyRead N L P u given read after
     so =
         let planes : w .planes ≡ P = ap (λ (x : Written). x .planes) (checked .1) in
-        let few = planes-so N L A descs grands (length out₀ - offset) budget (ready .0) P (planes-of A) .1 in
-        let well : firstOf (readChecks N L P (length (held .values)) (length (held .precisions)) (length (held .marks))) ≡ outcome.Done =
-        sym (decode-well N L P (length (held .values)) (length (held .precisions)) (length (held .marks)) (ready .0 .side) (ready .0 .levels) few hv hp hm) in
-        subst (λ (o : Outcome). ReadsTo o N L P u held read left) well
-        (subst (λ (b : List Bool). ReadsTo (firstOf (readChecks N L P (length (held .values)) (length (held .precisions)) (length (held .marks)))) N L P b held read left) same-bits
-        (subst (λ (p : ℕ). ReadsTo (firstOf (readChecks N L p (length (held .values)) (length (held .precisions)) (length (held .marks)))) N L p (bodyBits (w .bits) (drop offset out)) held read left) planes decoded))
+        let few = planes-so N L A (length (held .descs)) (length (held .grands)) (length (held .out) - offset) budget (ready .0) P (planes-of A) .1 in
+        let well : firstOf (readChecks N L P (length (given .values)) (length (given .precisions)) (length (given .marks))) ≡ outcome.Done =
+        sym (decode-well N L P (length (given .values)) (length (given .precisions)) (length (given .marks)) (ready .0 .side) (ready .0 .levels) few hv hp hm) in
+        subst (λ (o : Outcome). ReadsTo o N L P u given read after) well
+        (subst (λ (b : List Bool). ReadsTo (firstOf (readChecks N L P (length (given .values)) (length (given .precisions)) (length (given .marks)))) N L P b given read after) same-bits
+        (subst (λ (p : ℕ). ReadsTo (firstOf (readChecks N L p (length (given .values)) (length (given .precisions)) (length (given .marks)))) N L p (bodyBits (w .bits) (drop offset (left .out))) given read after) planes decoded))
 
     -- IN STEP: what was written is taken, whatever the budget, and the decoder's marks are the encoder's
     pub back : (read ≡ decode.Done (record { used = length (sentBits N L A budget); finished = planesFinished N L (planesOf A) (sentBits N L A budget); error = worstError N L (planesOf A) (sentBits N L A budget) }))
-        × (left ≡ over (allOf N) (tables (valuesBy N L (planesOf A) (sentBits N L A budget) midpoint) (precisions N L (planesOf A) (sentBits N L A budget)) (sentMarks N L A budget)) held)
-    back = taken-so N L P z u held read left so (A, begins)
+        × (after ≡ over (allOf N) (tables (valuesBy N L (planesOf A) (sentBits N L A budget) midpoint) (precisions N L (planesOf A) (sentBits N L A budget)) (sentMarks N L A budget)) given)
+    back = taken-so N L P z u given read after so (A, begins)
 
     -- WHOLE: with a budget that does not cut, the array itself, to the last bit
     pub whole : length (stream N L (planesOf A) A) ≤ budget
         → (read ≡ decode.Done (record { used = length (stream N L (planesOf A) A); finished = planesOf A; error = 0 }))
-        × (left ≡ over (allOf N) (tables A (replicate (allOf N) 0) (sentMarks N L A budget)) held)
+        × (after ≡ over (allOf N) (tables A (replicate (allOf N) 0) (sentMarks N L A budget)) given)
     whole h =
         let all : u ≡ S = take-all budget S h in
         let size = ready .0 .whole in
@@ -162,5 +162,5 @@ module _ (N L : ℕ) (A : List ℤ) (descs grands marks offset budget : ℕ) (ou
         let values : valuesBy N L P u midpoint ≡ A = ap (λ (b : List Bool). valuesBy N L P b midpoint) all ∙ demands.whole N L P z A size (planes-of A) in
         let exact : precisions N L P u ≡ replicate (allOf N) 0 = ap (λ (b : List Bool). precisions N L P b) all ∙ demands.whole-precisions N L P z A size (planes-of A) in (
           back .0 ∙ (λ i. decode.Done (record { used = length (all i); finished = finished i; error = error i })),
-          back .1 ∙ (λ i. over (allOf N) (tables (values i) (exact i) (sentMarks N L A budget)) held),
+          back .1 ∙ (λ i. over (allOf N) (tables (values i) (exact i) (sentMarks N L A budget)) given),
         )

@@ -6,7 +6,7 @@ use mathlib.Core.List.{List}
 use Prim.Native.Nat.{ℕ}
 use lib.IntN.{ℤ}
 use lib.Ieee.{Float}
-use lib.ListN.{length}
+use lib.ListN.{length, getD}
 use denote.Ref.{now}
 use Rattle.refusals.specs.Checks.{firstOf}
 use Rattle.refusals.specs.declared.Outcome.{Outcome}
@@ -16,6 +16,7 @@ use Rattle.sizes.specs.Sizes.{Sized}
 use Rattle.nls.specs.Judging.{Verdict}
 use Rattle.nls.proofs.Verdicts.{judged-only}
 use Rattle.room.specs.Room.{bodyBits}
+use Rattle.encoder.specs.Body.{Lent, lent}
 use Rattle.decoder.specs.Body.{Tables, tables}
 use Rattle.decoder.proofs.Decided.{decodes-one}
 use Rattle.txp.specs.declared.Header.{Header}
@@ -24,8 +25,7 @@ use Rattle.txp.specs.Header.{headerOf}
 use Rattle.txp.specs.File as file
 use Rattle.txp.specs.Calls.{decodeChecks, decodeAnswer, DecodedFile, DecodesTo, Decodes}
 use Rattle.txp.proofs.CallLaws.{in-range}
-use Rattle.ctxp.specs.declared.answers.Answer.{Answer}
-use Rattle.ctxp.specs.Answers.{Answers, decoded, read}
+use Rattle.ctxp.specs.Answers.{Answers, ofEncoded, ofDecoded, ofWritten, ofRead}
 use Rattle.ctxp.specs.Lent.{FileDecoded, BodyDecoded}
 use Rattle.ctxp.proofs.txp_decode.Reads as decode
 use Rattle.ctxp.proofs.txp_decode_body.Reads as decode-body
@@ -53,31 +53,24 @@ use Rattle.ctxp.proofs.txp_all.Reads as all
 use Rattle.ctxp.proofs.txp_coarsest.Reads as coarsest
 
 -- results and lent answers that say the same are equal
-pub one-answer : {a a' : Answer} {r r' : ℕ} {held held' : List ℕ} → a ≡ a' → Answers r held a → Answers r' held' a' → (r ≡ r') × (held ≡ held')
-one-answer e p q = (p .0 ∙ ap (λ (x : Answer). x .refusal) e ∙ sym (q .0), p .1 ∙ rw e (sym (q .1)))
+pub one-answer : {a a' : List ℕ} {r r' : ℕ} {held held' : List ℕ} → a ≡ a' → Answers r held a → Answers r' held' a' → (r ≡ r') × (held ≡ held')
+one-answer e p q = (p .0 ∙ ap (λ (x : List ℕ). getD x 0 0) e ∙ sym (q .0), p .1 ∙ e ∙ sym (q .1))
 
-pub encode-decided : OneOutcome {Lent = List ℕ × List ℕ × List ℕ × List ℕ × List ℕ} encode.Learnt
-    (λ k s. (now (s .1 .1 .1 .1 .1 .1 .1 .1 .0), now (s .1 .1 .1 .0), now (s .1 .1 .1 .1 .0), now (s .1 .1 .1 .1 .1 .0), now (s .1 .1 .1 .1 .1 .1 .0)))
+-- encoding: DESC, GRAND, the marks and the output are the fourth to the seventh parameter
+pub encode-decided : OneOutcome {Lent = List ℕ × Lent} encode.Learnt
+    (λ k s. (now (s .1 .1 .1 .1 .1 .1 .1 .1 .0), lent (now (s .1 .1 .1 .0)) (now (s .1 .1 .1 .1 .0)) (now (s .1 .1 .1 .1 .1 .0)) (now (s .1 .1 .1 .1 .1 .1 .0))))
 encode-decided k args r r' s s' p q =
-    let one = one-answer refl (p .0) (q .0) in
-    let lent1 : now (s .1 .1 .1 .0) ≡ now (s' .1 .1 .1 .0) = p .1 .0 ∙ sym (q .1 .0) in
-    let lent2 : now (s .1 .1 .1 .1 .0) ≡ now (s' .1 .1 .1 .1 .0) = p .1 .1 .0 ∙ sym (q .1 .1 .0) in
-    let lent3 : now (s .1 .1 .1 .1 .1 .0) ≡ now (s' .1 .1 .1 .1 .1 .0) = p .1 .1 .1 .0 ∙ sym (q .1 .1 .1 .0) in
-    let lent4 : now (s .1 .1 .1 .1 .1 .1 .0) ≡ now (s' .1 .1 .1 .1 .1 .1 .0) = p .1 .1 .1 .1 ∙ sym (q .1 .1 .1 .1) in
-    (one .0, λ i. (one .1 i, lent1 i, lent2 i, lent3 i, lent4 i))
+    let one = one-answer (ap ofEncoded (p .encodes .answered ∙ sym (q .encodes .answered))) (p .answers) (q .answers) in
+    (one .0, λ i. (one .1 i, (p .encodes .filled ∙ sym (q .encodes .filled)) i))
 
 pub worst-body-decided : OneOutcome {Lent = List ℕ} worst-body.Learnt (λ k s. now (s .1 .1 .1 .0))
 worst-body-decided k args r r' s s' p q = one-answer refl p q
 
-pub encode-body-decided : OneOutcome {Lent = List ℕ × List ℕ × List ℕ × List ℕ × List ℕ} encode-body.Learnt
-    (λ k s. (now (s .1 .1 .1 .1 .1 .1 .1 .1 .1 .0), now (s .1 .1 .1 .0), now (s .1 .1 .1 .1 .0), now (s .1 .1 .1 .1 .1 .0), now (s .1 .1 .1 .1 .1 .1 .0)))
+pub encode-body-decided : OneOutcome {Lent = List ℕ × Lent} encode-body.Learnt
+    (λ k s. (now (s .1 .1 .1 .1 .1 .1 .1 .1 .1 .0), lent (now (s .1 .1 .1 .0)) (now (s .1 .1 .1 .1 .0)) (now (s .1 .1 .1 .1 .1 .0)) (now (s .1 .1 .1 .1 .1 .1 .0))))
 encode-body-decided k args r r' s s' p q =
-    let one = one-answer refl (p .0) (q .0) in
-    let lent1 : now (s .1 .1 .1 .0) ≡ now (s' .1 .1 .1 .0) = p .1 .0 ∙ sym (q .1 .0) in
-    let lent2 : now (s .1 .1 .1 .1 .0) ≡ now (s' .1 .1 .1 .1 .0) = p .1 .1 .0 ∙ sym (q .1 .1 .0) in
-    let lent3 : now (s .1 .1 .1 .1 .1 .0) ≡ now (s' .1 .1 .1 .1 .1 .0) = p .1 .1 .1 .0 ∙ sym (q .1 .1 .1 .0) in
-    let lent4 : now (s .1 .1 .1 .1 .1 .1 .0) ≡ now (s' .1 .1 .1 .1 .1 .1 .0) = p .1 .1 .1 .1 ∙ sym (q .1 .1 .1 .1) in
-    (one .0, λ i. (one .1 i, lent1 i, lent2 i, lent3 i, lent4 i))
+    let one = one-answer (ap ofWritten (p .encodes .answered ∙ sym (q .encodes .answered))) (p .answers) (q .answers) in
+    (one .0, λ i. (one .1 i, (p .encodes .filled ∙ sym (q .encodes .filled)) i))
 
 pub summaries-decided : OneOutcome {Lent = List ℕ × List ℕ × List ℕ} summaries.Learnt
     (λ k s. (now (s .1 .1 .1 .1 .1 .0), now (s .1 .1 .1 .0), now (s .1 .1 .1 .1 .0)))
@@ -183,14 +176,14 @@ file-one bytes held r r' a a' left left' p q =
     let one = one-outcome (headerOf bytes) (file.usableBits bytes) held (p .said) (q .said) left left'
     (firstOf (decodeChecks bytes (length (held .values)) (length (held .precisions)) (length (held .marks))))
     (in-range bytes (length (held .values)) (length (held .precisions)) (length (held .marks))) (p .decodes) (q .decodes) in
-    let said = one-answer (ap decoded (one .0)) (p .answers) (q .answers) in
+    let said = one-answer (ap ofDecoded (one .0)) (p .answers) (q .answers) in
     (said .0, said .1, one .1)
 
 body-one : (N L P usable : ℕ) (bytes : List ℕ) (held : Tables) (r r' : ℕ) (a a' : List ℕ) (left left' : Tables)
     → BodyDecoded N L P usable bytes held r a left → BodyDecoded N L P usable bytes held r' a' left' → (r ≡ r') × (a ≡ a') × (left ≡ left')
 body-one N L P usable bytes held r r' a a' left left' p q =
     let one = decodes-one N L P (length (held .values)) (length (held .precisions)) (length (held .marks)) (bodyBits usable bytes) held (p .said) (q .said) left left' (p .decodes) (q .decodes) in
-    let said = one-answer (ap read (one .0)) (p .answers) (q .answers) in
+    let said = one-answer (ap ofRead (one .0)) (p .answers) (q .answers) in
     (said .0, said .1, one .1)
 
 pub decode-decided : OneOutcome {Lent = List ℕ × Tables} decode.Learnt (λ k s. (now (s .1 .1 .1 .1 .0), tables (now (s .1 .0)) (now (s .1 .1 .0)) (now (s .1 .1 .1 .0))))

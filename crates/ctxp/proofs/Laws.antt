@@ -11,8 +11,7 @@ use Rattle.refusals.specs.declared.Outcome.{Outcome}
 use Rattle.refusals.specs.declared.Outcome.the-variants.{Done, Refused}
 use Rattle.sizes.specs.Sizes.{sideFits, levelsFit, allOf, coarsestOf}
 use Rattle.sizes.proofs.Laws.{side-most, all-most, both-left}
-use Rattle.encoder.specs.Body as body
-use Rattle.encoder.specs.declared.body.WriteAnswer as sent
+use Rattle.encoder.specs.Body.{Lent}
 use Rattle.encoder.proofs.EncodeLaws.{sent-most}
 use Rattle.places.specs.Answers.{rasterIf, linearIf}
 use Rattle.places.specs.declared.Raster.{Raster}
@@ -24,37 +23,22 @@ use Rattle.places.specs.declared.LinearAnswer.the-variants as linear
 use Rattle.figures.specs.Figures.{answered, outcomeOf}
 use Rattle.figures.specs.declared.Figures.{Figures}
 use Rattle.figures.specs.declared.FiguresAnswer.{FiguresAnswer}
-use Rattle.txp.specs.Calls.{encodeAnswer, encodeEnd}
+use Rattle.txp.specs.Calls.{encodeAnswer, encodeOutcome, Encodes}
 use Rattle.txp.specs.declared.EncodeAnswer.{EncodeAnswer}
-use Rattle.ctxp.specs.declared.answers.Answer.{Answer}
-use Rattle.ctxp.specs.Answers.{Answers, Short, refused, linearly, rasterly}
+use Rattle.ctxp.specs.Answers.{Answers, ofRefusal, ofLinear, ofRaster}
+use Rattle.ctxp.specs.Inner.{Short}
 
-pub answers-by : (r : ℕ) (held : List ℕ) {a b : Answer} → a ≡ b → Answers r held a → Answers r held b
-answers-by r held {a} {b} e p = subst (λ (x : Answer). Answers r held x) e p
+pub answers-by : (r : ℕ) (held : List ℕ) {a b : List ℕ} → a ≡ b → Answers r held a → Answers r held b
+answers-by r held {a} {b} e p = subst (λ (x : List ℕ). Answers r held x) e p
 
--- the outcome of an answer is that of the checks
-module _ (N L : ℕ) (A : List ℤ) (budget : ℕ) where
-  file-end : (o : Outcome) → encodeEnd (encodeAnswer N L A budget o) ≡ o
-  file-end Done = refl
-  file-end (Refused why) = refl
-
-  body-end : (o : Outcome) → body.writeEnd (body.writeAnswer N L A budget o) ≡ o
-  body-end Done = refl
-  body-end (Refused why) = refl
-
-  pub file-ends : (o : Outcome) {r : EncodeAnswer} → r ≡ encodeAnswer N L A budget o → encodeEnd r ≡ o
-  file-ends o e = ap encodeEnd e ∙ file-end o
-
-  pub body-ends : (o : Outcome) {r : sent.WriteAnswer} → r ≡ body.writeAnswer N L A budget o → body.writeEnd r ≡ o
-  body-ends o e = ap body.writeEnd e ∙ body-end o
-
-  -- a file's bytes fit 32 bits, as its budget does
+-- a file's bytes fit 32 bits, as its budget does
+module _ (N L : ℕ) (A : List ℤ) (budget : ℕ) (held left : Lent) {r : EncodeAnswer} where
   short-by : budget < 2 ^ 32 → (o : Outcome) → Short (encodeAnswer N L A budget o)
   short-by h Done = omega (arith, sent-most N L A budget)
   short-by h (Refused why) = tt
 
-  pub file-short : (o : Outcome) {r : EncodeAnswer} → budget < 2 ^ 32 → r ≡ encodeAnswer N L A budget o → Short r
-  file-short o h e = subst (λ (x : EncodeAnswer). Short x) (sym e) (short-by h o)
+  pub file-short : budget < 2 ^ 32 → Encodes N L A budget held r left → Short r
+  file-short h e = subst (λ (x : EncodeAnswer). Short x) (sym (e .answered)) (short-by h (encodeOutcome N L A budget held))
 
 figures-end : (o : Outcome) (f : Figures) → outcomeOf (answered o f) ≡ o
 figures-end Done f = refl
@@ -66,9 +50,6 @@ figures-ends f o e = ap outcomeOf e ∙ figures-end o f
 -- a lent table after a call, by an outcome that is the same
 pub lent-by : {A : Type 0} {now : List A} (o o' : Outcome) (own held : List A) → o ≡ o' → now ≡ lentAfter o own held → now ≡ lentAfter o' own held
 lent-by {A} {now} o o' own held e p = p ∙ ap (λ (x : Outcome). lentAfter x own held) e
-
-pub output-by : {now : List ℕ} (o o' : Outcome) (offset : ℕ) (own held : List ℕ) → o ≡ o' → now ≡ body.outputAfter o offset own held → now ≡ body.outputAfter o' offset own held
-output-by {now} o o' offset own held e p = p ∙ ap (λ (x : Outcome). body.outputAfter x offset own held) e
 
 -- sizes fit 32 bits
 pub all-short : (N : ℕ) → cond (sideFits N) (allOf N) 0 < 2 ^ 32
@@ -110,10 +91,10 @@ pub linear-same : (o : Outcome) (place : ℕ) (q : Linear) → linearIf o place 
 linear-same Done place q e = sym (ap linearAt e)
 linear-same (Refused why) place q e = absurd (false≢true (ap isLinear e))
 
-pub raster-refused : (o : Outcome) (p q : ℕ) (why : Refusal) → rasterIf o p ≡ raster.Refused why → refused why ≡ linearly (linearIf o q)
+pub raster-refused : (o : Outcome) (p q : ℕ) (why : Refusal) → rasterIf o p ≡ raster.Refused why → ofRefusal why ≡ ofLinear (linearIf o q)
 raster-refused Done p q why e = absurd (false≢true (sym (ap isRaster e)))
-raster-refused (Refused w) p q why e = sym (ap rasterly e)
+raster-refused (Refused w) p q why e = sym (ap ofRaster e)
 
-pub linear-refused : (o : Outcome) (q p : ℕ) (why : Refusal) → linearIf o q ≡ linear.Refused why → refused why ≡ rasterly (rasterIf o p)
+pub linear-refused : (o : Outcome) (q p : ℕ) (why : Refusal) → linearIf o q ≡ linear.Refused why → ofRefusal why ≡ ofRaster (rasterIf o p)
 linear-refused Done q p why e = absurd (false≢true (sym (ap isLinear e)))
-linear-refused (Refused w) q p why e = sym (ap linearly e)
+linear-refused (Refused w) q p why e = sym (ap ofLinear e)

@@ -1,4 +1,4 @@
--- What else a call from C is lent: numbers that stand for a truth, a coefficient, a float, and decoding's tables.
+-- What else a call from C is lent: numbers that stand for a truth, a coefficient, a float, and the coders' tables.
 use Prim.Native.Nat.{ℕ}
 use mathlib.Core.Bool.{Bool, not}
 use mathlib.Core.List.{List}
@@ -7,19 +7,17 @@ use lib.IntN.{ℤ}
 use lib.Ieee as ieee
 use lib.ListN.{length}
 use Rattle.refusals.specs.Checks.{firstOf}
-use Rattle.coef.specs.declared.Signed.{Signed}
-use Rattle.coef.specs.declared.Joined.{Joined}
+use Rattle.coef.specs.declared.{Signed.Signed, Joined.Joined, Float.Float}
 use Rattle.coef.specs.declared.Joined.the-variants as joineds
-use Rattle.coef.specs.declared.Float.{Float}
 use Rattle.coef.specs.declared.Float.the-variants as floats
-use Rattle.room.specs.Room as room
-use Rattle.room.specs.Room.{bodyBits}
-use Rattle.decoder.specs.Body as cutBody
-use Rattle.decoder.specs.Body.{Tables}
-use Rattle.decoder.specs.declared.body.ReadAnswer as cut
-use Rattle.txp.specs.declared.DecodeAnswer.{DecodeAnswer}
-use Rattle.txp.specs.Calls.{Decodes}
-use Rattle.ctxp.specs.Answers.{decoded, read, Answers}
+use Rattle.room.specs.Room.{readChecks, bodyBits}
+use Rattle.encoder.specs.Body.{Lent, Writes}
+use Rattle.encoder.specs.declared.body.WriteAnswer.{WriteAnswer}
+use Rattle.decoder.specs.Body.{Tables, ReadsTo}
+use Rattle.decoder.specs.declared.body.ReadAnswer.{ReadAnswer}
+use Rattle.txp.specs.declared.{EncodeAnswer.EncodeAnswer, DecodeAnswer.DecodeAnswer}
+use Rattle.txp.specs.Calls.{Encodes, Decodes}
+use Rattle.ctxp.specs.Answers.{ofEncoded, ofDecoded, ofWritten, ofRead, Answers}
 
 -- any number but 0 is a truth
 abbrev pub asBool : ℕ → Bool
@@ -37,14 +35,24 @@ abbrev pub floatIn : Float → ieee.Float → ieee.Float
 floatIn (floats.Is x) held = x
 floatIn (floats.Refused why) held = held
 
--- decoding a file: some answer of the base is the one that its contract allows, and the numbers are those of that answer
+-- a file: some answer of the base is the one that its contract allows, and the numbers are those of that answer
+pub record FileEncoded (N L : ℕ) (A : List ℤ) (budget : ℕ) (held : Lent) (r : ℕ) (answer : List ℕ) (left : Lent) : Type 0 where
+  pub said : EncodeAnswer
+  pub encodes : Encodes N L A budget held said left
+  pub answers : Answers r answer (ofEncoded said)
+
 pub record FileDecoded (file : List ℕ) (held : Tables) (r : ℕ) (answer : List ℕ) (left : Tables) : Type 0 where
   pub said : DecodeAnswer
   pub decodes : Decodes file held said left
-  pub answers : Answers r answer (decoded said)
+  pub answers : Answers r answer (ofDecoded said)
 
 -- the same of a body
+pub record BodyEncoded (N L : ℕ) (A : List ℤ) (offset budget : ℕ) (held : Lent) (r : ℕ) (answer : List ℕ) (left : Lent) : Type 0 where
+  pub said : WriteAnswer
+  pub encodes : Writes N L A offset budget held said left
+  pub answers : Answers r answer (ofWritten said)
+
 pub record BodyDecoded (N L P usable : ℕ) (bytes : List ℕ) (held : Tables) (r : ℕ) (answer : List ℕ) (left : Tables) : Type 0 where
-  pub said : cut.ReadAnswer
-  pub decodes : cutBody.ReadsTo (firstOf (room.readChecks N L P (length (held .values)) (length (held .precisions)) (length (held .marks)))) N L P (bodyBits usable bytes) held said left
-  pub answers : Answers r answer (read said)
+  pub said : ReadAnswer
+  pub decodes : ReadsTo (firstOf (readChecks N L P (length (held .values)) (length (held .precisions)) (length (held .marks)))) N L P (bodyBits usable bytes) held said left
+  pub answers : Answers r answer (ofRead said)

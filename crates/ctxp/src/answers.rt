@@ -4,7 +4,8 @@ use refusals::Refusal;
 ghost use mathlib.Core.Path.{_≡_};
 ghost use Rattle.refusals.specs.declared.Refusal.the-variants.{Coefficient};
 ghost use Rattle.bits.specs.Bits.{digit};
-ghost use Rattle.ctxp.specs.Answers.{nothing, refused, value, planes, outcome, encoded, Short, decoded, worst, written, read, figured, linearly, rasterly, parted, next, Answers};
+ghost use Rattle.ctxp.specs.Answers.{ofRefusal, ofValue, ofPlanes, ofOutcome, ofEncoded, ofDecoded, ofWorst, ofWritten, ofRead, ofFigures, ofLinear, ofRaster, ofParted, ofNext, Answers};
+ghost use Rattle.ctxp.specs.Inner.{nothing, entries, Short};
 
 // The numbers that a call answers, in the order of the header's `txp_answer`. Those that it does not speak of are 0.
 pub struct Answer {
@@ -50,7 +51,7 @@ pub(crate) fn nothing() -> Answer
 
 // A refusal: its number and its place.
 pub(crate) fn refused(why: Refusal) -> Answer
-    ensures { λ r. ⌜ r ≡ refused why ⌝ }
+    ensures { λ r. ⌜ entries r ≡ ofRefusal why ⌝ }
 {
     let mut a = nothing();
     let number = refusals::number(why);
@@ -62,7 +63,7 @@ pub(crate) fn refused(why: Refusal) -> Answer
 
 // One number.
 pub(crate) fn value(x: u32) -> Answer
-    ensures { λ r. ⌜ r ≡ value x ⌝ }
+    ensures { λ r. ⌜ entries r ≡ ofValue x ⌝ }
 {
     let mut a = nothing();
     a.value = x;
@@ -71,13 +72,13 @@ pub(crate) fn value(x: u32) -> Answer
 
 // A truth: 1 or 0.
 pub(crate) fn of_bool(t: bool) -> Answer
-    ensures { λ r. ⌜ r ≡ value (digit t) ⌝ }
+    ensures { λ r. ⌜ entries r ≡ ofValue (digit t) ⌝ }
 {
     value(t as u32)
 }
 
 pub(crate) fn of_planes(p: u32) -> Answer
-    ensures { λ r. ⌜ r ≡ planes p ⌝ }
+    ensures { λ r. ⌜ entries r ≡ ofPlanes p ⌝ }
 {
     let mut a = nothing();
     a.planes = p;
@@ -86,13 +87,13 @@ pub(crate) fn of_planes(p: u32) -> Answer
 
 // A coefficient that is over the limit, where there is only one: refusal 4 at place 0.
 pub(crate) fn too_large() -> Answer
-    ensures { λ r. ⌜ r ≡ refused (Coefficient 0) ⌝ }
+    ensures { λ r. ⌜ entries r ≡ ofRefusal (Coefficient 0) ⌝ }
 {
     refused(Refusal::Coefficient(0))
 }
 
 pub(crate) fn of_outcome(o: Outcome) -> Answer
-    ensures { λ r. ⌜ r ≡ outcome o ⌝ }
+    ensures { λ r. ⌜ entries r ≡ ofOutcome o ⌝ }
 {
     match o {
         Outcome::Done => nothing(),
@@ -102,7 +103,7 @@ pub(crate) fn of_outcome(o: Outcome) -> Answer
 
 pub(crate) fn of_encoded(e: txp::EncodeAnswer) -> Answer
     requires { ⌜ Short e ⌝ }
-    ensures { λ r. ⌜ r ≡ encoded e ⌝ }
+    ensures { λ r. ⌜ entries r ≡ ofEncoded e ⌝ }
 {
     match e {
         txp::EncodeAnswer::Done(w) => {
@@ -120,7 +121,7 @@ pub(crate) fn of_encoded(e: txp::EncodeAnswer) -> Answer
 }
 
 pub(crate) fn of_decoded(d: txp::DecodeAnswer) -> Answer
-    ensures { λ r. ⌜ r ≡ decoded d ⌝ }
+    ensures { λ r. ⌜ entries r ≡ ofDecoded d ⌝ }
 {
     match d {
         txp::DecodeAnswer::Done(to) => {
@@ -146,7 +147,7 @@ pub(crate) fn of_decoded(d: txp::DecodeAnswer) -> Answer
 }
 
 pub(crate) fn of_worst(w: room::WorstAnswer) -> Answer
-    ensures { λ r. ⌜ r ≡ worst w ⌝ }
+    ensures { λ r. ⌜ entries r ≡ ofWorst w ⌝ }
 {
     match w {
         room::WorstAnswer::Bits(bits) => {
@@ -159,7 +160,7 @@ pub(crate) fn of_worst(w: room::WorstAnswer) -> Answer
 }
 
 pub(crate) fn of_written(e: encoder::WriteAnswer) -> Answer
-    ensures { λ r. ⌜ r ≡ written e ⌝ }
+    ensures { λ r. ⌜ entries r ≡ ofWritten e ⌝ }
 {
     match e {
         encoder::WriteAnswer::Done(w) => {
@@ -175,7 +176,7 @@ pub(crate) fn of_written(e: encoder::WriteAnswer) -> Answer
 }
 
 pub(crate) fn of_read(d: decoder::ReadAnswer) -> Answer
-    ensures { λ r. ⌜ r ≡ read d ⌝ }
+    ensures { λ r. ⌜ entries r ≡ ofRead d ⌝ }
 {
     match d {
         decoder::ReadAnswer::Done(to) => {
@@ -193,7 +194,7 @@ pub(crate) fn of_read(d: decoder::ReadAnswer) -> Answer
 }
 
 pub(crate) fn of_figures(f: figures::FiguresAnswer) -> Answer
-    ensures { λ r. ⌜ r ≡ figured f ⌝ }
+    ensures { λ r. ⌜ entries r ≡ ofFigures f ⌝ }
 {
     match f {
         figures::FiguresAnswer::Done(of) => {
@@ -213,7 +214,7 @@ pub(crate) fn of_figures(f: figures::FiguresAnswer) -> Answer
 }
 
 pub(crate) fn of_linear(q: places::LinearAnswer) -> Answer
-    ensures { λ r. ⌜ r ≡ linearly q ⌝ }
+    ensures { λ r. ⌜ entries r ≡ ofLinear q ⌝ }
 {
     match q {
         places::LinearAnswer::Place(at) => value(places::linear_number(at)),
@@ -222,7 +223,7 @@ pub(crate) fn of_linear(q: places::LinearAnswer) -> Answer
 }
 
 pub(crate) fn of_raster(p: places::RasterAnswer) -> Answer
-    ensures { λ r. ⌜ r ≡ rasterly p ⌝ }
+    ensures { λ r. ⌜ entries r ≡ ofRaster p ⌝ }
 {
     match p {
         places::RasterAnswer::Place(at) => value(places::raster_number(at)),
@@ -231,7 +232,7 @@ pub(crate) fn of_raster(p: places::RasterAnswer) -> Answer
 }
 
 pub(crate) fn of_parted(p: coef::Parted) -> Answer
-    ensures { λ r. ⌜ r ≡ parted p ⌝ }
+    ensures { λ r. ⌜ entries r ≡ ofParted p ⌝ }
 {
     match p {
         coef::Parted::Is(s) => {
@@ -247,7 +248,7 @@ pub(crate) fn of_parted(p: coef::Parted) -> Answer
 }
 
 pub(crate) fn of_next(x: bits::Next) -> Answer
-    ensures { λ r. ⌜ r ≡ next x ⌝ }
+    ensures { λ r. ⌜ entries r ≡ ofNext x ⌝ }
 {
     match x {
         bits::Next::Bit(b) => {
@@ -263,7 +264,7 @@ pub(crate) fn of_next(x: bits::Next) -> Answer
 
 // Puts the numbers into the lent answer, and gives back the first of them, the refusal's.
 pub(crate) fn put(to: &mut [u32; 15], a: Answer) -> u32
-    ensures { λ r. ⌜ Answers r (now (to .exit)) a ⌝ }
+    ensures { λ r. ⌜ Answers r (now (to .exit)) (entries a) ⌝ }
 {
     let refusal = a.refusal;
     let place = a.place;

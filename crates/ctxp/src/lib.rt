@@ -8,7 +8,7 @@ ghost use mathlib.Core.Bool.{_&&_, cond};
 ghost use lib.ListN.{length};
 ghost use Rattle.refusals.specs.Checks.{firstOf, lentAfter};
 ghost use Rattle.sizes.specs.Sizes.{sideFits, levelsFit, allOf, coarsestOf};
-ghost use Rattle.bits.specs.Bits.{bit, digit, packed, withBit};
+ghost use Rattle.bits.specs.Bits.{bit, digit, withBit};
 ghost use Rattle.view.specs.View.{viewed};
 ghost use Rattle.places.specs.Order as order;
 ghost use Rattle.places.specs.Answers.{placeChecks, reorderChecks, rasterIf, linearIf};
@@ -16,13 +16,10 @@ ghost use Rattle.coef.specs.Coef as coefficient;
 ghost use Rattle.tree.specs.Summaries.{summaryChecks, descTable, grandTable};
 ghost use Rattle.figures.specs.Figures.{figuresOf, figuresChecks, answered};
 ghost use Rattle.room.specs.Room as room;
-ghost use Rattle.encoder.specs.Body as body;
-ghost use Rattle.encoder.specs.Body.{sentBits, sentMarks};
+ghost use Rattle.encoder.specs.Body.{lent};
 ghost use Rattle.decoder.specs.Body.{tables};
-ghost use Rattle.txp.specs.File.{fileOf};
-ghost use Rattle.txp.specs.Calls.{encodeChecks, encodeAnswer};
-ghost use Rattle.ctxp.specs.Answers.{value, planes, outcome, encoded, worst, written, figured, linearly, rasterly, parted, joined, floated, next, Answers, nothing};
-ghost use Rattle.ctxp.specs.Lent.{asBool, signedOf, joinedIn, floatIn, FileDecoded, BodyDecoded};
+ghost use Rattle.ctxp.specs.Answers.{blank, ofValue, ofPlanes, ofOutcome, ofWorst, ofFigures, ofLinear, ofRaster, ofParted, ofJoined, ofFloat, ofNext, Answers};
+ghost use Rattle.ctxp.specs.Lent.{asBool, signedOf, joinedIn, floatIn, FileEncoded, BodyEncoded, FileDecoded, BodyDecoded};
 
 // ---- the file
 
@@ -39,11 +36,7 @@ pub extern "C" fn txp_encode(
     budget: u32,
     answer: &mut [u32; 15],
 ) -> u32
-    ensures answer { λ r. ⌜ Answers r (now (answer .exit)) (encoded (encodeAnswer n l (now (coefs .entry)) budget (firstOf (encodeChecks n l (now (coefs .entry)) (length (now (desc .entry))) (length (now (grand .entry))) (length (now (marks .entry))) (length (now (out .entry))) budget)))) ⌝ }
-    ensures descs { λ r. ⌜ now (desc .exit) ≡ lentAfter (firstOf (encodeChecks n l (now (coefs .entry)) (length (now (desc .entry))) (length (now (grand .entry))) (length (now (marks .entry))) (length (now (out .entry))) budget)) (descTable n l (now (coefs .entry))) (now (desc .entry)) ⌝ }
-    ensures grands { λ r. ⌜ now (grand .exit) ≡ lentAfter (firstOf (encodeChecks n l (now (coefs .entry)) (length (now (desc .entry))) (length (now (grand .entry))) (length (now (marks .entry))) (length (now (out .entry))) budget)) (grandTable n l (now (coefs .entry))) (now (grand .entry)) ⌝ }
-    ensures marked { λ r. ⌜ now (marks .exit) ≡ lentAfter (firstOf (encodeChecks n l (now (coefs .entry)) (length (now (desc .entry))) (length (now (grand .entry))) (length (now (marks .entry))) (length (now (out .entry))) budget)) (sentMarks n l (now (coefs .entry)) budget) (now (marks .entry)) ⌝ }
-    ensures written { λ r. ⌜ now (out .exit) ≡ lentAfter (firstOf (encodeChecks n l (now (coefs .entry)) (length (now (desc .entry))) (length (now (grand .entry))) (length (now (marks .entry))) (length (now (out .entry))) budget)) (fileOf n l (now (coefs .entry)) budget) (now (out .entry)) ⌝ }
+    ensures { λ r. ⌜ FileEncoded n l (now (coefs .entry)) budget (lent (now (desc .entry)) (now (grand .entry)) (now (marks .entry)) (now (out .entry))) r (now (answer .exit)) (lent (now (desc .exit)) (now (grand .exit)) (now (marks .exit)) (now (out .exit))) ⌝ }
 {
     let done = txp::encode(n, l, coefs, desc, grand, marks, out, budget);
     put(answer, answers::of_encoded(done))
@@ -69,7 +62,7 @@ pub extern "C" fn txp_decode(
 // The most bits that a body of this N, L and P can have.
 #[no_mangle]
 pub extern "C" fn txp_worst_body(n: u32, l: u32, p: u32, answer: &mut [u32; 15]) -> u32
-    ensures { λ r. ⌜ Answers r (now (answer .exit)) (worst (room.worstAnswer n l p (firstOf (room.worstChecks n l p)))) ⌝ }
+    ensures { λ r. ⌜ Answers r (now (answer .exit)) (ofWorst (room.worstAnswer n l p (firstOf (room.worstChecks n l p)))) ⌝ }
 {
     let done = room::worst_body(n, l, p);
     put(answer, answers::of_worst(done))
@@ -89,11 +82,7 @@ pub extern "C" fn txp_encode_body(
     budget: u32,
     answer: &mut [u32; 15],
 ) -> u32
-    ensures answer { λ r. ⌜ Answers r (now (answer .exit)) (written (body.writeAnswer n l (now (coefs .entry)) budget (firstOf (room.writeChecks n l (now (coefs .entry)) (length (now (desc .entry))) (length (now (grand .entry))) (length (now (marks .entry))) (length (now (out .entry))) offset budget)))) ⌝ }
-    ensures descs { λ r. ⌜ now (desc .exit) ≡ lentAfter (firstOf (room.writeChecks n l (now (coefs .entry)) (length (now (desc .entry))) (length (now (grand .entry))) (length (now (marks .entry))) (length (now (out .entry))) offset budget)) (descTable n l (now (coefs .entry))) (now (desc .entry)) ⌝ }
-    ensures grands { λ r. ⌜ now (grand .exit) ≡ lentAfter (firstOf (room.writeChecks n l (now (coefs .entry)) (length (now (desc .entry))) (length (now (grand .entry))) (length (now (marks .entry))) (length (now (out .entry))) offset budget)) (grandTable n l (now (coefs .entry))) (now (grand .entry)) ⌝ }
-    ensures marked { λ r. ⌜ now (marks .exit) ≡ lentAfter (firstOf (room.writeChecks n l (now (coefs .entry)) (length (now (desc .entry))) (length (now (grand .entry))) (length (now (marks .entry))) (length (now (out .entry))) offset budget)) (sentMarks n l (now (coefs .entry)) budget) (now (marks .entry)) ⌝ }
-    ensures written { λ r. ⌜ now (out .exit) ≡ body.outputAfter (firstOf (room.writeChecks n l (now (coefs .entry)) (length (now (desc .entry))) (length (now (grand .entry))) (length (now (marks .entry))) (length (now (out .entry))) offset budget)) offset (packed (sentBits n l (now (coefs .entry)) budget)) (now (out .entry)) ⌝ }
+    ensures { λ r. ⌜ BodyEncoded n l (now (coefs .entry)) offset budget (lent (now (desc .entry)) (now (grand .entry)) (now (marks .entry)) (now (out .entry))) r (now (answer .exit)) (lent (now (desc .exit)) (now (grand .exit)) (now (marks .exit)) (now (out .exit))) ⌝ }
 {
     let done = encoder::encode(n, l, coefs, desc, grand, marks, out, offset, budget);
     put(answer, answers::of_written(done))
@@ -130,7 +119,7 @@ pub extern "C" fn txp_summaries(
     grand: &mut [u32],
     answer: &mut [u32; 15],
 ) -> u32
-    ensures answer { λ r. ⌜ Answers r (now (answer .exit)) (outcome (firstOf (summaryChecks n l (now (coefs .entry)) (length (now (desc .entry))) (length (now (grand .entry)))))) ⌝ }
+    ensures answer { λ r. ⌜ Answers r (now (answer .exit)) (ofOutcome (firstOf (summaryChecks n l (now (coefs .entry)) (length (now (desc .entry))) (length (now (grand .entry)))))) ⌝ }
     ensures descs { λ r. ⌜ now (desc .exit) ≡ lentAfter (firstOf (summaryChecks n l (now (coefs .entry)) (length (now (desc .entry))) (length (now (grand .entry))))) (descTable n l (now (coefs .entry))) (now (desc .entry)) ⌝ }
     ensures grands { λ r. ⌜ now (grand .exit) ≡ lentAfter (firstOf (summaryChecks n l (now (coefs .entry)) (length (now (desc .entry))) (length (now (grand .entry))))) (grandTable n l (now (coefs .entry))) (now (grand .entry)) ⌝ }
 {
@@ -149,7 +138,7 @@ pub extern "C" fn txp_figures(
     grand: &mut [u32],
     answer: &mut [u32; 15],
 ) -> u32
-    ensures answer { λ r. ⌜ Answers r (now (answer .exit)) (figured (answered (firstOf (figuresChecks n l (now (values .entry)) (length (now (desc .entry))) (length (now (grand .entry))) plane)) (figuresOf n l (now (values .entry)) plane))) ⌝ }
+    ensures answer { λ r. ⌜ Answers r (now (answer .exit)) (ofFigures (answered (firstOf (figuresChecks n l (now (values .entry)) (length (now (desc .entry))) (length (now (grand .entry))) plane)) (figuresOf n l (now (values .entry)) plane))) ⌝ }
     ensures descs { λ r. ⌜ now (desc .exit) ≡ lentAfter (firstOf (figuresChecks n l (now (values .entry)) (length (now (desc .entry))) (length (now (grand .entry))) plane)) (descTable n l (now (values .entry))) (now (desc .entry)) ⌝ }
     ensures grands { λ r. ⌜ now (grand .exit) ≡ lentAfter (firstOf (figuresChecks n l (now (values .entry)) (length (now (desc .entry))) (length (now (grand .entry))) plane)) (grandTable n l (now (values .entry))) (now (grand .entry)) ⌝ }
 {
@@ -162,7 +151,7 @@ pub extern "C" fn txp_figures(
 // A whole raster array in linear order.
 #[no_mangle]
 pub extern "C" fn txp_to_linear(n: u32, from: &[i32], to: &mut [i32], answer: &mut [u32; 15]) -> u32
-    ensures answer { λ r. ⌜ Answers r (now (answer .exit)) (outcome (firstOf (reorderChecks n (length (now (from .entry))) (length (now (to .entry)))))) ⌝ }
+    ensures answer { λ r. ⌜ Answers r (now (answer .exit)) (ofOutcome (firstOf (reorderChecks n (length (now (from .entry))) (length (now (to .entry)))))) ⌝ }
     ensures reordered { λ r. ⌜ now (to .exit) ≡ lentAfter (firstOf (reorderChecks n (length (now (from .entry))) (length (now (to .entry))))) (order.linearly n (now (from .entry))) (now (to .entry)) ⌝ }
 {
     let done = places::reorder_to_linear(n, from, to);
@@ -172,7 +161,7 @@ pub extern "C" fn txp_to_linear(n: u32, from: &[i32], to: &mut [i32], answer: &m
 // A whole linear array in raster order.
 #[no_mangle]
 pub extern "C" fn txp_to_raster(n: u32, from: &[i32], to: &mut [i32], answer: &mut [u32; 15]) -> u32
-    ensures answer { λ r. ⌜ Answers r (now (answer .exit)) (outcome (firstOf (reorderChecks n (length (now (from .entry))) (length (now (to .entry)))))) ⌝ }
+    ensures answer { λ r. ⌜ Answers r (now (answer .exit)) (ofOutcome (firstOf (reorderChecks n (length (now (from .entry))) (length (now (to .entry)))))) ⌝ }
     ensures reordered { λ r. ⌜ now (to .exit) ≡ lentAfter (firstOf (reorderChecks n (length (now (from .entry))) (length (now (to .entry))))) (order.rasterly n (now (from .entry))) (now (to .entry)) ⌝ }
 {
     let done = places::reorder_to_raster(n, from, to);
@@ -182,7 +171,7 @@ pub extern "C" fn txp_to_raster(n: u32, from: &[i32], to: &mut [i32], answer: &m
 // The linear place of a raster place.
 #[no_mangle]
 pub extern "C" fn txp_linear_place(n: u32, place: u32, answer: &mut [u32; 15]) -> u32
-    ensures { λ r. ⌜ Answers r (now (answer .exit)) (linearly (linearIf (firstOf (placeChecks n place)) (order.toLinear n place))) ⌝ }
+    ensures { λ r. ⌜ Answers r (now (answer .exit)) (ofLinear (linearIf (firstOf (placeChecks n place)) (order.toLinear n place))) ⌝ }
 {
     match places::raster_at(n, place) {
         places::RasterAnswer::Place(p) => {
@@ -196,7 +185,7 @@ pub extern "C" fn txp_linear_place(n: u32, place: u32, answer: &mut [u32; 15]) -
 // The raster place of a linear place.
 #[no_mangle]
 pub extern "C" fn txp_raster_place(n: u32, place: u32, answer: &mut [u32; 15]) -> u32
-    ensures { λ r. ⌜ Answers r (now (answer .exit)) (rasterly (rasterIf (firstOf (placeChecks n place)) (order.toRaster n place))) ⌝ }
+    ensures { λ r. ⌜ Answers r (now (answer .exit)) (ofRaster (rasterIf (firstOf (placeChecks n place)) (order.toRaster n place))) ⌝ }
 {
     match places::linear_at(n, place) {
         places::LinearAnswer::Place(q) => {
@@ -212,7 +201,7 @@ pub extern "C" fn txp_raster_place(n: u32, place: u32, answer: &mut [u32; 15]) -
 // The planes of an array.
 #[no_mangle]
 pub extern "C" fn txp_planes(coefs: &[i32], answer: &mut [u32; 15]) -> u32
-    ensures { λ r. ⌜ Answers r (now (answer .exit)) (planes (coefficient.planesOf (now (coefs .entry)))) ⌝ }
+    ensures { λ r. ⌜ Answers r (now (answer .exit)) (ofPlanes (coefficient.planesOf (now (coefs .entry)))) ⌝ }
 {
     let done = coef::planes(coefs);
     put(answer, answers::of_planes(done))
@@ -221,7 +210,7 @@ pub extern "C" fn txp_planes(coefs: &[i32], answer: &mut [u32; 15]) -> u32
 // Whether x is below 0: 1 or 0.
 #[no_mangle]
 pub extern "C" fn txp_is_negative(x: i32, answer: &mut [u32; 15]) -> u32
-    ensures { λ r. ⌜ Answers r (now (answer .exit)) (value (digit (coefficient.negative x))) ⌝ }
+    ensures { λ r. ⌜ Answers r (now (answer .exit)) (ofValue (digit (coefficient.negative x))) ⌝ }
 {
     let done = coef::is_negative(x);
     put(answer, answers::of_bool(done))
@@ -230,7 +219,7 @@ pub extern "C" fn txp_is_negative(x: i32, answer: &mut [u32; 15]) -> u32
 // The magnitude of any number.
 #[no_mangle]
 pub extern "C" fn txp_magnitude(x: i32, answer: &mut [u32; 15]) -> u32
-    ensures { λ r. ⌜ Answers r (now (answer .exit)) (value (coefficient.magnitude x)) ⌝ }
+    ensures { λ r. ⌜ Answers r (now (answer .exit)) (ofValue (coefficient.magnitude x)) ⌝ }
 {
     let done = coef::magnitude(x);
     put(answer, answers::value(done))
@@ -239,7 +228,7 @@ pub extern "C" fn txp_magnitude(x: i32, answer: &mut [u32; 15]) -> u32
 // Sign and magnitude of a coefficient.
 #[no_mangle]
 pub extern "C" fn txp_part(x: i32, answer: &mut [u32; 15]) -> u32
-    ensures { λ r. ⌜ Answers r (now (answer .exit)) (parted (coefficient.partedOf x)) ⌝ }
+    ensures { λ r. ⌜ Answers r (now (answer .exit)) (ofParted (coefficient.partedOf x)) ⌝ }
 {
     let done = coef::part_of(x);
     put(answer, answers::of_parted(done))
@@ -253,7 +242,7 @@ pub extern "C" fn txp_join(
     to: &mut i32,
     answer: &mut [u32; 15],
 ) -> u32
-    ensures answer { λ r. ⌜ Answers r (now (answer .exit)) (joined (coefficient.joinedOf (signedOf negative magnitude))) ⌝ }
+    ensures answer { λ r. ⌜ Answers r (now (answer .exit)) (ofJoined (coefficient.joinedOf (signedOf negative magnitude))) ⌝ }
     ensures joined { λ r. ⌜ now (to .exit) ≡ joinedIn (coefficient.joinedOf (signedOf negative magnitude)) (now (to .entry)) ⌝ }
 {
     match coef::join_of(coef::Signed {
@@ -271,7 +260,7 @@ pub extern "C" fn txp_join(
 // A coefficient as a float, which is exactly that whole number.
 #[no_mangle]
 pub extern "C" fn txp_float(x: i32, to: &mut f32, answer: &mut [u32; 15]) -> u32
-    ensures answer { λ r. ⌜ Answers r (now (answer .exit)) (floated (coefficient.floatOf x)) ⌝ }
+    ensures answer { λ r. ⌜ Answers r (now (answer .exit)) (ofFloat (coefficient.floatOf x)) ⌝ }
     ensures floated { λ r. ⌜ now (to .exit) ≡ floatIn (coefficient.floatOf x) (now (to .entry)) ⌝ }
 {
     match coef::float_of(x) {
@@ -288,7 +277,7 @@ pub extern "C" fn txp_float(x: i32, to: &mut f32, answer: &mut [u32; 15]) -> u32
 // Bit b of x: 1 or 0.
 #[no_mangle]
 pub extern "C" fn txp_bit(x: u32, b: u32, answer: &mut [u32; 15]) -> u32
-    ensures { λ r. ⌜ Answers r (now (answer .exit)) (value (digit (bit x b))) ⌝ }
+    ensures { λ r. ⌜ Answers r (now (answer .exit)) (ofValue (digit (bit x b))) ⌝ }
 {
     let done = bits::bit_of(x, b);
     put(answer, answers::of_bool(done))
@@ -297,7 +286,7 @@ pub extern "C" fn txp_bit(x: u32, b: u32, answer: &mut [u32; 15]) -> u32
 // The bit with number `at` of those below `end`, if there is one.
 #[no_mangle]
 pub extern "C" fn txp_read_bit(body: &[u8], at: usize, end: usize, answer: &mut [u32; 15]) -> u32
-    ensures { λ r. ⌜ Answers r (now (answer .exit)) (next (viewed (now (body .entry)) at end)) ⌝ }
+    ensures { λ r. ⌜ Answers r (now (answer .exit)) (ofNext (viewed (now (body .entry)) at end)) ⌝ }
 {
     let done = view::read(body, at, end);
     put(answer, answers::of_next(done))
@@ -306,7 +295,7 @@ pub extern "C" fn txp_read_bit(body: &[u8], at: usize, end: usize, answer: &mut 
 // Puts a bit at number `at` and clears what lies below it in its byte. Any `x` but 0 is a 1.
 #[no_mangle]
 pub extern "C" fn txp_put_bit(body: &mut [u8], at: usize, x: u32, answer: &mut [u32; 15]) -> u32
-    ensures answer { λ r. ⌜ Answers r (now (answer .exit)) nothing ⌝ }
+    ensures answer { λ r. ⌜ Answers r (now (answer .exit)) blank ⌝ }
     ensures written { λ r. ⌜ now (body .exit) ≡ withBit (now (body .entry)) at (asBool x) ⌝ }
 {
     bits::put(body, at, x != 0);
@@ -318,7 +307,7 @@ pub extern "C" fn txp_put_bit(body: &mut [u8], at: usize, x: u32, answer: &mut [
 // Whether N is in range: 1 or 0.
 #[no_mangle]
 pub extern "C" fn txp_side_fits(n: u32, answer: &mut [u32; 15]) -> u32
-    ensures { λ r. ⌜ Answers r (now (answer .exit)) (value (digit (sideFits n))) ⌝ }
+    ensures { λ r. ⌜ Answers r (now (answer .exit)) (ofValue (digit (sideFits n))) ⌝ }
 {
     let done = sizes::side_fits(n);
     put(answer, answers::of_bool(done))
@@ -327,7 +316,7 @@ pub extern "C" fn txp_side_fits(n: u32, answer: &mut [u32; 15]) -> u32
 // Whether L is in range for this N: 1 or 0.
 #[no_mangle]
 pub extern "C" fn txp_levels_fit(n: u32, l: u32, answer: &mut [u32; 15]) -> u32
-    ensures { λ r. ⌜ Answers r (now (answer .exit)) (value (digit (levelsFit n l))) ⌝ }
+    ensures { λ r. ⌜ Answers r (now (answer .exit)) (ofValue (digit (levelsFit n l))) ⌝ }
 {
     let done = sizes::levels_fit(n, l);
     put(answer, answers::of_bool(done))
@@ -336,7 +325,7 @@ pub extern "C" fn txp_levels_fit(n: u32, l: u32, answer: &mut [u32; 15]) -> u32
 // I, the number of coefficients; 0 for an N out of range.
 #[no_mangle]
 pub extern "C" fn txp_all(n: u32, answer: &mut [u32; 15]) -> u32
-    ensures { λ r. ⌜ Answers r (now (answer .exit)) (value (cond (sideFits n) (allOf n) 0)) ⌝ }
+    ensures { λ r. ⌜ Answers r (now (answer .exit)) (ofValue (cond (sideFits n) (allOf n) 0)) ⌝ }
 {
     let done = sizes::all_of(n);
     put(answer, answers::value(done as u32))
@@ -345,7 +334,7 @@ pub extern "C" fn txp_all(n: u32, answer: &mut [u32; 15]) -> u32
 // D, the size of the coarsest band; 0 for sizes out of range.
 #[no_mangle]
 pub extern "C" fn txp_coarsest(n: u32, l: u32, answer: &mut [u32; 15]) -> u32
-    ensures { λ r. ⌜ Answers r (now (answer .exit)) (value (cond (sideFits n && levelsFit n l) (coarsestOf n l) 0)) ⌝ }
+    ensures { λ r. ⌜ Answers r (now (answer .exit)) (ofValue (cond (sideFits n && levelsFit n l) (coarsestOf n l) 0)) ⌝ }
 {
     let done = sizes::coarsest_of(n, l);
     put(answer, answers::value(done as u32))

@@ -1,13 +1,18 @@
 -- The call that writes a body: what it answers, and what the tables lent to it hold afterwards (document 01, "Numbers for no"). What it checks is in crate `room`.
 use Prim.Native.Nat.{ℕ, _+_}
+use mathlib.Core.Path.{_≡_}
 use mathlib.Core.Bool.{Bool}
 use mathlib.Core.List.{List, _++_}
 use lib.IntN.{ℤ}
 use lib.ListN.{length, take, drop}
+use Rattle.refusals.specs.Checks.{firstOf, lentAfter}
 use Rattle.refusals.specs.declared.Outcome.{Outcome}
 use Rattle.refusals.specs.declared.Outcome.the-variants as outcome
+use Rattle.bits.specs.Bits.{packed}
 use Rattle.coef.specs.Coef.{planesOf}
+use Rattle.tree.specs.Summaries.{descTable, grandTable}
 use Rattle.nls.specs.Stream.{stream, after}
+use Rattle.room.specs.Room.{writeChecks}
 use Rattle.encoder.specs.declared.body.WriteAnswer.{WriteAnswer}
 use Rattle.encoder.specs.declared.body.WriteAnswer.the-variants as encode
 
@@ -19,10 +24,6 @@ abbrev pub writeAnswer : ℕ → ℕ → List ℤ → ℕ → Outcome → WriteA
 writeAnswer N L A budget outcome.Done = encode.Done (record { planes = planesOf A; bits = length (sentBits N L A budget) })
 writeAnswer N L A budget (outcome.Refused why) = encode.Refused why
 
-abbrev pub writeEnd : WriteAnswer → Outcome
-writeEnd (encode.Done written) = outcome.Done
-writeEnd (encode.Refused why) = outcome.Refused why
-
 -- "After the same bits, encoder and decoder hold equal tables": the marks where the scan stopped
 abbrev pub sentMarks : ℕ → ℕ → List ℤ → ℕ → List ℕ
 sentMarks N L A budget = (after N L (planesOf A) (sentBits N L A budget)) .marks
@@ -31,3 +32,29 @@ sentMarks N L A budget = (after N L (planesOf A) (sentBits N L A budget)) .marks
 abbrev pub outputAfter : Outcome → ℕ → List ℕ → List ℕ → List ℕ
 outputAfter outcome.Done offset own held = take offset held ++ (own ++ drop (offset + length own) held)
 outputAfter (outcome.Refused why) offset own held = held
+
+-- what is lent to encoding: both summaries, the marks and the output
+pub record Lent : Type 0 where
+  pub descs : List ℕ
+  pub grands : List ℕ
+  pub marks : List ℕ
+  pub out : List ℕ
+
+abbrev pub lent : List ℕ → List ℕ → List ℕ → List ℕ → Lent
+lent d g m o = record { descs = d; grands = g; marks = m; out = o }
+
+-- the outcome of the checks on what is lent
+abbrev pub writeOutcome : ℕ → ℕ → List ℤ → ℕ → ℕ → Lent → Outcome
+writeOutcome N L A offset budget held =
+    firstOf (writeChecks N L A (length (held .descs)) (length (held .grands)) (length (held .marks)) (length (held .out)) offset budget)
+
+-- what it holds after that outcome, where `own` is written from `offset` on
+abbrev pub lentTo : Outcome → ℕ → ℕ → List ℤ → ℕ → ℕ → List ℕ → Lent → Lent
+lentTo o N L A budget offset own held =
+    lent (lentAfter o (descTable N L A) (held .descs)) (lentAfter o (grandTable N L A) (held .grands))
+    (lentAfter o (sentMarks N L A budget) (held .marks)) (outputAfter o offset own (held .out))
+
+-- a call that writes a body: the first check that fails decides its answer and what it leaves
+pub record Writes (N L : ℕ) (A : List ℤ) (offset budget : ℕ) (held : Lent) (answer : WriteAnswer) (left : Lent) : Type 0 where
+  pub answered : answer ≡ writeAnswer N L A budget (writeOutcome N L A offset budget held)
+  pub filled : left ≡ lentTo (writeOutcome N L A offset budget held) N L A budget offset (packed (sentBits N L A budget)) held

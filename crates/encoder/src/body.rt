@@ -4,14 +4,12 @@ use refusals::Refusal;
 ghost use mathlib.Core.Path.{_≡_};
 ghost use mathlib.Core.List.{_++_};
 ghost use lib.ListN.{length, drop};
-ghost use Rattle.refusals.specs.Checks.{firstOf, lentAfter};
 ghost use Rattle.sizes.specs.Sizes.{allOf};
 ghost use Rattle.bits.specs.Bits.{bytesFor, packed};
 ghost use Rattle.coef.specs.Coef.{planesOf};
 ghost use Rattle.tree.specs.Summaries.{descTable, grandTable};
-ghost use Rattle.room.specs.Room.{writeChecks};
 ghost use Rattle.room.specs.Ready.{EncodeReady};
-ghost use Rattle.encoder.specs.Body.{writeAnswer, writeEnd, sentBits, sentMarks, outputAfter};
+ghost use Rattle.encoder.specs.Body.{sentBits, sentMarks, lent, Writes};
 
 // The planes of the array, and the bits written.
 pub struct Written {
@@ -78,11 +76,7 @@ pub fn encode(
     offset: usize,
     budget: u32,
 ) -> WriteAnswer
-    ensures answer { λ r. ⌜ r ≡ writeAnswer n l (now (coefs .entry)) budget (firstOf (writeChecks n l (now (coefs .entry)) (length (now (desc .entry))) (length (now (grand .entry))) (length (now (marks .entry))) (length (now (out .entry))) offset budget)) ⌝ }
-    ensures descs { λ r. ⌜ now (desc .exit) ≡ lentAfter (writeEnd r) (descTable n l (now (coefs .entry))) (now (desc .entry)) ⌝ }
-    ensures grands { λ r. ⌜ now (grand .exit) ≡ lentAfter (writeEnd r) (grandTable n l (now (coefs .entry))) (now (grand .entry)) ⌝ }
-    ensures marked { λ r. ⌜ now (marks .exit) ≡ lentAfter (writeEnd r) (sentMarks n l (now (coefs .entry)) budget) (now (marks .entry)) ⌝ }
-    ensures written { λ r. ⌜ now (out .exit) ≡ outputAfter (writeEnd r) offset (packed (sentBits n l (now (coefs .entry)) budget)) (now (out .entry)) ⌝ }
+    ensures { λ r. ⌜ Writes n l (now (coefs .entry)) offset budget (lent (now (desc .entry)) (now (grand .entry)) (now (marks .entry)) (now (out .entry))) r (lent (now (desc .exit)) (now (grand .exit)) (now (marks .exit)) (now (out .exit))) ⌝ }
 {
     match room::check_encode(
         n,

@@ -5,3 +5,4 @@ pub mod Counted
 pub mod Checks
 pub mod Laws
 pub mod Decided
+pub mod Orders

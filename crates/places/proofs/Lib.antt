@@ -4,3 +4,4 @@ pub mod Decided
 pub mod Lookups
 pub mod Fours
 pub mod Checks
+pub mod Orders

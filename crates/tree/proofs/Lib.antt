@@ -7,3 +7,4 @@ pub mod Filling
 pub mod Parts
 pub mod Checks
 pub mod Decided
+pub mod Orders

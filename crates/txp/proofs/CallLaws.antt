@@ -7,7 +7,7 @@ use native.Mathlib.Omega.{arith}
 use lib.IntN.{ℤ}
 use lib.ListN.{length, take, drop, length-append}
 use lib.Seq.{drop-at, length-take-le}
-use Rattle.refusals.specs.Checks.{firstOf, lentAfter}
+use Rattle.refusals.specs.Checks.{firstOf}
 use Rattle.refusals.specs.declared.Refusal.{Refusal}
 use Rattle.refusals.specs.declared.Outcome.{Outcome}
 use Rattle.refusals.specs.declared.Outcome.the-variants.{Done, Refused}
@@ -23,7 +23,7 @@ use Rattle.room.specs.Ready.{EncodeReady}
 use Rattle.room.proofs.Laws.{encode-ready}
 use Rattle.encoder.specs.Body as body
 use Rattle.decoder.specs.Body as cutBody
-use Rattle.encoder.specs.Body.{sentBits, outputAfter}
+use Rattle.encoder.specs.Body.{sentBits, outputAfter, Lent, lent, lentTo, Writes}
 use Rattle.decoder.specs.Body.{Tables}
 use Rattle.encoder.specs.declared.body.Written.{Written}
 use Rattle.encoder.specs.declared.body.WriteAnswer as written
@@ -34,86 +34,74 @@ use Rattle.txp.specs.declared.EncodeAnswer.the-variants as encode
 use Rattle.txp.specs.declared.DecodeAnswer.the-variants as decode
 use Rattle.txp.specs.Header.{headerSize, headerBytes, headerOf, bodyOf}
 use Rattle.txp.specs.File.{headerFor, fileOf, usableBits}
-use Rattle.txp.specs.Calls.{encodeChecks, encodeAnswer, roomIn, decodeChecks, decodeAnswer, DecodesTo}
+use Rattle.txp.specs.Calls.{encodeAnswer, encodeOutcome, Encodes, roomIn, decodeChecks, decodeAnswer, DecodesTo}
 use Rattle.txp.specs.Under.{withHeader}
 use Rattle.txp.proofs.Headers.{header-length, letters-room}
 
 -- ---- encoding
 
--- the answer on the body tells the outcome of the checks
-end-of : (N L : ℕ) (A : List ℤ) (budget : ℕ) (o : Outcome) → body.writeEnd (body.writeAnswer N L A budget o) ≡ o
-end-of N L A budget Done = refl
-end-of N L A budget (Refused why) = refl
+module _ (N L : ℕ) (A : List ℤ) (budget : ℕ) (held mid : Lent) (r : written.WriteAnswer) (writes : Writes N L A headerSize budget held r mid) where
+  -- a body that was refused is a file that is refused, and what was lent is as it was
+  module _ (why : Refusal) (refused : r ≡ wrote.Refused why) where
+    fails : (o : Outcome) → wrote.Refused why ≡ body.writeAnswer N L A budget o → o ≡ Refused why
+    fails Done e = absurd (let z : _≡_ {A = ℕ} 0 1 = cc in omega arith)
+    fails (Refused x) e = cc
 
--- a lent table after the body's call, by its answer
-module _ (r : written.WriteAnswer) (own held now : List ℕ) (e : now ≡ lentAfter (body.writeEnd r) own held) where
-  pub table-done : (w : Written) → r ≡ wrote.Done w → now ≡ lentAfter Done own held
-  table-done w done = e ∙ rw done
-
-  pub table-refused : (why : Refusal) → r ≡ wrote.Refused why → now ≡ held
-  table-refused why refused = e ∙ rw refused
-
-module _ (N L : ℕ) (A : List ℤ) (descs grands marks budget : ℕ) (held : List ℕ) (r : written.WriteAnswer)
-    (is : r ≡ body.writeAnswer N L A budget (firstOf (encodeChecks N L A descs grands marks (length held) budget))) where
-  outcome : firstOf (encodeChecks N L A descs grands marks (length held) budget) ≡ body.writeEnd r
-  outcome = sym (ap body.writeEnd is ∙ end-of N L A budget (firstOf (encodeChecks N L A descs grands marks (length held) budget)))
-
-  pub refused-answer : (why : Refusal) → r ≡ wrote.Refused why
-      → encode.Refused why ≡ encodeAnswer N L A budget (firstOf (encodeChecks N L A descs grands marks (length held) budget))
-  refused-answer why e = rw (outcome, e)
-
-  pub output-refused : (why : Refusal) (left : List ℕ) → r ≡ wrote.Refused why
-      → left ≡ outputAfter (body.writeEnd r) headerSize (packed (sentBits N L A budget)) held → left ≡ held
-  output-refused why left refused e = e ∙ rw refused
+    pub refused-body : Encodes N L A budget held (encode.Refused why) mid
+    refused-body =
+        let o : encodeOutcome N L A budget held ≡ Refused why = fails (encodeOutcome N L A budget held) (sym refused ∙ writes .answered) in
+        record {
+          answered = ap (encodeAnswer N L A budget) (sym o);
+          filled =
+              writes .filled
+              ∙ ap (λ (x : Outcome). lentTo x N L A budget headerSize (packed (sentBits N L A budget)) held) o
+              ∙ ap (λ (x : Outcome). lentTo x N L A budget 0 (fileOf N L A budget) held) (sym o);
+        }
 
   module _ (w : Written) (done : r ≡ wrote.Done w) where
-    all-hold : firstOf (encodeChecks N L A descs grands marks (length held) budget) ≡ Done
-    all-hold = outcome ∙ ap body.writeEnd done
+    -- the checks hold, and the planes and the bits are the array's
+    says : (o : Outcome) → wrote.Done w ≡ body.writeAnswer N L A budget o → (o ≡ Done) × (w ≡ record { planes = planesOf A; bits = length (sentBits N L A budget) })
+    says Done e = (refl, cc)
+    says (Refused why) e = absurd (let z : _≡_ {A = ℕ} 0 1 = cc in omega arith)
 
-    so : EncodeReady N L A descs grands (length held - headerSize) budget × (allOf N ≤ marks) × (headerSize ≤ length held)
-    so = encode-ready N L A descs grands marks (length held) headerSize budget (sym all-hold)
+    said : (encodeOutcome N L A budget held ≡ Done) × (w ≡ record { planes = planesOf A; bits = length (sentBits N L A budget) })
+    said = says (encodeOutcome N L A budget held) (sym done ∙ writes .answered)
 
-    -- the planes and the bits are the array's
-    says : w ≡ record { planes = planesOf A; bits = length (sentBits N L A budget) }
-    says =
-        let e : wrote.Done w ≡ wrote.Done (record { planes = planesOf A; bits = length (sentBits N L A budget) }) =
-        sym done ∙ is ∙ ap (body.writeAnswer N L A budget) all-hold in
-        cc
+    so : EncodeReady N L A (length (held .descs)) (length (held .grands)) (length (held .out) - headerSize) budget × (allOf N ≤ length (held .marks)) × (headerSize ≤ length (held .out))
+    so = encode-ready N L A (length (held .descs)) (length (held .grands)) (length (held .marks)) (length (held .out)) headerSize budget (sym (said .0))
 
-    pub done-answer : encode.Done (record { planes = w .planes; bits = w .bits; bytes = headerSize + bytesFor (w .bits) })
-        ≡ encodeAnswer N L A budget (firstOf (encodeChecks N L A descs grands marks (length held) budget))
-    done-answer = rw (all-hold, says)
+    behind : mid .out ≡ take headerSize (held .out) ++ (packed (sentBits N L A budget) ++ drop (headerSize + length (packed (sentBits N L A budget))) (held .out))
+    behind = ap (λ (x : Lent). x .out) (writes .filled) ∙ ap (λ (x : Outcome). outputAfter x headerSize (packed (sentBits N L A budget)) (held .out)) (said .0)
 
-    module _ (left : List ℕ) (wrote : left ≡ outputAfter (body.writeEnd r) headerSize (packed (sentBits N L A budget)) held) where
-      behind : left ≡ take headerSize held ++ (packed (sentBits N L A budget) ++ drop (headerSize + length (packed (sentBits N L A budget))) held)
-      behind = wrote ∙ rw done
+    first : length (take headerSize (held .out)) ≡ headerSize
+    first = length-take-le headerSize (held .out) (so .2)
 
-      first : length (take headerSize held) ≡ headerSize
-      first = length-take-le headerSize held (so .2)
+    -- what putting the header asks
+    pub header-fits : (headerSize ≤ length (mid .out)) × (N < 256) × (L < 256) × (w .planes < 256)
+    header-fits =
+        let few : planesOf A ≤ mostPlanes = planes-most (planes-of A) (first-all A (so .0 .limited)) in
+        let z = sized N L (so .0 .levels) in (
+          omega (arith, ap {B = ℕ} length behind, length-append (take headerSize (held .out)) (packed (sentBits N L A budget) ++ drop (headerSize + length (packed (sentBits N L A budget))) (held .out)), first),
+          omega (arith, side-most N (so .0 .side)),
+          omega (arith, side-most N (so .0 .side), z .most),
+          omega (arith, few, ap {B = ℕ} (λ (x : Written). x .planes) (said .1)),
+        )
 
-      -- what putting the header asks
-      pub header-fits : (headerSize ≤ length left) × (N < 256) × (L < 256) × (w .planes < 256)
-      header-fits =
-          let few : planesOf A ≤ mostPlanes = planes-most (planes-of A) (first-all A (so .0 .limited)) in
-          let z = sized N L (so .0 .levels) in (
-            omega (arith, ap {B = ℕ} length behind, length-append (take headerSize held) (packed (sentBits N L A budget) ++ drop (headerSize + length (packed (sentBits N L A budget))) held), first),
-            omega (arith, side-most N (so .0 .side)),
-            omega (arith, side-most N (so .0 .side), z .most),
-            omega (arith, few, ap {B = ℕ} (λ (x : Written). x .planes) says),
-          )
-
-      -- behind the header stands the body, so the output begins with the file
-      pub file-written : (now : List ℕ) → now ≡ headerBytes (record { n = N; l = L; p = w .planes; declared = w .bits }) ++ drop headerSize left
-          → now ≡ lentAfter Done (fileOf N L A budget) held
-      file-written now e =
-          let h : headerBytes (record { n = N; l = L; p = w .planes; declared = w .bits }) ≡ headerBytes (headerFor N L A budget) =
-          ap (λ (x : Written). headerBytes (record { n = N; l = L; p = x .planes; declared = x .bits })) says in
-          let d : drop headerSize left ≡ packed (sentBits N L A budget) ++ drop (headerSize + length (packed (sentBits N L A budget))) held =
-          ap (λ (s : List ℕ). drop headerSize s) behind
-          ∙ drop-at (take headerSize held) (packed (sentBits N L A budget) ++ drop (headerSize + length (packed (sentBits N L A budget))) held) headerSize first in
-          let n : headerSize + length (packed (sentBits N L A budget)) ≡ length (fileOf N L A budget) =
-          omega (arith, length-append (headerBytes (headerFor N L A budget)) (packed (sentBits N L A budget)), header-length (headerFor N L A budget) []) in
-          e ∙ rw (h, d, n) (sym (append-assoc (headerBytes (headerFor N L A budget)) (packed (sentBits N L A budget)) (drop (length (fileOf N L A budget)) held)))
+    -- behind the header stands the body, so the output begins with the file
+    pub file-written : (out : List ℕ) → out ≡ headerBytes (record { n = N; l = L; p = w .planes; declared = w .bits }) ++ drop headerSize (mid .out)
+        → Encodes N L A budget held (encode.Done (record { planes = w .planes; bits = w .bits; bytes = headerSize + bytesFor (w .bits) })) (lent (mid .descs) (mid .grands) (mid .marks) out)
+    file-written out e =
+        let own : List ℕ = packed (sentBits N L A budget) in
+        let file : List ℕ = fileOf N L A budget in
+        let h : headerBytes (record { n = N; l = L; p = w .planes; declared = w .bits }) ≡ headerBytes (headerFor N L A budget) =
+        ap (λ (x : Written). headerBytes (record { n = N; l = L; p = x .planes; declared = x .bits })) (said .1) in
+        let d : drop headerSize (mid .out) ≡ own ++ drop (headerSize + length own) (held .out) =
+        ap (λ (s : List ℕ). drop headerSize s) behind ∙ drop-at (take headerSize (held .out)) (own ++ drop (headerSize + length own) (held .out)) headerSize first in
+        let n : headerSize + length own ≡ 0 + length file =
+        omega (arith, length-append (headerBytes (headerFor N L A budget)) own, header-length (headerFor N L A budget) []) in
+        let put : out ≡ outputAfter Done 0 file (held .out) = e ∙ rw (h, d, n) (sym (append-assoc (headerBytes (headerFor N L A budget)) own (drop (0 + length file) (held .out)))) in
+        let left : out ≡ outputAfter (encodeOutcome N L A budget held) 0 file (held .out) = put ∙ ap (λ (x : Outcome). outputAfter x 0 file (held .out)) (sym (said .0)) in
+        record { answered = rw (said .0, said .1); filled = λ i. lent (writes .filled i .descs) (writes .filled i .grands) (writes .filled i .marks) (left i) }
 
 -- ---- decoding
 

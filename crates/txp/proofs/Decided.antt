@@ -12,6 +12,7 @@ use Rattle.refusals.proofs.Decided.{OneOutcome}
 use Rattle.sizes.specs.Sizes.{Sized}
 use Rattle.nls.specs.Judging.{Verdict}
 use Rattle.nls.proofs.Verdicts.{judged-only}
+use Rattle.encoder.specs.Body.{Lent, lent}
 use Rattle.decoder.specs.Body.{Tables, tables}
 use Rattle.txp.specs.declared.Header.{Header}
 use Rattle.txp.specs.declared.DecodeAnswer.{DecodeAnswer}
@@ -23,15 +24,8 @@ use Rattle.txp.proofs.encode.Reads as encode
 use Rattle.txp.proofs.decode.Reads as decode
 
 -- DESC, GRAND, the marks and the output are the fourth to the seventh parameter
-pub encode-decided : OneOutcome {Lent = List ℕ × List ℕ × List ℕ × List ℕ} encode.Learnt
-    (λ k s. (now (s .1 .1 .1 .0), now (s .1 .1 .1 .1 .0), now (s .1 .1 .1 .1 .1 .0), now (s .1 .1 .1 .1 .1 .1 .0)))
-encode-decided k args r r' s s' p q =
-    let e : r ≡ r' = p .0 ∙ sym (q .0) in
-    let desc : now (s .1 .1 .1 .0) ≡ now (s' .1 .1 .1 .0) = p .1 .0 ∙ rw e (sym (q .1 .0)) in
-    let grand : now (s .1 .1 .1 .1 .0) ≡ now (s' .1 .1 .1 .1 .0) = p .1 .1 .0 ∙ rw e (sym (q .1 .1 .0)) in
-    let marks : now (s .1 .1 .1 .1 .1 .0) ≡ now (s' .1 .1 .1 .1 .1 .0) = p .1 .1 .1 .0 ∙ rw e (sym (q .1 .1 .1 .0)) in
-    let out : now (s .1 .1 .1 .1 .1 .1 .0) ≡ now (s' .1 .1 .1 .1 .1 .1 .0) = p .1 .1 .1 .1 ∙ rw e (sym (q .1 .1 .1 .1)) in
-    (e, cc)
+pub encode-decided : OneOutcome {Lent = Lent} encode.Learnt (λ k s. lent (now (s .1 .1 .1 .0)) (now (s .1 .1 .1 .1 .0)) (now (s .1 .1 .1 .1 .1 .0)) (now (s .1 .1 .1 .1 .1 .1 .0)))
+encode-decided k args r r' s s' p q = (p .answered ∙ sym (q .answered), p .filled ∙ sym (q .filled))
 
 -- a file's header and usable bits decide the rest, where its sizes are in range: there is one verdict on the bits
 module _ (h : Header) (u : List Bool) (held : Tables) (r r' : DecodeAnswer) (left left' : Tables) where

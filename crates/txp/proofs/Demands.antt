@@ -1,12 +1,13 @@
 -- What is proved of files: demands 2 and 3 of document 01 at the level of bytes and of the calls. `fileOf` is what encoding writes.
 use mathlib.Core.Path.{_≡_, refl, sym, ap, subst, _∙_}
-use mathlib.Core.Bool.{Bool, true}
+use mathlib.Core.Bool.{Bool, true, false}
 use mathlib.Core.Logic.{_⊎_, inl, inr}
 use mathlib.Core.List.{List, [], _∷_, _++_}
-use Prim.Native.Nat.{ℕ, zero, suc, _+_, _-_, _*_, _^_, min, _≤_, _<_}
+use Prim.Native.Nat.{ℕ, zero, suc, _+_, _-_, _*_, _/_, _^_, min, _≤_, _<_}
 use native.Mathlib.Omega.{arith}
-use borrow.Author.Tests.{le-leb, lt-leb}
-use lib.IntN.{ℤ, natAbs, _-ℤ_}
+use borrow.Author.Tests.{le-leb, lt-leb, ne-eqb}
+use lib.IntN.{ℤ, pos, natAbs, _-ℤ_}
+use lib.Pow.{pow-mono}
 use lib.ListN.{length, take, drop, replicate, length-take, length-append}
 use lib.Seq.{take-all, take-at}
 use Rattle.refusals.specs.declared.Refusal.{Refusal}
@@ -15,21 +16,23 @@ use Rattle.refusals.specs.declared.Outcome.{Outcome}
 use Rattle.refusals.specs.declared.Outcome.the-variants.{Done, Refused}
 use Rattle.refusals.specs.Refusals.{numberOf}
 use Rattle.refusals.specs.Checks.{firstOf, lentAfter}
-use Rattle.sizes.specs.Sizes.{allOf, sideFits, levelsFit, mostPlanes, Sized}
+use Rattle.sizes.specs.Sizes.{allOf, coarsestOf, sideFits, levelsFit, limit, mostPlanes, Sized}
 use Rattle.sizes.specs.Tables.{table}
 use Rattle.sizes.proofs.Laws.{side-most, sized}
-use Rattle.bits.specs.Bits.{bytesFor, packed}
+use Rattle.bits.specs.Bits.{bitAt, bytesFor, packed}
 use Rattle.bits.proofs.Laws.{packed-length}
-use Rattle.coef.specs.Coef.{at, planesOf, firstOver, IsPlanes}
-use Rattle.coef.proofs.Laws.{planes-of, planes-most, first-all}
+use Rattle.coef.specs.Coef.{at, magAt, planesOf, firstOver, IsPlanes}
+use Rattle.coef.proofs.Laws.{planes-of, planes-most, first-all, first-none}
 use Rattle.nls.specs.Stream.{stream, worstBody}
+use Rattle.nls.specs.Parts.{sumTo, parts, splits, nonzeros}
 use Rattle.nls.specs.Reading.{midpoint, valueBy, highBits, precisionAt, valuesBy, precisions, planesFinished, worstError}
 use Rattle.nls.specs.Judging.{Begins, Fits, Verdict, taken, contradiction, beyond}
 use Rattle.nls.proofs.Demands as scan
 use Rattle.nls.proofs.Counts.{stream-bound}
+use Rattle.nls.proofs.Streams.{marks-length}
 use Rattle.room.specs.Ready.{EncodeReady}
 use Rattle.room.proofs.Laws.{encode-ready}
-use Rattle.encoder.specs.Body.{sentBits, sentMarks}
+use Rattle.encoder.specs.Body.{sentBits, sentMarks, outputAfter, Lent}
 use Rattle.decoder.specs.Body.{Tables, tables, ownTables, over}
 use Rattle.txp.specs.declared.Header.{Header}
 use Rattle.txp.specs.declared.Encoded.{Encoded}
@@ -39,10 +42,10 @@ use Rattle.txp.specs.declared.DecodeAnswer.{DecodeAnswer}
 use Rattle.txp.specs.declared.DecodeAnswer.the-variants as decode
 use Rattle.txp.specs.Header.{headerSize, headerBytes, headerOf, lettersFit}
 use Rattle.txp.specs.File.{headerFor, fileOf, usableBits}
-use Rattle.txp.specs.Calls.{encodeChecks, encodeAnswer, encodeEnd, roomIn, decodeChecks, decodeAnswer, DecodedFile, DecodesTo, Decodes}
+use Rattle.txp.specs.Calls.{encodeAnswer, encodeOutcome, Encodes, paddingFits, roomIn, decodeChecks, decodeAnswer, DecodedFile, DecodesTo, Decodes}
 use Rattle.txp.proofs.Headers as headers
 use Rattle.txp.proofs.Headers.{header-length, letters-read, version-read, header-read, body-read}
-use Rattle.txp.proofs.Files.{cut-file, cut-bits, all-bits, no-surplus, padding-zero}
+use Rattle.txp.proofs.Files.{cut-file, cut-bits, all-bits, no-surplus, padding-zero, padding-refused, refused-padding}
 use Rattle.txp.proofs.CallLaws.{in-range}
 
 -- what is left of a list after two cuts begins it
@@ -156,11 +159,8 @@ module _ (N L : ℕ) (side : sideFits N ≡ true) (levels : levelsFit N L ≡ tr
   cut-early k values precisions marks h =
       rw (lt-leb headerSize (length (take k (fileOf N L A budget))) (omega (arith, h, length-take k (fileOf N L A budget))))
 
--- ---- THE CALLS. Encoding, for which its contract allows the answer `r` and leaves the output `left`, answered that it is done:
--- the first bytes of the output, as many as it says, are a file.
-module _ (N L : ℕ) (A : List ℤ) (budget : ℕ) (narrow : budget < 2 ^ 32) (descs grands marks : ℕ) (out left : List ℕ) (r : EncodeAnswer) (e : Encoded)
-    (answers : r ≡ encodeAnswer N L A budget (firstOf (encodeChecks N L A descs grands marks (length out) budget)))
-    (leaves : left ≡ lentAfter (encodeEnd r) (fileOf N L A budget) out) (done : r ≡ encode.Done e) where
+-- ---- THE CALLS. Encoding, for which its contract allows the answer `r` and leaves `left` of what it is lent, answered that it is done.
+module _ (N L : ℕ) (A : List ℤ) (budget : ℕ) (held left : Lent) (r : EncodeAnswer) (encodes : Encodes N L A budget held r left) (e : Encoded) (done : r ≡ encode.Done e) where
   told : (o : Outcome) → encode.Done e ≡ encodeAnswer N L A budget o → (o ≡ Done)
       × (e ≡ record { planes = planesOf A; bits = length (sentBits N L A budget); bytes = headerSize + bytesFor (length (sentBits N L A budget)) })
   told Done q = (refl, cc)
@@ -168,60 +168,118 @@ module _ (N L : ℕ) (A : List ℤ) (budget : ℕ) (narrow : budget < 2 ^ 32) (d
       let bad : _≡_ {A = ℕ} 0 1 = cc in
       absurd (omega arith)
 
-  so : EncodeReady N L A descs grands (length out - headerSize) budget
-  so = encode-ready N L A descs grands marks (length out) headerSize budget (sym (told (firstOf (encodeChecks N L A descs grands marks (length out) budget)) (sym done ∙ answers) .0)) .0
+  says : (encodeOutcome N L A budget held ≡ Done)
+      × (e ≡ record { planes = planesOf A; bits = length (sentBits N L A budget); bytes = headerSize + bytesFor (length (sentBits N L A budget)) })
+  says = told (encodeOutcome N L A budget held) (sym done ∙ encodes .answered)
 
-  says : e ≡ record { planes = planesOf A; bits = length (sentBits N L A budget); bytes = headerSize + bytesFor (length (sentBits N L A budget)) }
-  says = told (firstOf (encodeChecks N L A descs grands marks (length out) budget)) (sym done ∙ answers) .1
+  so : EncodeReady N L A (length (held .descs)) (length (held .grands)) (length (held .out) - headerSize) budget
+  so = encode-ready N L A (length (held .descs)) (length (held .grands)) (length (held .marks)) (length (held .out)) headerSize budget (sym (says .0)) .0
 
-  pub file-stands : take (e .bytes) left ≡ fileOf N L A budget
-  file-stands =
-      let n : e .bytes ≡ length (fileOf N L A budget) =
-      ap {B = ℕ} (λ (x : Encoded). x .bytes) says ∙ sym (file-length N L (so .side) (so .levels) A (so .whole) (so .limited) budget narrow) in
-      let begins : left ≡ fileOf N L A budget ++ drop (length (fileOf N L A budget)) out = leaves ∙ rw done in
-      rw (begins, n) (take-at (fileOf N L A budget) (drop (length (fileOf N L A budget)) out) (length (fileOf N L A budget)) refl)
+  -- its planes are "the least P with every magnitude below 2^P"
+  pub done-planes : IsPlanes A (e .planes)
+  done-planes = subst (λ (P : ℕ). IsPlanes A P) (sym (ap (λ (x : Encoded). x .planes) (says .1))) (planes-of A)
 
-  -- That file is decoded, for which decode's contract allows the answer `answer` and leaves the tables `after`.
-  module _ (held after : Tables) (answer : DecodeAnswer)
-      (room : roomIn (allOf N) (length (held .values)) (length (held .precisions)) (length (held .marks)) ≡ true) where
-    -- CUT after any byte of its body, or after none: its bits are taken, and they begin the stream of A
-    pub cut-given : (k : ℕ) → Decodes (take (headerSize + k) (take (e .bytes) left)) held answer after
-        → (answer ≡ decodeAnswer (headerFor N L A budget) (usableBits (take (headerSize + k) (take (e .bytes) left))) taken)
-        × (after ≡ over (allOf N) (ownTables N L (planesOf A) (usableBits (take (headerSize + k) (take (e .bytes) left))) taken) held)
-        × Begins N L (planesOf A) A (usableBits (take (headerSize + k) (take (e .bytes) left)))
-    cut-given k d =
-        let cut : take (headerSize + k) (take (e .bytes) left) ≡ take (headerSize + k) (fileOf N L A budget) = ap (λ (s : List ℕ). take (headerSize + k) s) file-stands in
-        let t =
-        cut-taken N L (so .side) (so .levels) A (so .whole) (so .limited) budget narrow k held after answer room (subst (λ (f : List ℕ). Decodes f held answer after) cut d) in
-        rw cut (t .0, t .1, cut-begins N L (so .side) (so .levels) A (so .whole) (so .limited) budget narrow k)
+  -- its bits are the smaller of the budget and demand 3's sum: "The bit count of an uncut stream is parts standing, added over planes, plus splits plus nonzeros"
+  pub done-bits : e .bits ≡ min budget (sumTo (e .planes) (λ b. parts N L A b) + splits N L A 0 + nonzeros N L A)
+  done-bits =
+      ap (λ (x : Encoded). x .bits) (says .1)
+      ∙ length-take budget (stream N L (planesOf A) A)
+      ∙ ap (λ (n : ℕ). min budget n) (scan.count N L (planesOf A) (sized N L (so .levels)) A (planes-of A))
+      ∙ ap (λ (P : ℕ). min budget (sumTo P (λ b. parts N L A b) + splits N L A 0 + nonzeros N L A)) (sym (ap (λ (x : Encoded). x .planes) (says .1)))
 
-    -- WHOLE, where the budget cut nothing: the array, precisions 0, the encoder's marks; all planes finished, worst error 0
-    pub given-back : length (stream N L (planesOf A) A) ≤ budget → Decodes (take (e .bytes) left) held answer after
-        → (answer ≡ decode.Done (record { n = N; l = L; p = e .planes; declared = e .bits; used = e .bits; finished = e .planes; error = 0 }))
-        × (after ≡ over (allOf N) (tables A (replicate (allOf N) 0) (sentMarks N L A budget)) held)
-    given-back h d =
-        let P : ℕ = planesOf A in
-        let u : List Bool = sentBits N L A budget in
+  pub done-bytes : e .bytes ≡ headerSize + bytesFor (e .bits)
+  done-bytes = ap (λ (x : Encoded). x .bytes) (says .1) ∙ ap (λ (n : ℕ). headerSize + bytesFor n) (sym (ap (λ (x : Encoded). x .bits) (says .1)))
+
+  -- With any 32-bit budget the first bytes of the output, as many as it says, are a file.
+  module _ (narrow : budget < 2 ^ 32) where
+    pub file-stands : take (e .bytes) (left .out) ≡ fileOf N L A budget
+    file-stands =
         let file : List ℕ = fileOf N L A budget in
-        let k : ℕ = bytesFor (length u) in
-        let z : Sized N L = sized N L (so .levels) in
-        let uncut : take (headerSize + k) file ≡ file =
-        take-all (headerSize + k) file (omega (arith, file-length N L (so .side) (so .levels) A (so .whole) (so .limited) budget narrow)) in
-        let t =
-        cut-taken N L (so .side) (so .levels) A (so .whole) (so .limited) budget narrow k held after answer room
-        (subst (λ (f : List ℕ). Decodes f held answer after) (file-stands ∙ sym uncut) d) in
-        let bits : usableBits (take (headerSize + k) file) ≡ u = ap usableBits uncut ∙ written-bits N L (so .side) (so .levels) A (so .whole) (so .limited) budget narrow in
-        let whole : u ≡ stream N L P A = take-all budget (stream N L P A) h in
-        let finished : planesFinished N L P u ≡ P = ap (λ (v : List Bool). planesFinished N L P v) whole ∙ scan.whole-finished N L P z A (so .whole) (planes-of A) in
-        let error : worstError N L P u ≡ 0 = ap (λ (v : List Bool). worstError N L P v) whole ∙ scan.whole-error N L P z A (so .whole) (planes-of A) in
-        let values : valuesBy N L P u midpoint ≡ A = ap (λ (v : List Bool). valuesBy N L P v midpoint) whole ∙ scan.whole N L P z A (so .whole) (planes-of A) in
-        let exact : precisions N L P u ≡ replicate (allOf N) 0 = ap (λ (v : List Bool). precisions N L P v) whole ∙ scan.whole-precisions N L P z A (so .whole) (planes-of A) in
-        let answered : decodeAnswer (headerFor N L A budget) u taken ≡ decode.Done (record { n = N; l = L; p = e .planes; declared = e .bits; used = e .bits; finished = e .planes; error = 0 }) =
-        rw says cc in
-        let filled : ownTables N L P u taken ≡ tables A (replicate (allOf N) 0) (sentMarks N L A budget) = cc in (
-          t .0 ∙ ap (λ (v : List Bool). decodeAnswer (headerFor N L A budget) v taken) bits ∙ answered,
-          t .1 ∙ ap (λ (v : List Bool). over (allOf N) (ownTables N L P v taken) held) bits ∙ ap (λ (x : Tables). over (allOf N) x held) filled,
-        )
+        let n : e .bytes ≡ length file = ap {B = ℕ} (λ (x : Encoded). x .bytes) (says .1) ∙ sym (file-length N L (so .side) (so .levels) A (so .whole) (so .limited) budget narrow) in
+        let begins : left .out ≡ file ++ drop (0 + length file) (held .out) =
+        ap (λ (x : Lent). x .out) (encodes .filled) ∙ ap (λ (o : Outcome). outputAfter o 0 file (held .out)) (says .0) in
+        ap (λ (k : ℕ). take k (left .out)) n ∙ ap (λ (s : List ℕ). take (length file) s) begins ∙ take-at file (drop (0 + length file) (held .out)) (length file) refl
+
+    -- That file is decoded, for which decode's contract allows the answer `answer` and leaves the tables `after`.
+    module _ (given after : Tables) (answer : DecodeAnswer)
+        (room : roomIn (allOf N) (length (given .values)) (length (given .precisions)) (length (given .marks)) ≡ true) where
+      -- CUT after any byte of its body, or after none: its bits are taken, and they begin the stream of A
+      pub cut-given : (k : ℕ) → Decodes (take (headerSize + k) (take (e .bytes) (left .out))) given answer after
+          → (answer ≡ decodeAnswer (headerFor N L A budget) (usableBits (take (headerSize + k) (take (e .bytes) (left .out)))) taken)
+          × (after ≡ over (allOf N) (ownTables N L (planesOf A) (usableBits (take (headerSize + k) (take (e .bytes) (left .out)))) taken) given)
+          × Begins N L (planesOf A) A (usableBits (take (headerSize + k) (take (e .bytes) (left .out))))
+      cut-given k d =
+          let cut : take (headerSize + k) (take (e .bytes) (left .out)) ≡ take (headerSize + k) (fileOf N L A budget) = ap (λ (s : List ℕ). take (headerSize + k) s) file-stands in
+          let t =
+          cut-taken N L (so .side) (so .levels) A (so .whole) (so .limited) budget narrow k given after answer room (subst (λ (f : List ℕ). Decodes f given answer after) cut d) in
+          rw cut (t .0, t .1, cut-begins N L (so .side) (so .levels) A (so .whole) (so .limited) budget narrow k)
+
+      module _ (decodes : Decodes (take (e .bytes) (left .out)) given answer after) where
+        -- UNCUT: its bits are taken, and they are those that were written
+        pub all-taken : (answer ≡ decodeAnswer (headerFor N L A budget) (sentBits N L A budget) taken)
+            × (after ≡ over (allOf N) (ownTables N L (planesOf A) (sentBits N L A budget) taken) given)
+        all-taken =
+            let file : List ℕ = fileOf N L A budget in
+            let k : ℕ = bytesFor (length (sentBits N L A budget)) in
+            let uncut : take (headerSize + k) file ≡ file =
+            take-all (headerSize + k) file (omega (arith, file-length N L (so .side) (so .levels) A (so .whole) (so .limited) budget narrow)) in
+            let t =
+            cut-taken N L (so .side) (so .levels) A (so .whole) (so .limited) budget narrow k given after answer room
+            (subst (λ (f : List ℕ). Decodes f given answer after) (file-stands ∙ sym uncut) decodes) in
+            let bits : usableBits (take (headerSize + k) file) ≡ sentBits N L A budget =
+            ap usableBits uncut ∙ written-bits N L (so .side) (so .levels) A (so .whole) (so .limited) budget narrow in (
+              t .0 ∙ ap (λ (v : List Bool). decodeAnswer (headerFor N L A budget) v taken) bits,
+              t .1 ∙ ap (λ (v : List Bool). over (allOf N) (ownTables N L (planesOf A) v taken) given) bits,
+            )
+
+        -- "After the same bits, encoder and decoder hold equal tables", whatever the budget
+        pub in-step : take (allOf N) (after .marks) ≡ take (allOf N) (left .marks)
+        in-step =
+            let own : List ℕ = sentMarks N L A budget in
+            let long : length own ≡ allOf N = marks-length N L (sized N L (so .levels)) (planesOf A) (sentBits N L A budget) in
+            let ours : left .marks ≡ own ++ drop (length own) (held .marks) =
+            ap (λ (x : Lent). x .marks) (encodes .filled) ∙ ap (λ (o : Outcome). lentAfter o own (held .marks)) (says .0) in
+            ap (λ (x : Tables). take (allOf N) (x .marks)) (all-taken .1)
+            ∙ take-at own (drop (allOf N) (given .marks)) (allOf N) long
+            ∙ sym (ap (λ (s : List ℕ). take (allOf N) s) ours ∙ take-at own (drop (length own) (held .marks)) (allOf N) long)
+
+        -- WHOLE, where the budget cut nothing: the array, precisions 0, the encoder's marks; all planes finished, worst error 0
+        pub given-back : length (stream N L (planesOf A) A) ≤ budget
+            → (answer ≡ decode.Done (record { n = N; l = L; p = e .planes; declared = e .bits; used = e .bits; finished = e .planes; error = 0 }))
+            × (after ≡ over (allOf N) (tables A (replicate (allOf N) 0) (sentMarks N L A budget)) given)
+        given-back h =
+            let P : ℕ = planesOf A in
+            let u : List Bool = sentBits N L A budget in
+            let z : Sized N L = sized N L (so .levels) in
+            let whole : u ≡ stream N L P A = take-all budget (stream N L P A) h in
+            let finished : planesFinished N L P u ≡ P = ap (λ (v : List Bool). planesFinished N L P v) whole ∙ scan.whole-finished N L P z A (so .whole) (planes-of A) in
+            let error : worstError N L P u ≡ 0 = ap (λ (v : List Bool). worstError N L P v) whole ∙ scan.whole-error N L P z A (so .whole) (planes-of A) in
+            let values : valuesBy N L P u midpoint ≡ A = ap (λ (v : List Bool). valuesBy N L P v midpoint) whole ∙ scan.whole N L P z A (so .whole) (planes-of A) in
+            let exact : precisions N L P u ≡ replicate (allOf N) 0 = ap (λ (v : List Bool). precisions N L P v) whole ∙ scan.whole-precisions N L P z A (so .whole) (planes-of A) in
+            let answered : decodeAnswer (headerFor N L A budget) u taken ≡ decode.Done (record { n = N; l = L; p = e .planes; declared = e .bits; used = e .bits; finished = e .planes; error = 0 }) =
+            rw (says .1) cc in
+            let filled : ownTables N L P u taken ≡ tables A (replicate (allOf N) 0) (sentMarks N L A budget) = cc in
+            (all-taken .0 ∙ answered, all-taken .1 ∙ ap (λ (x : Tables). over (allOf N) x given) filled)
+
+-- "and the bound is reached for each N, L, P": by an array that passes checks 1 to 4
+pub reached : (N L P : ℕ) → sideFits N ≡ true → levelsFit N L ≡ true → 1 ≤ P → P ≤ mostPlanes
+    → (A : List ℤ) × (length A ≡ allOf N) × (firstOver A ≡ length A) × IsPlanes A P
+    × (sumTo P (λ b. parts N L A b) + splits N L A 0 + nonzeros N L A ≡ allOf N * (P + 1) + (allOf N - coarsestOf N L) / 4 + (allOf N - 4 * coarsestOf N L) / 16)
+unfolding worstBody
+reached N L P side levels some most =
+    let A : List ℤ = replicate (allOf N) (pos (2 ^ (P - 1))) in
+    let z : Sized N L = sized N L levels in
+    let flat = scan.reached N L P z some in
+    let within : firstOver A ≡ length A =
+    first-none A (λ i. le-leb (magAt A i) limit (omega (arith, flat .1 .below i, pow-mono {i = P} {j = mostPlanes} most))) in
+    let worst : worstBody N L P ≡ allOf N * (P + 1) + (allOf N - coarsestOf N L) / 4 + (allOf N - 4 * coarsestOf N L) / 16 = rw (ne-eqb P 0 (λ e. omega (arith, e))) in
+    (A, flat .0, within, flat .1, sym (scan.count N L P z A (flat .1)) ∙ flat .2 ∙ worst)
+
+-- "11: all body bytes present, padding not 0": exactly where as many bytes are there as the declared bits need, and a bit behind these is 1
+pub padding-exactly : (declared : ℕ) (body : List ℕ)
+    → (paddingFits declared body ≡ false → (length body ≡ bytesFor declared) × ((k : ℕ) × (declared ≤ k) × (k < 8 * length body) × (bitAt body k ≡ true)))
+    × ((length body ≡ bytesFor declared) × ((k : ℕ) × (declared ≤ k) × (k < 8 * length body) × (bitAt body k ≡ true)) → paddingFits declared body ≡ false)
+padding-exactly declared body = (padding-refused declared body, λ p. refused-padding declared body (p .0) (p .1 .0) (p .1 .1) (p .1 .2) (p .1 .3))
 
 -- Any file whose checks hold, and what decode's contract allows: it is refused by 12 or 13 exactly if no array fits its usable bits.
 abbrev pub Refuses : DecodeAnswer → Type 0

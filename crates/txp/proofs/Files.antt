@@ -1,17 +1,17 @@
--- A file that was written is read back bit by bit, also where it was cut.
+-- A file that was written is read back bit by bit, also where it was cut; and what refusal 11 means.
 use mathlib.Core.Path.{_≡_, refl, sym, ap, subst, _∙_}
-use mathlib.Core.Bool.{Bool, true, false}
+use mathlib.Core.Bool.{Bool, true, false, cond, false≢true}
 use mathlib.Core.List.{List, [], _++_}
-use Prim.Native.Nat.{ℕ, _+_, _*_, _-_, _/_, _%_, _^_, min, _≤_, _<_}
+use Prim.Native.Nat.{ℕ, zero, suc, _+_, _*_, _-_, _/_, _%_, _^_, min, _≤_, _<_}
 use native.Mathlib.Omega.{arith}
-use native.Mathlib.Nat.{mod-lt}
+use native.Mathlib.Nat.{pow-suc, mod-lt}
 use lib.Dec.{leb, eqb}
 use lib.Pow.{pow-pos}
 use lib.ListN.{length, getD, take, drop, length-take, take-append-drop}
 use lib.Seq.{take-append-add, take-all}
-use borrow.Author.Tests.{eqb-true, eq-eqb, le-leb, leb-true, leb-false}
-use Rattle.bits.specs.Bits.{bit, bitsOf, bytesFor, packed}
-use Rattle.bits.proofs.Laws.{packed-length, packed-past, bitsOf-packed, take-bitsOf, bitsOf-append, bitAt-byte, eq-bits, bit-mod, bit-none}
+use borrow.Author.Tests.{eqb-true, eqb-false, eq-eqb, le-leb, leb-true, leb-false}
+use Rattle.bits.specs.Bits.{bit, bitAt, bitsOf, bytesFor, packed}
+use Rattle.bits.proofs.Laws.{packed-length, packed-past, bitsOf-packed, take-bitsOf, bitsOf-append, bitAt-byte, bitAt-past, eq-bits, bit-0, bit-suc, bit-mod, bit-none}
 use Rattle.txp.specs.declared.Header.{Header}
 use Rattle.txp.specs.Header.{headerSize, headerBytes}
 use Rattle.txp.specs.File.{usableBits}
@@ -95,3 +95,61 @@ module _ (h : Header) (fits : Fits h) (u : List Bool) (says : h .declared ≡ le
           omega (arith, says, eqb-true (length (take k (packed u))) (bytesFor (h .declared)) e, length-take k (packed u), packed-length u) in
           ap (λ (s : List ℕ). paddingFits (h .declared) s) (take-all k (packed u) all) ∙ zero-padding
       tell false e = rw e
+
+-- a number below 2^n that is not 0 has a bit below n
+some-bit : (n x : ℕ) → x < 2 ^ n → (x ≡ 0 → ⊥) → (b : ℕ) × (b < n) × (bit x b ≡ true)
+some-bit zero x h f = absurd (f (omega (arith, h)))
+some-bit (suc n) x h f = tell (eqb (x % 2) 1) refl (λ g. some-bit n (x / 2) (omega (arith, h, pow-suc 2 n)) g)
+  where
+    tell : (t : Bool) → eqb (x % 2) 1 ≡ t → ((x / 2 ≡ 0 → ⊥) → (b : ℕ) × (b < n) × (bit (x / 2) b ≡ true)) → (b : ℕ) × (b < suc n) × (bit x b ≡ true)
+    tell true e more = (0, omega arith, bit-0 x ∙ e)
+    tell false e more =
+        let s = more (λ z. f (omega (arith, z, eqb-false (x % 2) 1 e))) in
+        (suc (s .0), omega (arith, s .1), bit-suc x (s .0) ∙ s .2)
+
+-- what refusal 11 means: all bytes are there, and a bit behind the declared ones is 1
+module _ (declared : ℕ) (body : List ℕ) where
+  last : ℕ
+  last = getD body (declared / 8) 0
+
+  -- the bits behind the declared ones are the low bits of the last byte
+  behind : (b : ℕ) → b < 8 - declared % 8 → bitAt body (8 * (declared / 8) + (7 - b)) ≡ bit (last % 2 ^ (8 - declared % 8)) b
+  unfolding last
+  behind b l =
+      bitAt-byte body (declared / 8) (7 - b) (omega arith)
+      ∙ ap (λ (c : ℕ). bit (getD body (declared / 8) 0) c) {x = 7 - (7 - b)} {y = b} (omega arith)
+      ∙ sym (bit-mod (getD body (declared / 8) 0) (8 - declared % 8) b l)
+
+  within : (k : ℕ) → bitAt body k ≡ true → k < 8 * length body
+  within k e = tell (leb (8 * length body) k) refl
+    where
+      tell : (t : Bool) → leb (8 * length body) k ≡ t → k < 8 * length body
+      tell true f = absurd (false≢true (sym (bitAt-past body k (leb-true (8 * length body) k f)) ∙ e))
+      tell false f = leb-false (8 * length body) k f
+
+  pub padding-refused : paddingFits declared body ≡ false
+      → (length body ≡ bytesFor declared) × ((k : ℕ) × (declared ≤ k) × (k < 8 * length body) × (bitAt body k ≡ true))
+  unfolding paddingFits last
+  padding-refused = tell (eqb (length body) (bytesFor declared)) refl
+    where
+      tell : (t : Bool) → eqb (length body) (bytesFor declared) ≡ t → cond t (eqb (getD body (declared / 8) 0 % 2 ^ (8 - declared % 8)) 0) true ≡ false
+          → (length body ≡ bytesFor declared) × ((k : ℕ) × (declared ≤ k) × (k < 8 * length body) × (bitAt body k ≡ true))
+      tell false e f = absurd (false≢true (sym f))
+      tell true e f =
+          let low : ℕ = getD body (declared / 8) 0 % 2 ^ (8 - declared % 8) in
+          let s = some-bit (8 - declared % 8) low (mod-lt (getD body (declared / 8) 0) (pow-pos (8 - declared % 8))) (eqb-false low 0 f) in
+          let one : bitAt body (8 * (declared / 8) + (7 - s .0)) ≡ true = behind (s .0) (s .1) ∙ s .2 in
+          (eqb-true (length body) (bytesFor declared) e, (8 * (declared / 8) + (7 - s .0), omega (arith, s .1), within (8 * (declared / 8) + (7 - s .0)) one, one))
+
+  pub refused-padding : length body ≡ bytesFor declared → (k : ℕ) → declared ≤ k → k < 8 * length body → bitAt body k ≡ true → paddingFits declared body ≡ false
+  unfolding paddingFits last
+  refused-padding e k from to one = rw (eq-eqb (length body) (bytesFor declared) e) (tell (eqb (getD body (declared / 8) 0 % 2 ^ (8 - declared % 8)) 0) refl)
+    where
+      tell : (t : Bool) → eqb (getD body (declared / 8) 0 % 2 ^ (8 - declared % 8)) 0 ≡ t → eqb (getD body (declared / 8) 0 % 2 ^ (8 - declared % 8)) 0 ≡ false
+      tell false f = f
+      tell true f =
+          let low : getD body (declared / 8) 0 % 2 ^ (8 - declared % 8) ≡ 0 = eqb-true (getD body (declared / 8) 0 % 2 ^ (8 - declared % 8)) 0 f in
+          let here : k ≡ 8 * (declared / 8) + (7 - (7 - k % 8)) = omega (arith, e, from, to) in
+          let none : bitAt body k ≡ false =
+          ap (λ (i : ℕ). bitAt body i) here ∙ behind (7 - k % 8) (omega (arith, e, from, to)) ∙ ap (λ (x : ℕ). bit x (7 - k % 8)) low ∙ bit-none (7 - k % 8) in
+          absurd (false≢true (sym none ∙ one))

@@ -5,3 +5,4 @@ pub mod CallLaws
 pub mod Decided
 pub mod Demands
 pub mod Samples
+pub mod Orders

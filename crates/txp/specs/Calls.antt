@@ -6,7 +6,7 @@ use mathlib.Core.List.{List, [], _∷_}
 use lib.Dec.{leb, eqb}
 use lib.IntN.{ℤ}
 use lib.ListN.{length, getD}
-use Rattle.refusals.specs.declared.Refusal.the-variants.{Side, Levels, Lent, Letters, Version, Planes, Surplus, Padding, Contradiction, Beyond}
+use Rattle.refusals.specs.declared.Refusal.the-variants as refusal
 use Rattle.refusals.specs.declared.Outcome.{Outcome}
 use Rattle.refusals.specs.declared.Outcome.the-variants as outcome
 use Rattle.refusals.specs.Checks.{Check, need, firstOf}
@@ -15,8 +15,7 @@ use Rattle.bits.specs.Bits.{bytesFor}
 use Rattle.coef.specs.Coef.{planesOf}
 use Rattle.nls.specs.Reading.{planesFinished, worstError}
 use Rattle.nls.specs.Judging.{Verdict, taken, contradiction, beyond, Judged}
-use Rattle.room.specs.Room as room
-use Rattle.encoder.specs.Body.{sentBits}
+use Rattle.encoder.specs.Body.{sentBits, Lent, writeOutcome, lentTo}
 use Rattle.decoder.specs.Body.{Tables, ownTables, over}
 use Rattle.txp.specs.declared.Header.{Header}
 use Rattle.txp.specs.declared.EncodeAnswer.{EncodeAnswer}
@@ -24,22 +23,23 @@ use Rattle.txp.specs.declared.EncodeAnswer.the-variants as encode
 use Rattle.txp.specs.declared.DecodeAnswer.{DecodeAnswer}
 use Rattle.txp.specs.declared.DecodeAnswer.the-variants as decode
 use Rattle.txp.specs.Header.{headerSize, lettersFit, versionFits, headerOf, bodyOf}
-use Rattle.txp.specs.File.{usableBits}
+use Rattle.txp.specs.File.{fileOf, usableBits}
 
 -- ---- encoding
-
--- "Encoding checks 1 to 6 in that order": those of its body, which begins behind the header
-abbrev pub encodeChecks : ℕ → ℕ → List ℤ → ℕ → ℕ → ℕ → ℕ → ℕ → List Check
-encodeChecks N L A descs grands marks out budget = room.writeChecks N L A descs grands marks out headerSize budget
 
 abbrev pub encodeAnswer : ℕ → ℕ → List ℤ → ℕ → Outcome → EncodeAnswer
 encodeAnswer N L A budget outcome.Done =
     encode.Done (record { planes = planesOf A; bits = length (sentBits N L A budget); bytes = headerSize + bytesFor (length (sentBits N L A budget)) })
 encodeAnswer N L A budget (outcome.Refused why) = encode.Refused why
 
-abbrev pub encodeEnd : EncodeAnswer → Outcome
-encodeEnd (encode.Done written) = outcome.Done
-encodeEnd (encode.Refused why) = outcome.Refused why
+-- "Encoding checks 1 to 6 in that order": those of its body, which begins behind the header
+abbrev pub encodeOutcome : ℕ → ℕ → List ℤ → ℕ → Lent → Outcome
+encodeOutcome N L A budget held = writeOutcome N L A headerSize budget held
+
+-- a call that writes a file: the first check that fails decides its answer and what it leaves
+pub record Encodes (N L : ℕ) (A : List ℤ) (budget : ℕ) (held : Lent) (answer : EncodeAnswer) (left : Lent) : Type 0 where
+  pub answered : answer ≡ encodeAnswer N L A budget (encodeOutcome N L A budget held)
+  pub filled : left ≡ lentTo (encodeOutcome N L A budget held) N L A budget 0 (fileOf N L A budget) held
 
 -- ---- decoding: "7, 8, 1, 2, 9, 10, 11, 5, then 12 or 13, whichever bit comes first"
 
@@ -55,17 +55,17 @@ roomIn all values precisions marks = leb all values && (leb all precisions && le
 -- by the header, the body, and the lengths of the lent values, precisions and marks: 1, 2, 9, 10, 11, 5
 abbrev pub restChecks : Header → List ℕ → ℕ → ℕ → ℕ → List Check
 restChecks h body values precisions marks =
-    need (sideFits (h .n)) Side
-    ∷ need (levelsFit (h .n) (h .l)) Levels
-    ∷ need (leb (h .p) mostPlanes) Planes
-    ∷ need (leb (length body) (bytesFor (h .declared))) Surplus
-    ∷ need (paddingFits (h .declared) body) Padding
-    ∷ need (roomIn (allOf (h .n)) values precisions marks) Lent
+    need (sideFits (h .n)) refusal.Side
+    ∷ need (levelsFit (h .n) (h .l)) refusal.Levels
+    ∷ need (leb (h .p) mostPlanes) refusal.Planes
+    ∷ need (leb (length body) (bytesFor (h .declared))) refusal.Surplus
+    ∷ need (paddingFits (h .declared) body) refusal.Padding
+    ∷ need (roomIn (allOf (h .n)) values precisions marks) refusal.Lent
     ∷ []
 
 abbrev pub decodeChecks : List ℕ → ℕ → ℕ → ℕ → List Check
 decodeChecks file values precisions marks =
-    need (lettersFit file) Letters ∷ need (versionFits file) Version
+    need (lettersFit file) refusal.Letters ∷ need (versionFits file) refusal.Version
     ∷ restChecks (headerOf file) (bodyOf file) values precisions marks
 
 -- by the header, the usable bits and the verdict on them
@@ -81,8 +81,8 @@ decodeAnswer h u taken =
       finished = planesFinished (h .n) (h .l) (h .p) u;
       error = worstError (h .n) (h .l) (h .p) u;
     })
-decodeAnswer h u (contradiction bit) = decode.Refused (Contradiction bit)
-decodeAnswer h u (beyond bit) = decode.Refused (Beyond bit)
+decodeAnswer h u (contradiction bit) = decode.Refused (refusal.Contradiction bit)
+decodeAnswer h u (beyond bit) = decode.Refused (refusal.Beyond bit)
 
 -- a call whose checks all hold: the verdict on the usable bits decides the answer and the tables
 pub record DecodedFile (h : Header) (u : List Bool) (held : Tables) (answer : DecodeAnswer) (left : Tables) : Type 0 where

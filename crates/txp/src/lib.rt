@@ -6,13 +6,11 @@ ghost use mathlib.Core.List.{_++_};
 ghost use Prim.Native.Nat.{_<_, _≤_};
 ghost use lib.ListN.{length, getD, set, drop};
 ghost use lib.Seq.{sets};
-ghost use Rattle.refusals.specs.Checks.{firstOf, lentAfter};
+ghost use Rattle.refusals.specs.Checks.{firstOf};
 ghost use Rattle.bits.specs.Bits.{bytesFor};
-ghost use Rattle.tree.specs.Summaries.{descTable, grandTable};
-ghost use Rattle.encoder.specs.Body.{sentMarks};
+ghost use Rattle.encoder.specs.Body.{lent};
 ghost use Rattle.decoder.specs.Body.{tables};
-ghost use Rattle.txp.specs.File.{fileOf};
-ghost use Rattle.txp.specs.Calls.{encodeChecks, encodeAnswer, encodeEnd, paddingFits, roomIn, restChecks, decodeChecks, Decodes};
+ghost use Rattle.txp.specs.Calls.{Encodes, paddingFits, roomIn, restChecks, decodeChecks, Decodes};
 ghost use Rattle.txp.specs.Under.{withHeader};
 ghost use Rattle.txp.specs.Header.{bodyOf, headerSize, headerBytes, twoAt, twoBytes, lettersFit, versionFits, headerOf};
 
@@ -237,11 +235,7 @@ pub fn encode(
     out: &mut [u8],
     budget: u32,
 ) -> EncodeAnswer
-    ensures answer { λ r. ⌜ r ≡ encodeAnswer n l (now (coefs .entry)) budget (firstOf (encodeChecks n l (now (coefs .entry)) (length (now (desc .entry))) (length (now (grand .entry))) (length (now (marks .entry))) (length (now (out .entry))) budget)) ⌝ }
-    ensures descs { λ r. ⌜ now (desc .exit) ≡ lentAfter (encodeEnd r) (descTable n l (now (coefs .entry))) (now (desc .entry)) ⌝ }
-    ensures grands { λ r. ⌜ now (grand .exit) ≡ lentAfter (encodeEnd r) (grandTable n l (now (coefs .entry))) (now (grand .entry)) ⌝ }
-    ensures marked { λ r. ⌜ now (marks .exit) ≡ lentAfter (encodeEnd r) (sentMarks n l (now (coefs .entry)) budget) (now (marks .entry)) ⌝ }
-    ensures written { λ r. ⌜ now (out .exit) ≡ lentAfter (encodeEnd r) (fileOf n l (now (coefs .entry)) budget) (now (out .entry)) ⌝ }
+    ensures { λ r. ⌜ Encodes n l (now (coefs .entry)) budget (lent (now (desc .entry)) (now (grand .entry)) (now (marks .entry)) (now (out .entry))) r (lent (now (desc .exit)) (now (grand .exit)) (now (marks .exit)) (now (out .exit))) ⌝ }
 {
     let body = encoder::encode(n, l, coefs, desc, grand, marks, out, HEADER_SIZE, budget);
     match body {

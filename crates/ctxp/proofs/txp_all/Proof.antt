@@ -1,7 +1,7 @@
 use mathlib.Core.Path.{sym, ap, _∙_, subst}
 use Prim.Native.Nat.{ℕ, _<_, _^_}
 use borrow.Author.Needs.{needs}
-use Rattle.ctxp.specs.Answers.{value}
+use Rattle.ctxp.specs.Answers.{ofValue}
 use Rattle.ctxp.proofs.Laws.{all-short, answers-by}
 use Rattle.ctxp.proofs.txp_all.Statement.{statement}
 use Rattle.ctxp.proofs.txp_all.Tie as tie
@@ -19,7 +19,7 @@ put-requires : tie.Need-put-requires
 put-requires c κs = search needs
 
 returns : tie.Need-returns
-returns c = answers-by (c .put .result) _ (c .before .value .ensures ∙ ap value (c .before .before .before .all-of .ensures)) (c .put .ensures)
+returns c = answers-by (c .put .result) _ (c .before .value .ensures ∙ ap ofValue (c .before .before .before .all-of .ensures)) (c .put .ensures)
 
 pub txp-all-spec : {M : Type 1} → statement M
 txp-all-spec = tie.close (tie.spec all-of-requires cast-value value-requires put-requires returns)

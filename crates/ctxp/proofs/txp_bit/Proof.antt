@@ -2,7 +2,7 @@ use mathlib.Core.Bool.{Bool}
 use mathlib.Core.Path.{ap, _∙_}
 use borrow.Author.Needs.{needs}
 use Rattle.bits.specs.Bits.{digit}
-use Rattle.ctxp.specs.Answers.{value}
+use Rattle.ctxp.specs.Answers.{ofValue}
 use Rattle.ctxp.proofs.Laws.{answers-by}
 use Rattle.ctxp.proofs.txp_bit.Statement.{statement}
 use Rattle.ctxp.proofs.txp_bit.Tie as tie
@@ -17,7 +17,7 @@ put-requires : tie.Need-put-requires
 put-requires c κs = search needs
 
 returns : tie.Need-returns
-returns c = answers-by (c .put .result) _ (c .before .of-bool .ensures ∙ ap (λ (t : Bool). value (digit t)) (c .before .before .before .bit-of .ensures)) (c .put .ensures)
+returns c = answers-by (c .put .result) _ (c .before .of-bool .ensures ∙ ap (λ (t : Bool). ofValue (digit t)) (c .before .before .before .bit-of .ensures)) (c .put .ensures)
 
 pub txp-bit-spec : {M : Type 1} → statement M
 txp-bit-spec = tie.close (tie.spec bit-of-requires of-bool-requires put-requires returns)

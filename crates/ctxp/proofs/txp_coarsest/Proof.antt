@@ -1,7 +1,7 @@
 use mathlib.Core.Path.{sym, ap, _∙_, subst}
 use Prim.Native.Nat.{ℕ, _<_, _^_}
 use borrow.Author.Needs.{needs}
-use Rattle.ctxp.specs.Answers.{value}
+use Rattle.ctxp.specs.Answers.{ofValue}
 use Rattle.ctxp.proofs.Laws.{coarsest-short, answers-by}
 use Rattle.ctxp.proofs.txp_coarsest.Statement.{statement}
 use Rattle.ctxp.proofs.txp_coarsest.Tie as tie
@@ -19,7 +19,7 @@ put-requires : tie.Need-put-requires
 put-requires c κs = search needs
 
 returns : tie.Need-returns
-returns c = answers-by (c .put .result) _ (c .before .value .ensures ∙ ap value (c .before .before .before .coarsest-of .ensures)) (c .put .ensures)
+returns c = answers-by (c .put .result) _ (c .before .value .ensures ∙ ap ofValue (c .before .before .before .coarsest-of .ensures)) (c .put .ensures)
 
 pub txp-coarsest-spec : {M : Type 1} → statement M
 txp-coarsest-spec =

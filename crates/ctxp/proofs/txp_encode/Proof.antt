@@ -1,13 +1,6 @@
-use mathlib.Core.Path.{ap, _∙_}
-use lib.ListN.{length}
 use borrow.Author.Needs.{needs}
-use Rattle.txp.specs.Calls.{encodeChecks, encodeEnd}
-use Rattle.refusals.specs.Checks.{firstOf}
-use Rattle.txp.specs.File.{fileOf}
-use Rattle.encoder.specs.Body.{sentMarks}
-use Rattle.tree.specs.Summaries.{descTable, grandTable}
-use Rattle.ctxp.specs.Answers.{encoded}
-use Rattle.ctxp.proofs.Laws.{answers-by, lent-by, file-ends, file-short}
+use Rattle.encoder.specs.Body.{lent}
+use Rattle.ctxp.proofs.Laws.{answers-by, file-short}
 use Rattle.ctxp.proofs.txp_encode.Statement.{statement}
 use Rattle.ctxp.proofs.txp_encode.Tie as tie
 
@@ -15,7 +8,11 @@ encode-requires : tie.Need-encode-requires
 encode-requires c κs = search needs
 
 of-encoded-requires : tie.Need-of-encoded-requires
-of-encoded-requires c κs = let a = c .before .before .before .before .before .before .before .before .before .before .before .before .before .before .before .before .before .before .args in file-short (a .n) (a .l) (a .coefs .now) (a .budget) (firstOf (encodeChecks (a .n) (a .l) (a .coefs .now) (length (a .desc .now)) (length (a .grand .now)) (length (a .marks .now)) (length (a .out .now)) (a .budget))) (c .before .before .before .before .before .before .before .before .before .before .before .before .before .before .before .before .before .before .fits .budget .fits) (c .before .before .before .before .before .before .before .before .before .encode .ensures .0)
+of-encoded-requires c κs =
+    let a = c .before .before .before .before .before .before .before .before .before .before .before .before .before .before .before .before .before .before .args in
+    let e = c .before .before .before .before .before .before .before .before .before .encode in
+    file-short (a .n) (a .l) (a .coefs .now) (a .budget) (lent (a .desc .now) (a .grand .now) (a .marks .now) (a .out .now))
+    (lent (e .last .1 .1 .1 .0) (e .last .1 .1 .1 .1 .0) (e .last .1 .1 .1 .1 .1 .0) (e .last .1 .1 .1 .1 .1 .1 .0)) (c .before .before .before .before .before .before .before .before .before .before .before .before .before .before .before .before .before .before .fits .budget .fits) (e .ensures)
 
 put-requires : tie.Need-put-requires
 put-requires c κs = search needs
@@ -34,22 +31,8 @@ same-length-4 c = search needs
 
 returns : tie.Need-returns
 returns c =
-    let a = c .before .before .before .before .before .before .before .before .before .before .before .before .before .before .before .before .before .before .before .before .args in
     let e = c .before .before .before .before .before .before .before .before .before .before .before .encode in
-    let s = firstOf (encodeChecks (a .n) (a .l) (a .coefs .now) (length (a .desc .now)) (length (a .grand .now)) (length (a .marks .now)) (length (a .out .now)) (a .budget)) in
-    let o = file-ends (a .n) (a .l) (a .coefs .now) (a .budget) s (e .ensures .0) in (
-      answers-by (c .put .result) _ (c .before .of-encoded .ensures ∙ ap encoded (e .ensures .0)) (c .put .ensures),
-      (
-        lent-by (encodeEnd (e .result)) s (descTable (a .n) (a .l) (a .coefs .now)) (a .desc .now) o (e .ensures .1 .0),
-        (
-          lent-by (encodeEnd (e .result)) s (grandTable (a .n) (a .l) (a .coefs .now)) (a .grand .now) o (e .ensures .1 .1 .0),
-          (
-            lent-by (encodeEnd (e .result)) s (sentMarks (a .n) (a .l) (a .coefs .now) (a .budget)) (a .marks .now) o (e .ensures .1 .1 .1 .0),
-            lent-by (encodeEnd (e .result)) s (fileOf (a .n) (a .l) (a .coefs .now) (a .budget)) (a .out .now) o (e .ensures .1 .1 .1 .1),
-          ),
-        ),
-      ),
-    )
+    record { said = e .result; encodes = e .ensures; answers = answers-by (c .put .result) _ (c .before .of-encoded .ensures) (c .put .ensures) }
 
 pub txp-encode-spec : {M : Type 1} → statement M
 txp-encode-spec =

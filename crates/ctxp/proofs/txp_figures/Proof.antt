@@ -4,7 +4,7 @@ use borrow.Author.Needs.{needs}
 use Rattle.refusals.specs.Checks.{firstOf}
 use Rattle.figures.specs.Figures.{figuresOf, figuresChecks, outcomeOf}
 use Rattle.tree.specs.Summaries.{descTable, grandTable}
-use Rattle.ctxp.specs.Answers.{figured}
+use Rattle.ctxp.specs.Answers.{ofFigures}
 use Rattle.ctxp.proofs.Laws.{answers-by, lent-by, figures-ends}
 use Rattle.ctxp.proofs.txp_figures.Statement.{statement}
 use Rattle.ctxp.proofs.txp_figures.Tie as tie
@@ -30,7 +30,7 @@ returns c =
     let a = c .before .before .before .before .before .before .before .before .before .before .before .before .args in
     let s = firstOf (figuresChecks (a .n) (a .l) (a .values .now) (length (a .desc .now)) (length (a .grand .now)) (a .plane)) in
     let o = figures-ends (figuresOf (a .n) (a .l) (a .values .now) (a .plane)) s (e .ensures .0) in (
-      answers-by (c .put .result) _ (c .before .of-figures .ensures ∙ ap figured (e .ensures .0)) (c .put .ensures),
+      answers-by (c .put .result) _ (c .before .of-figures .ensures ∙ ap ofFigures (e .ensures .0)) (c .put .ensures),
       (lent-by (outcomeOf (e .result)) s (descTable (a .n) (a .l) (a .values .now)) (a .desc .now) o (e .ensures .1 .0), lent-by (outcomeOf (e .result)) s (grandTable (a .n) (a .l) (a .values .now)) (a .grand .now) o (e .ensures .1 .1)),
     )
 

@@ -4,7 +4,7 @@ use mir.Facts.{toZ-ofZ}
 use borrow.Author.Needs.{needs}
 use Rattle.coef.specs.Coef.{negative}
 use Rattle.bits.specs.Bits.{digit}
-use Rattle.ctxp.specs.Answers.{value}
+use Rattle.ctxp.specs.Answers.{ofValue}
 use Rattle.ctxp.proofs.Laws.{answers-by}
 use Rattle.ctxp.proofs.txp_is_negative.Statement.{statement}
 use Rattle.ctxp.proofs.txp_is_negative.Tie as tie
@@ -19,7 +19,7 @@ put-requires : tie.Need-put-requires
 put-requires c κs = search needs
 
 returns : tie.Need-returns
-returns c = answers-by (c .put .result) _ (c .before .of-bool .ensures ∙ ap (λ (t : Bool). value (digit t)) (c .before .before .before .is-negative .ensures ∙ ap negative (toZ-ofZ (c .before .before .before .before .fits .x)))) (c .put .ensures)
+returns c = answers-by (c .put .result) _ (c .before .of-bool .ensures ∙ ap (λ (t : Bool). ofValue (digit t)) (c .before .before .before .is-negative .ensures ∙ ap negative (toZ-ofZ (c .before .before .before .before .fits .x)))) (c .put .ensures)
 
 pub txp-is-negative-spec : {M : Type 1} → statement M
 txp-is-negative-spec =

@@ -6,7 +6,8 @@ use Rattle.coef.specs.declared.Joined.the-variants.{Is, TooLarge}
 use Rattle.coef.specs.declared.Joined.{Joined}
 use Rattle.coef.specs.Coef.{joinedOf}
 use Rattle.ctxp.specs.Lent.{signedOf, joinedIn}
-use Rattle.ctxp.specs.Answers.{joined}
+use Rattle.ctxp.specs.Answers.{ofJoined}
+use Rattle.ctxp.specs.Inner.{entries}
 use Rattle.ctxp.proofs.Laws.{answers-by}
 use Rattle.ctxp.proofs.txp_join.Statement.{statement}
 use Rattle.ctxp.proofs.txp_join.Tie as tie
@@ -38,13 +39,13 @@ returns c =
     let x = c .before .before .before .before .x .given in
     let g : joinedOf (signedOf (a .negative) (a .magnitude)) ≡ Is (x .0 .0) = sym (c .before .before .before .before .before .before .join-of .ensures) ∙ x .1 in
     let h : toZ w32 (ofZ w32 (x .0 .0)) ≡ x .0 .0 = search needs in
-    (answers-by (c .put .result) _ (c .before .nothing .ensures ∙ sym (ap joined g)) (c .put .ensures), h ∙ sym (ap (λ (j : Joined). joinedIn j (a .to .now)) g))
+    (answers-by (c .put .result) _ (ap entries (c .before .nothing .ensures) ∙ sym (ap ofJoined g)) (c .put .ensures), h ∙ sym (ap (λ (j : Joined). joinedIn j (a .to .now)) g))
 
 returns-2 : tie.Need-returns-2
 returns-2 c =
     let a = c .before .before .before .before .before .before .args in
     let g : joinedOf (signedOf (a .negative) (a .magnitude)) ≡ TooLarge = sym (c .before .before .before .before .before .join-of .ensures) ∙ c .before .before .before .enum-told .given .1 in
-    (answers-by (c .put2 .result) _ (c .before .too-large .ensures ∙ sym (ap joined g)) (c .put2 .ensures), sym (ap (λ (j : Joined). joinedIn j (a .to .now)) g))
+    (answers-by (c .put2 .result) _ (c .before .too-large .ensures ∙ sym (ap ofJoined g)) (c .put2 .ensures), sym (ap (λ (j : Joined). joinedIn j (a .to .now)) g))
 
 pub txp-join-spec : {M : Type 1} → statement M
 txp-join-spec =

@@ -4,7 +4,7 @@ use borrow.Author.Needs.{needs}
 use Rattle.places.specs.Order.{toLinear}
 use Rattle.places.specs.Answers.{placeChecks, linearIf}
 use Rattle.refusals.specs.Checks.{firstOf}
-use Rattle.ctxp.specs.Answers.{linearly}
+use Rattle.ctxp.specs.Answers.{ofLinear}
 use Rattle.ctxp.proofs.Laws.{answers-by, raster-same, raster-refused}
 use Rattle.ctxp.proofs.txp_linear_place.Statement.{statement}
 use Rattle.ctxp.proofs.txp_linear_place.Tie as tie
@@ -39,7 +39,7 @@ returns c =
     let s = firstOf (placeChecks (a .n) (a .place)) in
     let at = c .before .before .before .before .before .p .given in
     let same : at .0 .0 .0 ≡ a .place = raster-same s (a .place) (at .0 .0) (sym (c .before .before .before .before .before .before .before .raster-at .ensures) ∙ at .1) in
-    answers-by (c .put .result) _ (c .before .of-linear .ensures ∙ ap linearly (c .before .before .before .to-linear .ensures ∙ ap (λ (x : ℕ). linearIf (firstOf (placeChecks (a .n) x)) (toLinear (a .n) x)) same)) (c .put .ensures)
+    answers-by (c .put .result) _ (c .before .of-linear .ensures ∙ ap ofLinear (c .before .before .before .to-linear .ensures ∙ ap (λ (x : ℕ). linearIf (firstOf (placeChecks (a .n) x)) (toLinear (a .n) x)) same)) (c .put .ensures)
 
 returns-2 : tie.Need-returns-2
 returns-2 c =

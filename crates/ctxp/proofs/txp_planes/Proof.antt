@@ -1,7 +1,7 @@
 use mathlib.Core.Path.{ap, _∙_}
 use borrow.Author.Needs.{needs}
 use Rattle.coef.proofs.Laws.{planes-one, planes-of}
-use Rattle.ctxp.specs.Answers.{planes}
+use Rattle.ctxp.specs.Answers.{ofPlanes}
 use Rattle.ctxp.proofs.Laws.{answers-by}
 use Rattle.ctxp.proofs.txp_planes.Statement.{statement}
 use Rattle.ctxp.proofs.txp_planes.Tie as tie
@@ -16,7 +16,7 @@ put-requires : tie.Need-put-requires
 put-requires c κs = search needs
 
 returns : tie.Need-returns
-returns c = answers-by (c .put .result) _ (c .before .of-planes .ensures ∙ ap planes (planes-one (c .before .before .before .planes .ensures) (planes-of (c .before .before .before .before .args .coefs .now)))) (c .put .ensures)
+returns c = answers-by (c .put .result) _ (c .before .of-planes .ensures ∙ ap ofPlanes (planes-one (c .before .before .before .planes .ensures) (planes-of (c .before .before .before .before .args .coefs .now)))) (c .put .ensures)
 
 pub txp-planes-spec : {M : Type 1} → statement M
 txp-planes-spec = tie.close (tie.spec planes-requires of-planes-requires put-requires returns)

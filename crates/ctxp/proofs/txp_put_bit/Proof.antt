@@ -1,4 +1,6 @@
+use mathlib.Core.Path.{ap}
 use borrow.Author.Needs.{needs}
+use Rattle.ctxp.specs.Inner.{entries}
 use Rattle.ctxp.proofs.Laws.{answers-by}
 use Rattle.ctxp.proofs.txp_put_bit.Statement.{statement}
 use Rattle.ctxp.proofs.txp_put_bit.Tie as tie
@@ -16,7 +18,7 @@ same-length : tie.Need-same-length
 same-length c = search needs
 
 returns : tie.Need-returns
-returns c = (answers-by (c .put2 .result) _ (c .before .nothing .ensures) (c .put2 .ensures), c .before .before .before .before .before .put .ensures)
+returns c = (answers-by (c .put2 .result) _ (ap entries (c .before .nothing .ensures)) (c .put2 .ensures), c .before .before .before .before .before .put .ensures)
 
 pub txp-put-bit-spec : {M : Type 1} → statement M
 txp-put-bit-spec =

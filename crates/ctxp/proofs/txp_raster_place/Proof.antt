@@ -4,7 +4,7 @@ use borrow.Author.Needs.{needs}
 use Rattle.places.specs.Order.{toRaster}
 use Rattle.places.specs.Answers.{placeChecks, rasterIf}
 use Rattle.refusals.specs.Checks.{firstOf}
-use Rattle.ctxp.specs.Answers.{rasterly}
+use Rattle.ctxp.specs.Answers.{ofRaster}
 use Rattle.ctxp.proofs.Laws.{answers-by, linear-same, linear-refused}
 use Rattle.ctxp.proofs.txp_raster_place.Statement.{statement}
 use Rattle.ctxp.proofs.txp_raster_place.Tie as tie
@@ -39,7 +39,7 @@ returns c =
     let s = firstOf (placeChecks (a .n) (a .place)) in
     let at = c .before .before .before .before .before .q .given in
     let same : at .0 .0 .0 ≡ a .place = linear-same s (a .place) (at .0 .0) (sym (c .before .before .before .before .before .before .before .linear-at .ensures) ∙ at .1) in
-    answers-by (c .put .result) _ (c .before .of-raster .ensures ∙ ap rasterly (c .before .before .before .to-raster .ensures ∙ ap (λ (x : ℕ). rasterIf (firstOf (placeChecks (a .n) x)) (toRaster (a .n) x)) same)) (c .put .ensures)
+    answers-by (c .put .result) _ (c .before .of-raster .ensures ∙ ap ofRaster (c .before .before .before .to-raster .ensures ∙ ap (λ (x : ℕ). rasterIf (firstOf (placeChecks (a .n) x)) (toRaster (a .n) x)) same)) (c .put .ensures)
 
 returns-2 : tie.Need-returns-2
 returns-2 c =

@@ -3,7 +3,7 @@ use lib.ListN.{length}
 use borrow.Author.Needs.{needs}
 use Rattle.refusals.specs.Checks.{firstOf}
 use Rattle.tree.specs.Summaries.{descTable, grandTable, summaryChecks}
-use Rattle.ctxp.specs.Answers.{outcome}
+use Rattle.ctxp.specs.Answers.{ofOutcome}
 use Rattle.ctxp.proofs.Laws.{answers-by, lent-by}
 use Rattle.ctxp.proofs.txp_summaries.Statement.{statement}
 use Rattle.ctxp.proofs.txp_summaries.Tie as tie
@@ -28,7 +28,7 @@ returns c =
     let e = c .before .before .before .before .before .before .before .summaries in
     let a = c .before .before .before .before .before .before .before .before .before .before .before .before .args in
     let s = firstOf (summaryChecks (a .n) (a .l) (a .coefs .now) (length (a .desc .now)) (length (a .grand .now))) in (
-      answers-by (c .put .result) _ (c .before .of-outcome .ensures ∙ ap outcome (e .ensures .0)) (c .put .ensures),
+      answers-by (c .put .result) _ (c .before .of-outcome .ensures ∙ ap ofOutcome (e .ensures .0)) (c .put .ensures),
       (lent-by (e .result) s (descTable (a .n) (a .l) (a .coefs .now)) (a .desc .now) (e .ensures .0) (e .ensures .1 .0), lent-by (e .result) s (grandTable (a .n) (a .l) (a .coefs .now)) (a .grand .now) (e .ensures .0) (e .ensures .1 .1)),
     )
 

@@ -4,7 +4,7 @@ use borrow.Author.Needs.{needs}
 use Rattle.places.specs.Answers.{reorderChecks}
 use Rattle.refusals.specs.Checks.{firstOf}
 use Rattle.places.specs.Order.{rasterly}
-use Rattle.ctxp.specs.Answers.{outcome}
+use Rattle.ctxp.specs.Answers.{ofOutcome}
 use Rattle.ctxp.proofs.Laws.{answers-by, lent-by}
 use Rattle.ctxp.proofs.txp_to_raster.Statement.{statement}
 use Rattle.ctxp.proofs.txp_to_raster.Tie as tie
@@ -26,7 +26,7 @@ returns c =
     let e = c .before .before .before .before .reorder-to-raster in
     let a = c .before .before .before .before .before .before .args in
     let s = firstOf (reorderChecks (a .n) (length (a .from .now)) (length (a .to .now))) in (
-      answers-by (c .put .result) _ (c .before .of-outcome .ensures ∙ ap outcome (e .ensures .0)) (c .put .ensures),
+      answers-by (c .put .result) _ (c .before .of-outcome .ensures ∙ ap ofOutcome (e .ensures .0)) (c .put .ensures),
       lent-by (e .result) s (rasterly (a .n) (a .from .now)) (a .to .now) (e .ensures .0) (e .ensures .1),
     )
 

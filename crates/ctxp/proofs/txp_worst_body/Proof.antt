@@ -1,6 +1,6 @@
 use mathlib.Core.Path.{ap, _∙_}
 use borrow.Author.Needs.{needs}
-use Rattle.ctxp.specs.Answers.{worst}
+use Rattle.ctxp.specs.Answers.{ofWorst}
 use Rattle.ctxp.proofs.Laws.{answers-by}
 use Rattle.ctxp.proofs.txp_worst_body.Statement.{statement}
 use Rattle.ctxp.proofs.txp_worst_body.Tie as tie
@@ -15,7 +15,7 @@ put-requires : tie.Need-put-requires
 put-requires c κs = search needs
 
 returns : tie.Need-returns
-returns c = answers-by (c .put .result) _ (c .before .of-worst .ensures ∙ ap worst (c .before .before .before .worst-body .ensures)) (c .put .ensures)
+returns c = answers-by (c .put .result) _ (c .before .of-worst .ensures ∙ ap ofWorst (c .before .before .before .worst-body .ensures)) (c .put .ensures)
 
 pub txp-worst-body-spec : {M : Type 1} → statement M
 txp-worst-body-spec =

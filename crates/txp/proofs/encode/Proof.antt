@@ -1,7 +1,5 @@
-use lib.ListN.{length}
-use Rattle.tree.specs.Summaries.{descTable, grandTable}
-use Rattle.encoder.specs.Body.{sentMarks}
-use Rattle.txp.proofs.CallLaws.{table-done, table-refused, refused-answer, output-refused, done-answer, header-fits, file-written}
+use Rattle.encoder.specs.Body.{lent}
+use Rattle.txp.proofs.CallLaws.{refused-body, header-fits, file-written}
 use borrow.Author.Needs.{needs}
 use Rattle.txp.proofs.encode.Statement.{statement}
 use Rattle.txp.proofs.encode.Tie as tie
@@ -17,7 +15,8 @@ put-header-requires c κs =
     let a = c .before .before .before .before .before .before .before .before .before .before .before .before .before .before .before .before .before .before .before .before .before .args in
     let e = c .before .before .before .before .before .before .before .before .before .before .before .before .encode in
     let w = c .before .before .body .given in
-    header-fits (a .n) (a .l) (a .coefs .now) (length (a .desc .now)) (length (a .grand .now)) (length (a .marks .now)) (a .budget) (a .out .now) (e .result) (e .ensures .0) (w .0 .0) (w .1) (e .last .1 .1 .1 .1 .1 .1 .0) (e .ensures .1 .1 .1 .1)
+    header-fits (a .n) (a .l) (a .coefs .now) (a .budget) (lent (a .desc .now) (a .grand .now) (a .marks .now) (a .out .now))
+    (lent (e .last .1 .1 .1 .0) (e .last .1 .1 .1 .1 .0) (e .last .1 .1 .1 .1 .1 .0) (e .last .1 .1 .1 .1 .1 .1 .0)) (e .result) (e .ensures) (w .0 .0) (w .1)
 
 bytes-for-requires : tie.Need-bytes-for-requires
 bytes-for-requires c κs = search needs
@@ -44,19 +43,10 @@ returns : tie.Need-returns
 returns c =
     let a = c .before .before .before .before .before .before .before .before .before .before .before .before .before .before .before .before .before .before .before .before .before .before .before .before .before .args in
     let e = c .before .before .before .before .before .before .before .before .before .before .before .before .before .before .before .before .encode in
-    let w = c .before .before .before .before .before .before .body .given in (
-      rw (c .bytes-for .ensures) (done-answer (a .n) (a .l) (a .coefs .now) (length (a .desc .now)) (length (a .grand .now)) (length (a .marks .now)) (a .budget) (a .out .now) (e .result) (e .ensures .0) (w .0 .0) (w .1)),
-      (
-        table-done (e .result) (descTable (a .n) (a .l) (a .coefs .now)) (a .desc .now) (e .last .1 .1 .1 .0) (e .ensures .1 .0) (w .0 .0) (w .1),
-        (
-          table-done (e .result) (grandTable (a .n) (a .l) (a .coefs .now)) (a .grand .now) (e .last .1 .1 .1 .1 .0) (e .ensures .1 .1 .0) (w .0 .0) (w .1),
-          (
-            table-done (e .result) (sentMarks (a .n) (a .l) (a .coefs .now) (a .budget)) (a .marks .now) (e .last .1 .1 .1 .1 .1 .0) (e .ensures .1 .1 .1 .0) (w .0 .0) (w .1),
-            file-written (a .n) (a .l) (a .coefs .now) (length (a .desc .now)) (length (a .grand .now)) (length (a .marks .now)) (a .budget) (a .out .now) (e .result) (e .ensures .0) (w .0 .0) (w .1) (e .last .1 .1 .1 .1 .1 .1 .0) (e .ensures .1 .1 .1 .1) (c .before .before .before .put-header .last .0) (c .before .before .before .put-header .ensures),
-          ),
-        ),
-      ),
-    )
+    let w = c .before .before .before .before .before .before .body .given in
+    rw (c .bytes-for .ensures)
+    (file-written (a .n) (a .l) (a .coefs .now) (a .budget) (lent (a .desc .now) (a .grand .now) (a .marks .now) (a .out .now))
+    (lent (e .last .1 .1 .1 .0) (e .last .1 .1 .1 .1 .0) (e .last .1 .1 .1 .1 .1 .0) (e .last .1 .1 .1 .1 .1 .1 .0)) (e .result) (e .ensures) (w .0 .0) (w .1) (c .before .before .before .put-header .last .0) (c .before .before .before .put-header .ensures))
 
 same-length-5 : tie.Need-same-length-5
 same-length-5 c = search needs
@@ -74,19 +64,9 @@ returns-2 : tie.Need-returns-2
 returns-2 c =
     let a = c .before .before .before .before .before .before .before .before .before .before .before .before .before .before .before .before .before .before .before .before .args in
     let e = c .before .before .before .before .before .before .before .before .before .before .before .encode in
-    let w = c .before .body2 .given in (
-      refused-answer (a .n) (a .l) (a .coefs .now) (length (a .desc .now)) (length (a .grand .now)) (length (a .marks .now)) (a .budget) (a .out .now) (e .result) (e .ensures .0) (w .0 .0) (w .1),
-      (
-        table-refused (e .result) (descTable (a .n) (a .l) (a .coefs .now)) (a .desc .now) (e .last .1 .1 .1 .0) (e .ensures .1 .0) (w .0 .0) (w .1),
-        (
-          table-refused (e .result) (grandTable (a .n) (a .l) (a .coefs .now)) (a .grand .now) (e .last .1 .1 .1 .1 .0) (e .ensures .1 .1 .0) (w .0 .0) (w .1),
-          (
-            table-refused (e .result) (sentMarks (a .n) (a .l) (a .coefs .now) (a .budget)) (a .marks .now) (e .last .1 .1 .1 .1 .1 .0) (e .ensures .1 .1 .1 .0) (w .0 .0) (w .1),
-            output-refused (a .n) (a .l) (a .coefs .now) (length (a .desc .now)) (length (a .grand .now)) (length (a .marks .now)) (a .budget) (a .out .now) (e .result) (e .ensures .0) (w .0 .0) (e .last .1 .1 .1 .1 .1 .1 .0) (w .1) (e .ensures .1 .1 .1 .1),
-          ),
-        ),
-      ),
-    )
+    let w = c .before .body2 .given in
+    refused-body (a .n) (a .l) (a .coefs .now) (a .budget) (lent (a .desc .now) (a .grand .now) (a .marks .now) (a .out .now))
+    (lent (e .last .1 .1 .1 .0) (e .last .1 .1 .1 .1 .0) (e .last .1 .1 .1 .1 .1 .0) (e .last .1 .1 .1 .1 .1 .1 .0)) (e .result) (e .ensures) (w .0 .0) (w .1)
 
 pub encode-spec : {M : Type 1} → statement M
 encode-spec =

@@ -1,7 +1,8 @@
 use mathlib.Core.Path.{sym, ap, _∙_, subst}
 use borrow.Author.Needs.{needs}
 use Rattle.txp.specs.declared.EncodeAnswer.{EncodeAnswer}
-use Rattle.ctxp.specs.Answers.{encoded, Short}
+use Rattle.ctxp.specs.Answers.{ofEncoded}
+use Rattle.ctxp.specs.Inner.{Short}
 use Rattle.ctxp.proofs.answers.of_encoded.Statement.{statement}
 use Rattle.ctxp.proofs.answers.of_encoded.Tie as tie
 
@@ -21,10 +22,10 @@ refused-requires : tie.Need-refused-requires
 refused-requires c κs = search needs
 
 returns : tie.Need-returns
-returns c = rw (c .before .nothing .ensures) (sym (ap encoded (c .before .before .before .e .given .1)))
+returns c = rw (c .before .nothing .ensures) (sym (ap ofEncoded (c .before .before .before .e .given .1)))
 
 returns-2 : tie.Need-returns-2
-returns-2 c = c .refused .ensures ∙ sym (ap encoded (c .before .before .e2 .given .1))
+returns-2 c = c .refused .ensures ∙ sym (ap ofEncoded (c .before .before .e2 .given .1))
 
 pub of-encoded-spec : {M : Type 1} → statement M
 of-encoded-spec =

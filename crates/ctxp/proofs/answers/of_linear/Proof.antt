@@ -1,6 +1,6 @@
 use mathlib.Core.Path.{sym, ap, _∙_}
 use borrow.Author.Needs.{needs}
-use Rattle.ctxp.specs.Answers.{linearly}
+use Rattle.ctxp.specs.Answers.{ofLinear}
 use Rattle.ctxp.proofs.answers.of_linear.Statement.{statement}
 use Rattle.ctxp.proofs.answers.of_linear.Tie as tie
 
@@ -23,7 +23,7 @@ returns : tie.Need-returns
 returns c = cc
 
 returns-2 : tie.Need-returns-2
-returns-2 c = c .refused .ensures ∙ sym (ap linearly (c .before .before .q2 .given .1))
+returns-2 c = c .refused .ensures ∙ sym (ap ofLinear (c .before .before .q2 .given .1))
 
 pub of-linear-spec : {M : Type 1} → statement M
 of-linear-spec =

@@ -1,6 +1,7 @@
-use mathlib.Core.Path.{sym, ap}
+use mathlib.Core.Path.{sym, ap, _∙_}
 use borrow.Author.Needs.{needs}
-use Rattle.ctxp.specs.Answers.{next}
+use Rattle.ctxp.specs.Answers.{ofNext}
+use Rattle.ctxp.specs.Inner.{entries}
 use Rattle.ctxp.proofs.answers.of_next.Statement.{statement}
 use Rattle.ctxp.proofs.answers.of_next.Tie as tie
 
@@ -20,10 +21,10 @@ nothing-requires-2 : tie.Need-nothing-requires-2
 nothing-requires-2 c κs = search needs
 
 returns : tie.Need-returns
-returns c = rw (c .nothing .ensures) (sym (ap next (c .before .before .x .given .1)))
+returns c = rw (c .nothing .ensures) (sym (ap ofNext (c .before .before .x .given .1)))
 
 returns-2 : tie.Need-returns-2
-returns-2 c = search needs
+returns-2 c = ap entries (c .nothing2 .ensures) ∙ sym (ap ofNext (c .before .before .enum-told .given .1))
 
 pub of-next-spec : {M : Type 1} → statement M
 of-next-spec =

@@ -1,6 +1,7 @@
 use mathlib.Core.Path.{sym, ap, _∙_}
 use borrow.Author.Needs.{needs}
-use Rattle.ctxp.specs.Answers.{outcome}
+use Rattle.ctxp.specs.Answers.{ofOutcome}
+use Rattle.ctxp.specs.Inner.{entries}
 use Rattle.ctxp.proofs.answers.of_outcome.Statement.{statement}
 use Rattle.ctxp.proofs.answers.of_outcome.Tie as tie
 
@@ -17,10 +18,10 @@ refused-requires : tie.Need-refused-requires
 refused-requires c κs = search needs
 
 returns : tie.Need-returns
-returns c = search needs
+returns c = ap entries (c .nothing .ensures) ∙ sym (ap ofOutcome (c .before .before .enum-told .given .1))
 
 returns-2 : tie.Need-returns-2
-returns-2 c = c .refused .ensures ∙ sym (ap outcome (c .before .before .o .given .1))
+returns-2 c = c .refused .ensures ∙ sym (ap ofOutcome (c .before .before .o .given .1))
 
 pub of-outcome-spec : {M : Type 1} → statement M
 of-outcome-spec =

@@ -1,6 +1,6 @@
 use mathlib.Core.Path.{sym, ap}
 use borrow.Author.Needs.{needs}
-use Rattle.ctxp.specs.Answers.{parted}
+use Rattle.ctxp.specs.Answers.{ofParted}
 use Rattle.ctxp.proofs.answers.of_parted.Statement.{statement}
 use Rattle.ctxp.proofs.answers.of_parted.Tie as tie
 
@@ -20,7 +20,7 @@ too-large-requires : tie.Need-too-large-requires
 too-large-requires c κs = search needs
 
 returns : tie.Need-returns
-returns c = rw (c .before .nothing .ensures) (sym (ap parted (c .before .before .before .p .given .1)))
+returns c = rw (c .before .nothing .ensures) (sym (ap ofParted (c .before .before .before .p .given .1)))
 
 returns-2 : tie.Need-returns-2
 returns-2 c = search needs

@@ -1,6 +1,6 @@
 use mathlib.Core.Path.{sym, ap, _∙_}
 use borrow.Author.Needs.{needs}
-use Rattle.ctxp.specs.Answers.{rasterly}
+use Rattle.ctxp.specs.Answers.{ofRaster}
 use Rattle.ctxp.proofs.answers.of_raster.Statement.{statement}
 use Rattle.ctxp.proofs.answers.of_raster.Tie as tie
 
@@ -23,7 +23,7 @@ returns : tie.Need-returns
 returns c = cc
 
 returns-2 : tie.Need-returns-2
-returns-2 c = c .refused .ensures ∙ sym (ap rasterly (c .before .before .p2 .given .1))
+returns-2 c = c .refused .ensures ∙ sym (ap ofRaster (c .before .before .p2 .given .1))
 
 pub of-raster-spec : {M : Type 1} → statement M
 of-raster-spec =

@@ -1,6 +1,6 @@
 use mathlib.Core.Path.{sym, ap, _∙_}
 use borrow.Author.Needs.{needs}
-use Rattle.ctxp.specs.Answers.{read}
+use Rattle.ctxp.specs.Answers.{ofRead}
 use Rattle.ctxp.proofs.answers.of_read.Statement.{statement}
 use Rattle.ctxp.proofs.answers.of_read.Tie as tie
 
@@ -17,10 +17,10 @@ refused-requires : tie.Need-refused-requires
 refused-requires c κs = search needs
 
 returns : tie.Need-returns
-returns c = rw (c .nothing .ensures) (sym (ap read (c .before .before .d .given .1)))
+returns c = rw (c .nothing .ensures) (sym (ap ofRead (c .before .before .d .given .1)))
 
 returns-2 : tie.Need-returns-2
-returns-2 c = c .refused .ensures ∙ sym (ap read (c .before .before .d2 .given .1))
+returns-2 c = c .refused .ensures ∙ sym (ap ofRead (c .before .before .d2 .given .1))
 
 pub of-read-spec : {M : Type 1} → statement M
 of-read-spec =

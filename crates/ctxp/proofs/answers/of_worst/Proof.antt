@@ -1,6 +1,6 @@
 use mathlib.Core.Path.{sym, ap, _∙_}
 use borrow.Author.Needs.{needs}
-use Rattle.ctxp.specs.Answers.{worst}
+use Rattle.ctxp.specs.Answers.{ofWorst}
 use Rattle.ctxp.proofs.answers.of_worst.Statement.{statement}
 use Rattle.ctxp.proofs.answers.of_worst.Tie as tie
 
@@ -17,10 +17,10 @@ refused-requires : tie.Need-refused-requires
 refused-requires c κs = search needs
 
 returns : tie.Need-returns
-returns c = rw (c .nothing .ensures) (sym (ap worst (c .before .before .w .given .1)))
+returns c = rw (c .nothing .ensures) (sym (ap ofWorst (c .before .before .w .given .1)))
 
 returns-2 : tie.Need-returns-2
-returns-2 c = c .refused .ensures ∙ sym (ap worst (c .before .before .w2 .given .1))
+returns-2 c = c .refused .ensures ∙ sym (ap ofWorst (c .before .before .w2 .given .1))
 
 pub of-worst-spec : {M : Type 1} → statement M
 of-worst-spec =
