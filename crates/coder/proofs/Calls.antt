@@ -28,7 +28,7 @@ use Rattle.nls.proofs.Verdicts.{judged-only}
 use Rattle.room.specs.Room.{readChecks, bodyBits}
 use Rattle.room.specs.Ready.{EncodeReady}
 use Rattle.room.proofs.Laws.{encode-ready, decode-well}
-use Rattle.encoder.specs.Body.{sentBits, writeAnswer, sentMarks, outputAfter, Lent, writeOutcome, Writes}
+use Rattle.encoder.specs.Body.{sentBits, writeAnswer, sentMarks, outputAfter, Loan, writeOutcome, Writes}
 use Rattle.decoder.specs.Body.{readAnswer, Tables, tables, ownTables, over, BodyRead, ReadsTo}
 use Rattle.encoder.specs.declared.body.Written.{Written}
 use Rattle.encoder.specs.declared.body.WriteAnswer.{WriteAnswer}
@@ -89,7 +89,7 @@ module _ (N L P : ℕ) (z : Sized N L) (u : List Bool) (held : Tables) (answer :
 
 -- ---- `decode` of what `encode` wrote
 
-module _ (N L : ℕ) (A : List ℤ) (offset budget : ℕ) (held left : Lent) (wrote : WriteAnswer) (writes : Writes N L A offset budget held wrote left)
+module _ (N L : ℕ) (A : List ℤ) (offset budget : ℕ) (held left : Loan) (wrote : WriteAnswer) (writes : Writes N L A offset budget held wrote left)
     (w : Written) (done : wrote ≡ encode.Done w) where
   done-so : (o : Outcome) → writeAnswer N L A budget o ≡ encode.Done w → (o ≡ outcome.Done) × (w ≡ record { planes = planesOf A; bits = length (sentBits N L A budget) })
   done-so outcome.Done e = (refl, cc)
@@ -126,7 +126,7 @@ module _ (N L : ℕ) (A : List ℤ) (offset budget : ℕ) (held left : Lent) (wr
   same-bits =
       let rest : List ℕ = drop (offset + length (packed u)) (held .out) in
       let put : left .out ≡ take offset (held .out) ++ (packed u ++ rest) =
-      ap (λ (x : Lent). x .out) (writes .filled) ∙ ap (λ (o : Outcome). outputAfter o offset (packed u) (held .out)) (checked .0) in
+      ap (λ (x : Loan). x .out) (writes .filled) ∙ ap (λ (o : Outcome). outputAfter o offset (packed u) (held .out)) (checked .0) in
       let there : drop offset (left .out) ≡ packed u ++ rest =
       ap (λ (l : List ℕ). drop offset l) put ∙ drop-at (take offset (held .out)) (packed u ++ rest) offset (length-take-le offset (held .out) (ready .2)) in
       let bits : w .bits ≡ length u = ap (λ (x : Written). x .bits) (checked .1) in

@@ -11,7 +11,7 @@ use Rattle.refusals.specs.declared.Outcome.{Outcome}
 use Rattle.refusals.specs.declared.Outcome.the-variants.{Done, Refused}
 use Rattle.sizes.specs.Sizes.{sideFits, levelsFit, allOf, coarsestOf}
 use Rattle.sizes.proofs.Laws.{side-most, all-most, both-left}
-use Rattle.encoder.specs.Body.{Lent}
+use Rattle.encoder.specs.Body.{Loan}
 use Rattle.encoder.proofs.EncodeLaws.{sent-most}
 use Rattle.places.specs.Answers.{rasterIf, linearIf}
 use Rattle.places.specs.declared.Raster.{Raster}
@@ -32,7 +32,7 @@ pub answers-by : (r : ℕ) (held : List ℕ) {a b : List ℕ} → a ≡ b → An
 answers-by r held {a} {b} e p = subst (λ (x : List ℕ). Answers r held x) e p
 
 -- a file's bytes fit 32 bits, as its budget does
-module _ (N L : ℕ) (A : List ℤ) (budget : ℕ) (held left : Lent) {r : EncodeAnswer} where
+module _ (N L : ℕ) (A : List ℤ) (budget : ℕ) (held left : Loan) {r : EncodeAnswer} where
   short-by : budget < 2 ^ 32 → (o : Outcome) → Short (encodeAnswer N L A budget o)
   short-by h Done = omega (arith, sent-most N L A budget)
   short-by h (Refused why) = tt

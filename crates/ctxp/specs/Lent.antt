@@ -11,7 +11,7 @@ use Rattle.coef.specs.declared.{Signed.Signed, Joined.Joined, Float.Float}
 use Rattle.coef.specs.declared.Joined.the-variants as joineds
 use Rattle.coef.specs.declared.Float.the-variants as floats
 use Rattle.room.specs.Room.{readChecks, bodyBits}
-use Rattle.encoder.specs.Body.{Lent, Writes}
+use Rattle.encoder.specs.Body.{Loan, Writes}
 use Rattle.encoder.specs.declared.body.WriteAnswer.{WriteAnswer}
 use Rattle.decoder.specs.Body.{Tables, ReadsTo}
 use Rattle.decoder.specs.declared.body.ReadAnswer.{ReadAnswer}
@@ -36,7 +36,7 @@ floatIn (floats.Is x) held = x
 floatIn (floats.Refused why) held = held
 
 -- a file: some answer of the base is the one that its contract allows, and the numbers are those of that answer
-pub record FileEncoded (N L : ℕ) (A : List ℤ) (budget : ℕ) (held : Lent) (r : ℕ) (answer : List ℕ) (left : Lent) : Type 0 where
+pub record FileEncoded (N L : ℕ) (A : List ℤ) (budget : ℕ) (held : Loan) (r : ℕ) (answer : List ℕ) (left : Loan) : Type 0 where
   pub said : EncodeAnswer
   pub encodes : Encodes N L A budget held said left
   pub answers : Answers r answer (ofEncoded said)
@@ -47,7 +47,7 @@ pub record FileDecoded (file : List ℕ) (held : Tables) (r : ℕ) (answer : Lis
   pub answers : Answers r answer (ofDecoded said)
 
 -- the same of a body
-pub record BodyEncoded (N L : ℕ) (A : List ℤ) (offset budget : ℕ) (held : Lent) (r : ℕ) (answer : List ℕ) (left : Lent) : Type 0 where
+pub record BodyEncoded (N L : ℕ) (A : List ℤ) (offset budget : ℕ) (held : Loan) (r : ℕ) (answer : List ℕ) (left : Loan) : Type 0 where
   pub said : WriteAnswer
   pub encodes : Writes N L A offset budget held said left
   pub answers : Answers r answer (ofWritten said)

@@ -16,7 +16,7 @@ ghost use Rattle.coef.specs.Coef as coefficient;
 ghost use Rattle.tree.specs.Summaries.{summaryChecks, descTable, grandTable};
 ghost use Rattle.figures.specs.Figures.{figuresOf, figuresChecks, answered};
 ghost use Rattle.room.specs.Room as room;
-ghost use Rattle.encoder.specs.Body.{lent};
+ghost use Rattle.encoder.specs.Body.{loan};
 ghost use Rattle.decoder.specs.Body.{tables};
 ghost use Rattle.ctxp.specs.Answers.{blank, ofValue, ofPlanes, ofOutcome, ofWorst, ofFigures, ofLinear, ofRaster, ofParted, ofJoined, ofFloat, ofNext, Answers};
 ghost use Rattle.ctxp.specs.Lent.{asBool, signedOf, joinedIn, floatIn, FileEncoded, BodyEncoded, FileDecoded, BodyDecoded};
@@ -36,7 +36,7 @@ pub extern "C" fn txp_encode(
     budget: u32,
     answer: &mut [u32; 15],
 ) -> u32
-    ensures { λ r. ⌜ FileEncoded n l (now (coefs .entry)) budget (lent (now (desc .entry)) (now (grand .entry)) (now (marks .entry)) (now (out .entry))) r (now (answer .exit)) (lent (now (desc .exit)) (now (grand .exit)) (now (marks .exit)) (now (out .exit))) ⌝ }
+    ensures { λ r. ⌜ FileEncoded n l (now (coefs .entry)) budget (loan (now (desc .entry)) (now (grand .entry)) (now (marks .entry)) (now (out .entry))) r (now (answer .exit)) (loan (now (desc .exit)) (now (grand .exit)) (now (marks .exit)) (now (out .exit))) ⌝ }
 {
     let done = txp::encode(n, l, coefs, desc, grand, marks, out, budget);
     put(answer, answers::of_encoded(done))
@@ -82,7 +82,7 @@ pub extern "C" fn txp_encode_body(
     budget: u32,
     answer: &mut [u32; 15],
 ) -> u32
-    ensures { λ r. ⌜ BodyEncoded n l (now (coefs .entry)) offset budget (lent (now (desc .entry)) (now (grand .entry)) (now (marks .entry)) (now (out .entry))) r (now (answer .exit)) (lent (now (desc .exit)) (now (grand .exit)) (now (marks .exit)) (now (out .exit))) ⌝ }
+    ensures { λ r. ⌜ BodyEncoded n l (now (coefs .entry)) offset budget (loan (now (desc .entry)) (now (grand .entry)) (now (marks .entry)) (now (out .entry))) r (now (answer .exit)) (loan (now (desc .exit)) (now (grand .exit)) (now (marks .exit)) (now (out .exit))) ⌝ }
 {
     let done = encoder::encode(n, l, coefs, desc, grand, marks, out, offset, budget);
     put(answer, answers::of_written(done))

@@ -24,7 +24,7 @@ use Rattle.room.specs.Ready.{EncodeReady}
 use Rattle.walk.specs.Scans.{Ran, last, planes}
 use Rattle.walk.specs.Visits.{Sv, scanOf}
 use Rattle.encoder.specs.Writing.{Bytes, writer, st, Summed, Holds}
-use Rattle.encoder.specs.Body.{sentBits, sentMarks, writeAnswer, Lent, writeOutcome, lentTo, Writes}
+use Rattle.encoder.specs.Body.{sentBits, sentMarks, writeAnswer, Loan, writeOutcome, lentTo, Writes}
 use Rattle.encoder.specs.declared.body.WriteAnswer.{WriteAnswer}
 use Rattle.encoder.proofs.Sent.{Says, sends}
 
@@ -97,7 +97,7 @@ output-back offset n own part held h l e =
     rw (none, mid) (ap (λ (x : List ℕ). take offset held ++ x) (append-nil (own ++ drop (offset + length own) held)))
 
 -- a call, by the outcome of its checks
-pub writes-by : (N L : ℕ) (A : List ℤ) (offset budget : ℕ) (held : Lent) {answer : WriteAnswer} {left : Lent} (o : Outcome) → o ≡ writeOutcome N L A offset budget held
+pub writes-by : (N L : ℕ) (A : List ℤ) (offset budget : ℕ) (held : Loan) {answer : WriteAnswer} {left : Loan} (o : Outcome) → o ≡ writeOutcome N L A offset budget held
     → answer ≡ writeAnswer N L A budget o → left ≡ lentTo o N L A budget offset (packed (sentBits N L A budget)) held → Writes N L A offset budget held answer left
 writes-by N L A offset budget held o e said left =
     record { answered = said ∙ ap (writeAnswer N L A budget) e; filled = left ∙ ap (λ (x : Outcome). lentTo x N L A budget offset (packed (sentBits N L A budget)) held) e }

@@ -34,27 +34,27 @@ outputAfter outcome.Done offset own held = take offset held ++ (own ++ drop (off
 outputAfter (outcome.Refused why) offset own held = held
 
 -- what is lent to encoding: both summaries, the marks and the output
-pub record Lent : Type 0 where
+pub record Loan : Type 0 where
   pub descs : List ℕ
   pub grands : List ℕ
   pub marks : List ℕ
   pub out : List ℕ
 
-abbrev pub lent : List ℕ → List ℕ → List ℕ → List ℕ → Lent
-lent d g m o = record { descs = d; grands = g; marks = m; out = o }
+abbrev pub loan : List ℕ → List ℕ → List ℕ → List ℕ → Loan
+loan d g m o = record { descs = d; grands = g; marks = m; out = o }
 
 -- the outcome of the checks on what is lent
-abbrev pub writeOutcome : ℕ → ℕ → List ℤ → ℕ → ℕ → Lent → Outcome
+abbrev pub writeOutcome : ℕ → ℕ → List ℤ → ℕ → ℕ → Loan → Outcome
 writeOutcome N L A offset budget held =
     firstOf (writeChecks N L A (length (held .descs)) (length (held .grands)) (length (held .marks)) (length (held .out)) offset budget)
 
 -- what it holds after that outcome, where `own` is written from `offset` on
-abbrev pub lentTo : Outcome → ℕ → ℕ → List ℤ → ℕ → ℕ → List ℕ → Lent → Lent
+abbrev pub lentTo : Outcome → ℕ → ℕ → List ℤ → ℕ → ℕ → List ℕ → Loan → Loan
 lentTo o N L A budget offset own held =
-    lent (lentAfter o (descTable N L A) (held .descs)) (lentAfter o (grandTable N L A) (held .grands))
+    loan (lentAfter o (descTable N L A) (held .descs)) (lentAfter o (grandTable N L A) (held .grands))
     (lentAfter o (sentMarks N L A budget) (held .marks)) (outputAfter o offset own (held .out))
 
 -- a call that writes a body: the first check that fails decides its answer and what it leaves
-pub record Writes (N L : ℕ) (A : List ℤ) (offset budget : ℕ) (held : Lent) (answer : WriteAnswer) (left : Lent) : Type 0 where
+pub record Writes (N L : ℕ) (A : List ℤ) (offset budget : ℕ) (held : Loan) (answer : WriteAnswer) (left : Loan) : Type 0 where
   pub answered : answer ≡ writeAnswer N L A budget (writeOutcome N L A offset budget held)
   pub filled : left ≡ lentTo (writeOutcome N L A offset budget held) N L A budget offset (packed (sentBits N L A budget)) held

@@ -9,7 +9,7 @@ ghost use Rattle.bits.specs.Bits.{bytesFor, packed};
 ghost use Rattle.coef.specs.Coef.{planesOf};
 ghost use Rattle.tree.specs.Summaries.{descTable, grandTable};
 ghost use Rattle.room.specs.Ready.{EncodeReady};
-ghost use Rattle.encoder.specs.Body.{sentBits, sentMarks, lent, Writes};
+ghost use Rattle.encoder.specs.Body.{sentBits, sentMarks, loan, Writes};
 
 // The planes of the array, and the bits written.
 pub struct Written {
@@ -76,7 +76,7 @@ pub fn encode(
     offset: usize,
     budget: u32,
 ) -> WriteAnswer
-    ensures { λ r. ⌜ Writes n l (now (coefs .entry)) offset budget (lent (now (desc .entry)) (now (grand .entry)) (now (marks .entry)) (now (out .entry))) r (lent (now (desc .exit)) (now (grand .exit)) (now (marks .exit)) (now (out .exit))) ⌝ }
+    ensures { λ r. ⌜ Writes n l (now (coefs .entry)) offset budget (loan (now (desc .entry)) (now (grand .entry)) (now (marks .entry)) (now (out .entry))) r (loan (now (desc .exit)) (now (grand .exit)) (now (marks .exit)) (now (out .exit))) ⌝ }
 {
     match room::check_encode(
         n,

@@ -23,7 +23,7 @@ use Rattle.room.specs.Ready.{EncodeReady}
 use Rattle.room.proofs.Laws.{encode-ready}
 use Rattle.encoder.specs.Body as body
 use Rattle.decoder.specs.Body as cutBody
-use Rattle.encoder.specs.Body.{sentBits, outputAfter, Lent, lent, lentTo, Writes}
+use Rattle.encoder.specs.Body.{sentBits, outputAfter, Loan, loan, lentTo, Writes}
 use Rattle.decoder.specs.Body.{Tables}
 use Rattle.encoder.specs.declared.body.Written.{Written}
 use Rattle.encoder.specs.declared.body.WriteAnswer as written
@@ -40,7 +40,7 @@ use Rattle.txp.proofs.Headers.{header-length, letters-room}
 
 -- ---- encoding
 
-module _ (N L : ℕ) (A : List ℤ) (budget : ℕ) (held mid : Lent) (r : written.WriteAnswer) (writes : Writes N L A headerSize budget held r mid) where
+module _ (N L : ℕ) (A : List ℤ) (budget : ℕ) (held mid : Loan) (r : written.WriteAnswer) (writes : Writes N L A headerSize budget held r mid) where
   -- a body that was refused is a file that is refused, and what was lent is as it was
   module _ (why : Refusal) (refused : r ≡ wrote.Refused why) where
     fails : (o : Outcome) → wrote.Refused why ≡ body.writeAnswer N L A budget o → o ≡ Refused why
@@ -71,7 +71,7 @@ module _ (N L : ℕ) (A : List ℤ) (budget : ℕ) (held mid : Lent) (r : writte
     so = encode-ready N L A (length (held .descs)) (length (held .grands)) (length (held .marks)) (length (held .out)) headerSize budget (sym (said .0))
 
     behind : mid .out ≡ take headerSize (held .out) ++ (packed (sentBits N L A budget) ++ drop (headerSize + length (packed (sentBits N L A budget))) (held .out))
-    behind = ap (λ (x : Lent). x .out) (writes .filled) ∙ ap (λ (x : Outcome). outputAfter x headerSize (packed (sentBits N L A budget)) (held .out)) (said .0)
+    behind = ap (λ (x : Loan). x .out) (writes .filled) ∙ ap (λ (x : Outcome). outputAfter x headerSize (packed (sentBits N L A budget)) (held .out)) (said .0)
 
     first : length (take headerSize (held .out)) ≡ headerSize
     first = length-take-le headerSize (held .out) (so .2)
@@ -89,7 +89,7 @@ module _ (N L : ℕ) (A : List ℤ) (budget : ℕ) (held mid : Lent) (r : writte
 
     -- behind the header stands the body, so the output begins with the file
     pub file-written : (out : List ℕ) → out ≡ headerBytes (record { n = N; l = L; p = w .planes; declared = w .bits }) ++ drop headerSize (mid .out)
-        → Encodes N L A budget held (encode.Done (record { planes = w .planes; bits = w .bits; bytes = headerSize + bytesFor (w .bits) })) (lent (mid .descs) (mid .grands) (mid .marks) out)
+        → Encodes N L A budget held (encode.Done (record { planes = w .planes; bits = w .bits; bytes = headerSize + bytesFor (w .bits) })) (loan (mid .descs) (mid .grands) (mid .marks) out)
     file-written out e =
         let own : List ℕ = packed (sentBits N L A budget) in
         let file : List ℕ = fileOf N L A budget in
@@ -101,7 +101,7 @@ module _ (N L : ℕ) (A : List ℤ) (budget : ℕ) (held mid : Lent) (r : writte
         omega (arith, length-append (headerBytes (headerFor N L A budget)) own, header-length (headerFor N L A budget) []) in
         let put : out ≡ outputAfter Done 0 file (held .out) = e ∙ rw (h, d, n) (sym (append-assoc (headerBytes (headerFor N L A budget)) own (drop (0 + length file) (held .out)))) in
         let left : out ≡ outputAfter (encodeOutcome N L A budget held) 0 file (held .out) = put ∙ ap (λ (x : Outcome). outputAfter x 0 file (held .out)) (sym (said .0)) in
-        record { answered = rw (said .0, said .1); filled = λ i. lent (writes .filled i .descs) (writes .filled i .grands) (writes .filled i .marks) (left i) }
+        record { answered = rw (said .0, said .1); filled = λ i. loan (writes .filled i .descs) (writes .filled i .grands) (writes .filled i .marks) (left i) }
 
 -- ---- decoding
 

@@ -32,7 +32,7 @@ use Rattle.nls.proofs.Counts.{stream-bound}
 use Rattle.nls.proofs.Streams.{marks-length}
 use Rattle.room.specs.Ready.{EncodeReady}
 use Rattle.room.proofs.Laws.{encode-ready}
-use Rattle.encoder.specs.Body.{sentBits, sentMarks, outputAfter, Lent}
+use Rattle.encoder.specs.Body.{sentBits, sentMarks, outputAfter, Loan}
 use Rattle.decoder.specs.Body.{Tables, tables, ownTables, over}
 use Rattle.txp.specs.declared.Header.{Header}
 use Rattle.txp.specs.declared.Encoded.{Encoded}
@@ -160,7 +160,7 @@ module _ (N L : ℕ) (side : sideFits N ≡ true) (levels : levelsFit N L ≡ tr
       rw (lt-leb headerSize (length (take k (fileOf N L A budget))) (omega (arith, h, length-take k (fileOf N L A budget))))
 
 -- ---- THE CALLS. Encoding, for which its contract allows the answer `r` and leaves `left` of what it is lent, answered that it is done.
-module _ (N L : ℕ) (A : List ℤ) (budget : ℕ) (held left : Lent) (r : EncodeAnswer) (encodes : Encodes N L A budget held r left) (e : Encoded) (done : r ≡ encode.Done e) where
+module _ (N L : ℕ) (A : List ℤ) (budget : ℕ) (held left : Loan) (r : EncodeAnswer) (encodes : Encodes N L A budget held r left) (e : Encoded) (done : r ≡ encode.Done e) where
   told : (o : Outcome) → encode.Done e ≡ encodeAnswer N L A budget o → (o ≡ Done)
       × (e ≡ record { planes = planesOf A; bits = length (sentBits N L A budget); bytes = headerSize + bytesFor (length (sentBits N L A budget)) })
   told Done q = (refl, cc)
@@ -197,7 +197,7 @@ module _ (N L : ℕ) (A : List ℤ) (budget : ℕ) (held left : Lent) (r : Encod
         let file : List ℕ = fileOf N L A budget in
         let n : e .bytes ≡ length file = ap {B = ℕ} (λ (x : Encoded). x .bytes) (says .1) ∙ sym (file-length N L (so .side) (so .levels) A (so .whole) (so .limited) budget narrow) in
         let begins : left .out ≡ file ++ drop (0 + length file) (held .out) =
-        ap (λ (x : Lent). x .out) (encodes .filled) ∙ ap (λ (o : Outcome). outputAfter o 0 file (held .out)) (says .0) in
+        ap (λ (x : Loan). x .out) (encodes .filled) ∙ ap (λ (o : Outcome). outputAfter o 0 file (held .out)) (says .0) in
         ap (λ (k : ℕ). take k (left .out)) n ∙ ap (λ (s : List ℕ). take (length file) s) begins ∙ take-at file (drop (0 + length file) (held .out)) (length file) refl
 
     -- That file is decoded, for which decode's contract allows the answer `answer` and leaves the tables `after`.
@@ -238,7 +238,7 @@ module _ (N L : ℕ) (A : List ℤ) (budget : ℕ) (held left : Lent) (r : Encod
             let own : List ℕ = sentMarks N L A budget in
             let long : length own ≡ allOf N = marks-length N L (sized N L (so .levels)) (planesOf A) (sentBits N L A budget) in
             let ours : left .marks ≡ own ++ drop (length own) (held .marks) =
-            ap (λ (x : Lent). x .marks) (encodes .filled) ∙ ap (λ (o : Outcome). lentAfter o own (held .marks)) (says .0) in
+            ap (λ (x : Loan). x .marks) (encodes .filled) ∙ ap (λ (o : Outcome). lentAfter o own (held .marks)) (says .0) in
             ap (λ (x : Tables). take (allOf N) (x .marks)) (all-taken .1)
             ∙ take-at own (drop (allOf N) (given .marks)) (allOf N) long
             ∙ sym (ap (λ (s : List ℕ). take (allOf N) s) ours ∙ take-at own (drop (length own) (held .marks)) (allOf N) long)

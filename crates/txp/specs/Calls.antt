@@ -15,7 +15,7 @@ use Rattle.bits.specs.Bits.{bytesFor}
 use Rattle.coef.specs.Coef.{planesOf}
 use Rattle.nls.specs.Reading.{planesFinished, worstError}
 use Rattle.nls.specs.Judging.{Verdict, taken, contradiction, beyond, Judged}
-use Rattle.encoder.specs.Body.{sentBits, Lent, writeOutcome, lentTo}
+use Rattle.encoder.specs.Body.{sentBits, Loan, writeOutcome, lentTo}
 use Rattle.decoder.specs.Body.{Tables, ownTables, over}
 use Rattle.txp.specs.declared.Header.{Header}
 use Rattle.txp.specs.declared.EncodeAnswer.{EncodeAnswer}
@@ -33,11 +33,11 @@ encodeAnswer N L A budget outcome.Done =
 encodeAnswer N L A budget (outcome.Refused why) = encode.Refused why
 
 -- "Encoding checks 1 to 6 in that order": those of its body, which begins behind the header
-abbrev pub encodeOutcome : ℕ → ℕ → List ℤ → ℕ → Lent → Outcome
+abbrev pub encodeOutcome : ℕ → ℕ → List ℤ → ℕ → Loan → Outcome
 encodeOutcome N L A budget held = writeOutcome N L A headerSize budget held
 
 -- a call that writes a file: the first check that fails decides its answer and what it leaves
-pub record Encodes (N L : ℕ) (A : List ℤ) (budget : ℕ) (held : Lent) (answer : EncodeAnswer) (left : Lent) : Type 0 where
+pub record Encodes (N L : ℕ) (A : List ℤ) (budget : ℕ) (held : Loan) (answer : EncodeAnswer) (left : Loan) : Type 0 where
   pub answered : answer ≡ encodeAnswer N L A budget (encodeOutcome N L A budget held)
   pub filled : left ≡ lentTo (encodeOutcome N L A budget held) N L A budget 0 (fileOf N L A budget) held
 

@@ -8,7 +8,7 @@ ghost use lib.ListN.{length, getD, set, drop};
 ghost use lib.Seq.{sets};
 ghost use Rattle.refusals.specs.Checks.{firstOf};
 ghost use Rattle.bits.specs.Bits.{bytesFor};
-ghost use Rattle.encoder.specs.Body.{lent};
+ghost use Rattle.encoder.specs.Body.{loan};
 ghost use Rattle.decoder.specs.Body.{tables};
 ghost use Rattle.txp.specs.Calls.{Encodes, paddingFits, roomIn, restChecks, decodeChecks, Decodes};
 ghost use Rattle.txp.specs.Under.{withHeader};
@@ -235,7 +235,7 @@ pub fn encode(
     out: &mut [u8],
     budget: u32,
 ) -> EncodeAnswer
-    ensures { λ r. ⌜ Encodes n l (now (coefs .entry)) budget (lent (now (desc .entry)) (now (grand .entry)) (now (marks .entry)) (now (out .entry))) r (lent (now (desc .exit)) (now (grand .exit)) (now (marks .exit)) (now (out .exit))) ⌝ }
+    ensures { λ r. ⌜ Encodes n l (now (coefs .entry)) budget (loan (now (desc .entry)) (now (grand .entry)) (now (marks .entry)) (now (out .entry))) r (loan (now (desc .exit)) (now (grand .exit)) (now (marks .exit)) (now (out .exit))) ⌝ }
 {
     let body = encoder::encode(n, l, coefs, desc, grand, marks, out, HEADER_SIZE, budget);
     match body {

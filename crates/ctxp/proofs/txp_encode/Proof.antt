@@ -1,5 +1,5 @@
 use borrow.Author.Needs.{needs}
-use Rattle.encoder.specs.Body.{lent}
+use Rattle.encoder.specs.Body.{loan}
 use Rattle.ctxp.proofs.Laws.{answers-by, file-short}
 use Rattle.ctxp.proofs.txp_encode.Statement.{statement}
 use Rattle.ctxp.proofs.txp_encode.Tie as tie
@@ -11,8 +11,8 @@ of-encoded-requires : tie.Need-of-encoded-requires
 of-encoded-requires c κs =
     let a = c .before .before .before .before .before .before .before .before .before .before .before .before .before .before .before .before .before .before .args in
     let e = c .before .before .before .before .before .before .before .before .before .encode in
-    file-short (a .n) (a .l) (a .coefs .now) (a .budget) (lent (a .desc .now) (a .grand .now) (a .marks .now) (a .out .now))
-    (lent (e .last .1 .1 .1 .0) (e .last .1 .1 .1 .1 .0) (e .last .1 .1 .1 .1 .1 .0) (e .last .1 .1 .1 .1 .1 .1 .0)) (c .before .before .before .before .before .before .before .before .before .before .before .before .before .before .before .before .before .before .fits .budget .fits) (e .ensures)
+    file-short (a .n) (a .l) (a .coefs .now) (a .budget) (loan (a .desc .now) (a .grand .now) (a .marks .now) (a .out .now))
+    (loan (e .last .1 .1 .1 .0) (e .last .1 .1 .1 .1 .0) (e .last .1 .1 .1 .1 .1 .0) (e .last .1 .1 .1 .1 .1 .1 .0)) (c .before .before .before .before .before .before .before .before .before .before .before .before .before .before .before .before .before .before .fits .budget .fits) (e .ensures)
 
 put-requires : tie.Need-put-requires
 put-requires c κs = search needs

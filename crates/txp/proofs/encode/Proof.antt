@@ -1,4 +1,4 @@
-use Rattle.encoder.specs.Body.{lent}
+use Rattle.encoder.specs.Body.{loan}
 use Rattle.txp.proofs.CallLaws.{refused-body, header-fits, file-written}
 use borrow.Author.Needs.{needs}
 use Rattle.txp.proofs.encode.Statement.{statement}
@@ -15,8 +15,8 @@ put-header-requires c κs =
     let a = c .before .before .before .before .before .before .before .before .before .before .before .before .before .before .before .before .before .before .before .before .before .args in
     let e = c .before .before .before .before .before .before .before .before .before .before .before .before .encode in
     let w = c .before .before .body .given in
-    header-fits (a .n) (a .l) (a .coefs .now) (a .budget) (lent (a .desc .now) (a .grand .now) (a .marks .now) (a .out .now))
-    (lent (e .last .1 .1 .1 .0) (e .last .1 .1 .1 .1 .0) (e .last .1 .1 .1 .1 .1 .0) (e .last .1 .1 .1 .1 .1 .1 .0)) (e .result) (e .ensures) (w .0 .0) (w .1)
+    header-fits (a .n) (a .l) (a .coefs .now) (a .budget) (loan (a .desc .now) (a .grand .now) (a .marks .now) (a .out .now))
+    (loan (e .last .1 .1 .1 .0) (e .last .1 .1 .1 .1 .0) (e .last .1 .1 .1 .1 .1 .0) (e .last .1 .1 .1 .1 .1 .1 .0)) (e .result) (e .ensures) (w .0 .0) (w .1)
 
 bytes-for-requires : tie.Need-bytes-for-requires
 bytes-for-requires c κs = search needs
@@ -45,8 +45,8 @@ returns c =
     let e = c .before .before .before .before .before .before .before .before .before .before .before .before .before .before .before .before .encode in
     let w = c .before .before .before .before .before .before .body .given in
     rw (c .bytes-for .ensures)
-    (file-written (a .n) (a .l) (a .coefs .now) (a .budget) (lent (a .desc .now) (a .grand .now) (a .marks .now) (a .out .now))
-    (lent (e .last .1 .1 .1 .0) (e .last .1 .1 .1 .1 .0) (e .last .1 .1 .1 .1 .1 .0) (e .last .1 .1 .1 .1 .1 .1 .0)) (e .result) (e .ensures) (w .0 .0) (w .1) (c .before .before .before .put-header .last .0) (c .before .before .before .put-header .ensures))
+    (file-written (a .n) (a .l) (a .coefs .now) (a .budget) (loan (a .desc .now) (a .grand .now) (a .marks .now) (a .out .now))
+    (loan (e .last .1 .1 .1 .0) (e .last .1 .1 .1 .1 .0) (e .last .1 .1 .1 .1 .1 .0) (e .last .1 .1 .1 .1 .1 .1 .0)) (e .result) (e .ensures) (w .0 .0) (w .1) (c .before .before .before .put-header .last .0) (c .before .before .before .put-header .ensures))
 
 same-length-5 : tie.Need-same-length-5
 same-length-5 c = search needs
@@ -65,8 +65,8 @@ returns-2 c =
     let a = c .before .before .before .before .before .before .before .before .before .before .before .before .before .before .before .before .before .before .before .before .args in
     let e = c .before .before .before .before .before .before .before .before .before .before .before .encode in
     let w = c .before .body2 .given in
-    refused-body (a .n) (a .l) (a .coefs .now) (a .budget) (lent (a .desc .now) (a .grand .now) (a .marks .now) (a .out .now))
-    (lent (e .last .1 .1 .1 .0) (e .last .1 .1 .1 .1 .0) (e .last .1 .1 .1 .1 .1 .0) (e .last .1 .1 .1 .1 .1 .1 .0)) (e .result) (e .ensures) (w .0 .0) (w .1)
+    refused-body (a .n) (a .l) (a .coefs .now) (a .budget) (loan (a .desc .now) (a .grand .now) (a .marks .now) (a .out .now))
+    (loan (e .last .1 .1 .1 .0) (e .last .1 .1 .1 .1 .0) (e .last .1 .1 .1 .1 .1 .0) (e .last .1 .1 .1 .1 .1 .1 .0)) (e .result) (e .ensures) (w .0 .0) (w .1)
 
 pub encode-spec : {M : Type 1} → statement M
 encode-spec =

@@ -14,7 +14,7 @@ use Rattle.room.specs.Ready.{EncodeReady}
 use Rattle.room.proofs.Laws.{encode-ready}
 use Rattle.refusals.specs.declared.Outcome.the-variants as outcome
 use Rattle.encoder.specs.declared.body.WriteAnswer.the-variants.{Done}
-use Rattle.encoder.specs.Body.{sentBits, sentMarks, lent}
+use Rattle.encoder.specs.Body.{sentBits, sentMarks, loan}
 use Rattle.encoder.proofs.EncodeLaws.{marks-back, output-back, writes-by}
 use Rattle.encoder.proofs.body.encode.Statement.{statement}
 use Rattle.encoder.proofs.body.encode.Tie as tie
@@ -86,16 +86,16 @@ returns c =
     let marks =
     marks-back (c .before .before .before .before .before .before .before .before .before .before .before .before .before .all-of .result) (sentMarks (a .n) (a .l) (a .coefs .now) (a .budget)) (w .last .1 .1 .1 .1 .1 .0) (a .marks .now) (w .ensures .1 .1 .1 .0) (marks-length (a .n) (a .l) (sized (a .n) (a .l) (r .0 .levels)) (planesOf (a .coefs .now)) u ∙ sym (all-so (c .before .before .before .before .before .before .before .before .before .before .before .before .before))) in
     let out = output-back (a .offset) _ (packed u) (w .last .1 .1 .1 .1 .1 .1 .0) (a .out .now) (r .2) (sym (packed-length u)) (w .ensures .1 .1 .1 .1) in
-    writes-by (a .n) (a .l) (a .coefs .now) (a .offset) (a .budget) (lent (a .desc .now) (a .grand .now) (a .marks .now) (a .out .now)) outcome.Done
+    writes-by (a .n) (a .l) (a .coefs .now) (a .offset) (a .budget) (loan (a .desc .now) (a .grand .now) (a .marks .now) (a .out .now)) outcome.Done
     (sym (c .before .before .before .before .before .before .before .before .before .before .before .before .before .before .enum-told .given .1) ∙ c .before .before .before .before .before .before .before .before .before .before .before .before .before .before .before .before .check-encode .ensures)
     (ap Done (w .ensures .0))
-    (λ i. lent (w .ensures .1 .0 i) (w .ensures .1 .1 .0 i) (marks i) (out i))
+    (λ i. loan (w .ensures .1 .0 i) (w .ensures .1 .1 .0 i) (marks i) (out i))
 
 returns-2 : tie.Need-returns-2
 returns-2 c =
     let a = c .before .before .before .before .before .before .before .before .args in
     let why = c .before .why .given in
-    writes-by (a .n) (a .l) (a .coefs .now) (a .offset) (a .budget) (lent (a .desc .now) (a .grand .now) (a .marks .now) (a .out .now)) (outcome.Refused (why .0 .0)) (sym (why .1) ∙ c .before .before .before .check-encode .ensures) refl refl
+    writes-by (a .n) (a .l) (a .coefs .now) (a .offset) (a .budget) (loan (a .desc .now) (a .grand .now) (a .marks .now) (a .out .now)) (outcome.Refused (why .0 .0)) (sym (why .1) ∙ c .before .before .before .check-encode .ensures) refl refl
 
 pub encode-spec : {M : Type 1} → statement M
 encode-spec =
