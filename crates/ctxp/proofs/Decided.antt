@@ -57,22 +57,22 @@ pub one-answer : {a a' : List ℕ} {r r' : ℕ} {held held' : List ℕ} → a �
 one-answer e p q = (p .0 ∙ ap (λ (x : List ℕ). getD x 0 0) e ∙ sym (q .0), p .1 ∙ e ∙ sym (q .1))
 
 -- encoding: DESC, GRAND, the marks and the output are the fourth to the seventh parameter
-pub encode-decided : OneOutcome {Loan = List ℕ × Loan} encode.Learnt
+pub encode-decided : OneOutcome {Lent = List ℕ × Loan} encode.Learnt
     (λ k s. (now (s .1 .1 .1 .1 .1 .1 .1 .1 .0), loan (now (s .1 .1 .1 .0)) (now (s .1 .1 .1 .1 .0)) (now (s .1 .1 .1 .1 .1 .0)) (now (s .1 .1 .1 .1 .1 .1 .0))))
 encode-decided k args r r' s s' p q =
     let one = one-answer (ap ofEncoded (p .encodes .answered ∙ sym (q .encodes .answered))) (p .answers) (q .answers) in
     (one .0, λ i. (one .1 i, (p .encodes .filled ∙ sym (q .encodes .filled)) i))
 
-pub worst-body-decided : OneOutcome {Loan = List ℕ} worst-body.Learnt (λ k s. now (s .1 .1 .1 .0))
+pub worst-body-decided : OneOutcome {Lent = List ℕ} worst-body.Learnt (λ k s. now (s .1 .1 .1 .0))
 worst-body-decided k args r r' s s' p q = one-answer refl p q
 
-pub encode-body-decided : OneOutcome {Loan = List ℕ × Loan} encode-body.Learnt
+pub encode-body-decided : OneOutcome {Lent = List ℕ × Loan} encode-body.Learnt
     (λ k s. (now (s .1 .1 .1 .1 .1 .1 .1 .1 .1 .0), loan (now (s .1 .1 .1 .0)) (now (s .1 .1 .1 .1 .0)) (now (s .1 .1 .1 .1 .1 .0)) (now (s .1 .1 .1 .1 .1 .1 .0))))
 encode-body-decided k args r r' s s' p q =
     let one = one-answer (ap ofWritten (p .encodes .answered ∙ sym (q .encodes .answered))) (p .answers) (q .answers) in
     (one .0, λ i. (one .1 i, (p .encodes .filled ∙ sym (q .encodes .filled)) i))
 
-pub summaries-decided : OneOutcome {Loan = List ℕ × List ℕ × List ℕ} summaries.Learnt
+pub summaries-decided : OneOutcome {Lent = List ℕ × List ℕ × List ℕ} summaries.Learnt
     (λ k s. (now (s .1 .1 .1 .1 .1 .0), now (s .1 .1 .1 .0), now (s .1 .1 .1 .1 .0)))
 summaries-decided k args r r' s s' p q =
     let one = one-answer refl (p .0) (q .0) in
@@ -80,7 +80,7 @@ summaries-decided k args r r' s s' p q =
     let lent2 : now (s .1 .1 .1 .1 .0) ≡ now (s' .1 .1 .1 .1 .0) = p .1 .1 ∙ sym (q .1 .1) in
     (one .0, λ i. (one .1 i, lent1 i, lent2 i))
 
-pub figures-decided : OneOutcome {Loan = List ℕ × List ℕ × List ℕ} figures.Learnt
+pub figures-decided : OneOutcome {Lent = List ℕ × List ℕ × List ℕ} figures.Learnt
     (λ k s. (now (s .1 .1 .1 .1 .1 .1 .0), now (s .1 .1 .1 .1 .0), now (s .1 .1 .1 .1 .1 .0)))
 figures-decided k args r r' s s' p q =
     let one = one-answer refl (p .0) (q .0) in
@@ -88,75 +88,75 @@ figures-decided k args r r' s s' p q =
     let lent2 : now (s .1 .1 .1 .1 .1 .0) ≡ now (s' .1 .1 .1 .1 .1 .0) = p .1 .1 ∙ sym (q .1 .1) in
     (one .0, λ i. (one .1 i, lent1 i, lent2 i))
 
-pub to-linear-decided : OneOutcome {Loan = List ℕ × List ℤ} to-linear.Learnt
+pub to-linear-decided : OneOutcome {Lent = List ℕ × List ℤ} to-linear.Learnt
     (λ k s. (now (s .1 .1 .1 .0), now (s .1 .1 .0)))
 to-linear-decided k args r r' s s' p q =
     let one = one-answer refl (p .0) (q .0) in
     let lent1 : now (s .1 .1 .0) ≡ now (s' .1 .1 .0) = p .1 ∙ sym (q .1) in
     (one .0, λ i. (one .1 i, lent1 i))
 
-pub to-raster-decided : OneOutcome {Loan = List ℕ × List ℤ} to-raster.Learnt
+pub to-raster-decided : OneOutcome {Lent = List ℕ × List ℤ} to-raster.Learnt
     (λ k s. (now (s .1 .1 .1 .0), now (s .1 .1 .0)))
 to-raster-decided k args r r' s s' p q =
     let one = one-answer refl (p .0) (q .0) in
     let lent1 : now (s .1 .1 .0) ≡ now (s' .1 .1 .0) = p .1 ∙ sym (q .1) in
     (one .0, λ i. (one .1 i, lent1 i))
 
-pub linear-place-decided : OneOutcome {Loan = List ℕ} linear-place.Learnt (λ k s. now (s .1 .1 .0))
+pub linear-place-decided : OneOutcome {Lent = List ℕ} linear-place.Learnt (λ k s. now (s .1 .1 .0))
 linear-place-decided k args r r' s s' p q = one-answer refl p q
 
-pub raster-place-decided : OneOutcome {Loan = List ℕ} raster-place.Learnt (λ k s. now (s .1 .1 .0))
+pub raster-place-decided : OneOutcome {Lent = List ℕ} raster-place.Learnt (λ k s. now (s .1 .1 .0))
 raster-place-decided k args r r' s s' p q = one-answer refl p q
 
-pub planes-decided : OneOutcome {Loan = List ℕ} planes.Learnt (λ k s. now (s .1 .0))
+pub planes-decided : OneOutcome {Lent = List ℕ} planes.Learnt (λ k s. now (s .1 .0))
 planes-decided k args r r' s s' p q = one-answer refl p q
 
-pub is-negative-decided : OneOutcome {Loan = List ℕ} is-negative.Learnt (λ k s. now (s .1 .0))
+pub is-negative-decided : OneOutcome {Lent = List ℕ} is-negative.Learnt (λ k s. now (s .1 .0))
 is-negative-decided k args r r' s s' p q = one-answer refl p q
 
-pub magnitude-decided : OneOutcome {Loan = List ℕ} magnitude.Learnt (λ k s. now (s .1 .0))
+pub magnitude-decided : OneOutcome {Lent = List ℕ} magnitude.Learnt (λ k s. now (s .1 .0))
 magnitude-decided k args r r' s s' p q = one-answer refl p q
 
-pub part-decided : OneOutcome {Loan = List ℕ} part.Learnt (λ k s. now (s .1 .0))
+pub part-decided : OneOutcome {Lent = List ℕ} part.Learnt (λ k s. now (s .1 .0))
 part-decided k args r r' s s' p q = one-answer refl p q
 
-pub join-decided : OneOutcome {Loan = List ℕ × ℤ} join.Learnt
+pub join-decided : OneOutcome {Lent = List ℕ × ℤ} join.Learnt
     (λ k s. (now (s .1 .1 .1 .0), now (s .1 .1 .0)))
 join-decided k args r r' s s' p q =
     let one = one-answer refl (p .0) (q .0) in
     let lent1 : now (s .1 .1 .0) ≡ now (s' .1 .1 .0) = p .1 ∙ sym (q .1) in
     (one .0, λ i. (one .1 i, lent1 i))
 
-pub float-decided : OneOutcome {Loan = List ℕ × Float} float.Learnt
+pub float-decided : OneOutcome {Lent = List ℕ × Float} float.Learnt
     (λ k s. (now (s .1 .1 .0), now (s .1 .0)))
 float-decided k args r r' s s' p q =
     let one = one-answer refl (p .0) (q .0) in
     let lent1 : now (s .1 .0) ≡ now (s' .1 .0) = p .1 ∙ sym (q .1) in
     (one .0, λ i. (one .1 i, lent1 i))
 
-pub bit-decided : OneOutcome {Loan = List ℕ} bit.Learnt (λ k s. now (s .1 .1 .0))
+pub bit-decided : OneOutcome {Lent = List ℕ} bit.Learnt (λ k s. now (s .1 .1 .0))
 bit-decided k args r r' s s' p q = one-answer refl p q
 
-pub read-bit-decided : OneOutcome {Loan = List ℕ} read-bit.Learnt (λ k s. now (s .1 .1 .1 .0))
+pub read-bit-decided : OneOutcome {Lent = List ℕ} read-bit.Learnt (λ k s. now (s .1 .1 .1 .0))
 read-bit-decided k args r r' s s' p q = one-answer refl p q
 
-pub put-bit-decided : OneOutcome {Loan = List ℕ × List ℕ} put-bit.Learnt
+pub put-bit-decided : OneOutcome {Lent = List ℕ × List ℕ} put-bit.Learnt
     (λ k s. (now (s .1 .1 .1 .0), now (s .0)))
 put-bit-decided k args r r' s s' p q =
     let one = one-answer refl (p .0) (q .0) in
     let lent1 : now (s .0) ≡ now (s' .0) = p .1 ∙ sym (q .1) in
     (one .0, λ i. (one .1 i, lent1 i))
 
-pub side-fits-decided : OneOutcome {Loan = List ℕ} side-fits.Learnt (λ k s. now (s .1 .0))
+pub side-fits-decided : OneOutcome {Lent = List ℕ} side-fits.Learnt (λ k s. now (s .1 .0))
 side-fits-decided k args r r' s s' p q = one-answer refl p q
 
-pub levels-fit-decided : OneOutcome {Loan = List ℕ} levels-fit.Learnt (λ k s. now (s .1 .1 .0))
+pub levels-fit-decided : OneOutcome {Lent = List ℕ} levels-fit.Learnt (λ k s. now (s .1 .1 .0))
 levels-fit-decided k args r r' s s' p q = one-answer refl p q
 
-pub all-decided : OneOutcome {Loan = List ℕ} all.Learnt (λ k s. now (s .1 .0))
+pub all-decided : OneOutcome {Lent = List ℕ} all.Learnt (λ k s. now (s .1 .0))
 all-decided k args r r' s s' p q = one-answer refl p q
 
-pub coarsest-decided : OneOutcome {Loan = List ℕ} coarsest.Learnt (λ k s. now (s .1 .1 .0))
+pub coarsest-decided : OneOutcome {Lent = List ℕ} coarsest.Learnt (λ k s. now (s .1 .1 .0))
 coarsest-decided k args r r' s s' p q = one-answer refl p q
 
 -- decoding: there is one verdict on the usable bits
@@ -186,12 +186,12 @@ body-one N L P usable bytes held r r' a a' left left' p q =
     let said = one-answer (ap ofRead (one .0)) (p .answers) (q .answers) in
     (said .0, said .1, one .1)
 
-pub decode-decided : OneOutcome {Loan = List ℕ × Tables} decode.Learnt (λ k s. (now (s .1 .1 .1 .1 .0), tables (now (s .1 .0)) (now (s .1 .1 .0)) (now (s .1 .1 .1 .0))))
+pub decode-decided : OneOutcome {Lent = List ℕ × Tables} decode.Learnt (λ k s. (now (s .1 .1 .1 .1 .0), tables (now (s .1 .0)) (now (s .1 .1 .0)) (now (s .1 .1 .1 .0))))
 decode-decided k args r r' s s' p q =
     let one = file-one (now (args .0)) (tables (now (args .1 .0)) (now (args .1 .1 .0)) (now (args .1 .1 .1 .0))) r r' (now (s .1 .1 .1 .1 .0)) (now (s' .1 .1 .1 .1 .0)) (tables (now (s .1 .0)) (now (s .1 .1 .0)) (now (s .1 .1 .1 .0))) (tables (now (s' .1 .0)) (now (s' .1 .1 .0)) (now (s' .1 .1 .1 .0))) p q in
     (one .0, λ i. (one .1 i, one .2 i))
 
-pub decode-body-decided : OneOutcome {Loan = List ℕ × Tables} decode-body.Learnt (λ k s. (now (s .1 .1 .1 .1 .1 .1 .1 .1 .0), tables (now (s .1 .1 .1 .1 .1 .0)) (now (s .1 .1 .1 .1 .1 .1 .0)) (now (s .1 .1 .1 .1 .1 .1 .1 .0))))
+pub decode-body-decided : OneOutcome {Lent = List ℕ × Tables} decode-body.Learnt (λ k s. (now (s .1 .1 .1 .1 .1 .1 .1 .1 .0), tables (now (s .1 .1 .1 .1 .1 .0)) (now (s .1 .1 .1 .1 .1 .1 .0)) (now (s .1 .1 .1 .1 .1 .1 .1 .0))))
 decode-body-decided k args r r' s s' p q =
     let one = body-one (args .0) (args .1 .0) (args .1 .1 .0) (args .1 .1 .1 .1 .0) (now (args .1 .1 .1 .0)) (tables (now (args .1 .1 .1 .1 .1 .0)) (now (args .1 .1 .1 .1 .1 .1 .0)) (now (args .1 .1 .1 .1 .1 .1 .1 .0))) r r' (now (s .1 .1 .1 .1 .1 .1 .1 .1 .0)) (now (s' .1 .1 .1 .1 .1 .1 .1 .1 .0)) (tables (now (s .1 .1 .1 .1 .1 .0)) (now (s .1 .1 .1 .1 .1 .1 .0)) (now (s .1 .1 .1 .1 .1 .1 .1 .0))) (tables (now (s' .1 .1 .1 .1 .1 .0)) (now (s' .1 .1 .1 .1 .1 .1 .0)) (now (s' .1 .1 .1 .1 .1 .1 .1 .0))) p q in
     (one .0, λ i. (one .1 i, one .2 i))

@@ -6,5 +6,5 @@ use Rattle.encoder.specs.Body.{Loan, loan}
 use Rattle.encoder.proofs.body.encode.Reads as encode
 
 -- the fourth to the seventh parameter are DESC, GRAND, the marks and the output
-pub encode-decided : OneOutcome {Loan = Loan} encode.Learnt (λ k s. loan (now (s .1 .1 .1 .0)) (now (s .1 .1 .1 .1 .0)) (now (s .1 .1 .1 .1 .1 .0)) (now (s .1 .1 .1 .1 .1 .1 .0)))
+pub encode-decided : OneOutcome {Lent = Loan} encode.Learnt (λ k s. loan (now (s .1 .1 .1 .0)) (now (s .1 .1 .1 .1 .0)) (now (s .1 .1 .1 .1 .1 .0)) (now (s .1 .1 .1 .1 .1 .1 .0)))
 encode-decided k args r r' s s' p q = (p .answered ∙ sym (q .answered), p .filled ∙ sym (q .filled))

@@ -24,7 +24,7 @@ use Rattle.txp.proofs.encode.Reads as encode
 use Rattle.txp.proofs.decode.Reads as decode
 
 -- DESC, GRAND, the marks and the output are the fourth to the seventh parameter
-pub encode-decided : OneOutcome {Loan = Loan} encode.Learnt (λ k s. loan (now (s .1 .1 .1 .0)) (now (s .1 .1 .1 .1 .0)) (now (s .1 .1 .1 .1 .1 .0)) (now (s .1 .1 .1 .1 .1 .1 .0)))
+pub encode-decided : OneOutcome {Lent = Loan} encode.Learnt (λ k s. loan (now (s .1 .1 .1 .0)) (now (s .1 .1 .1 .1 .0)) (now (s .1 .1 .1 .1 .1 .0)) (now (s .1 .1 .1 .1 .1 .1 .0)))
 encode-decided k args r r' s s' p q = (p .answered ∙ sym (q .answered), p .filled ∙ sym (q .filled))
 
 -- a file's header and usable bits decide the rest, where its sizes are in range: there is one verdict on the bits
@@ -39,7 +39,7 @@ module _ (h : Header) (u : List Bool) (held : Tables) (r r' : DecodeAnswer) (lef
   one-outcome (Refused why) z p q = (p .0 ∙ sym (q .0), p .1 ∙ sym (q .1))
 
 -- values, precisions and marks are the second to the fourth parameter
-pub decode-decided : OneOutcome {Loan = Tables} decode.Learnt (λ k s. tables (now (s .1 .0)) (now (s .1 .1 .0)) (now (s .1 .1 .1 .0)))
+pub decode-decided : OneOutcome {Lent = Tables} decode.Learnt (λ k s. tables (now (s .1 .0)) (now (s .1 .1 .0)) (now (s .1 .1 .1 .0)))
 decode-decided k args r r' s s' p q =
     let file = now (args .0) in
     let held = tables (now (args .1 .0)) (now (args .1 .1 .0)) (now (args .1 .1 .1 .0)) in
