@@ -123,13 +123,17 @@ uint32_t txp_encode(uint32_t n, uint32_t l, const int32_t *coefs, size_t coefs_l
                     uint32_t budget, txp_answer *answer);
 
 /* Reads a file, whole or cut: a file that is short of its declared bytes is a cut one.
- * values, precisions, marks: TXP_ENTRIES(n) or more each, for the N that byte 5 of the file says; TXP_ENTRIES(8) always will do.
+ * values, precisions, marks: TXP_ENTRIES(n) or more each, for the N that txp_header answers; TXP_ENTRIES(TXP_MOST_N) always will do.
  * Refusals 7, 8, 1, 2, 9, 10, 11, 5: nothing that is lent is touched.
  * Refusals 12, 13 (place: a bit of the body): the first I entries of the three are 0.
  * Done: values hold the coefficients as near as the bits allow, precisions each one's lowest known bit, marks where the scan stopped.
  * Answer: n, l, planes, declared, bits (used), finished, error. */
 uint32_t txp_decode(const uint8_t *file, size_t file_len, int32_t *values, size_t values_len, uint8_t *precisions,
                     size_t precisions_len, uint8_t *marks, size_t marks_len, txp_answer *answer);
+
+/* What the header of a file says, so that a host knows N before it lends tables. It reads the first 12 bytes alone: they are enough
+ * to call it. Refusals 7, 8, 1, 2, 9. Answer: n, l, planes, declared. */
+uint32_t txp_header(const uint8_t *file, size_t file_len, txp_answer *answer);
 
 /* ---- the body */
 

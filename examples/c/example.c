@@ -9,19 +9,20 @@ enum { N = 3, L = 2, SIDE = 8, ALL = SIDE * SIDE };
 /* Prints a refusal and ends the program. */
 static void stop(const char *call, const txp_answer *answer)
 {
-    printf("%s: refusal %u at place %u\n", call, (unsigned)answer->refusal, (unsigned)answer->place);
+    printf("%s: refusal %u at place %u: %s\n", call, (unsigned)answer->refusal, (unsigned)answer->place,
+           txp_refusal_text(answer->refusal));
     exit(1);
 }
 
-/* The first row of the picture, each value as the float that an audio engine takes. */
-static void print_row(const int32_t *linear)
+/* The first row of a picture, each value as the float that an audio engine takes. `raster` is room for all of it. */
+static void print_row(uint32_t n, const int32_t *linear, int32_t *raster)
 {
-    int32_t raster[ALL];
+    const size_t all = TXP_ENTRIES(n);
     txp_answer answer;
-    if (txp_to_raster(N, linear, ALL, raster, ALL, &answer) != TXP_DONE) {
+    if (txp_to_raster(n, linear, all, raster, all, &answer) != TXP_DONE) {
         stop("txp_to_raster", &answer);
     }
-    for (int col = 0; col < SIDE; col++) {
+    for (int col = 0; col < 1 << n; col++) {
         float value;
         if (txp_float(raster[col], &value, &answer) != TXP_DONE) {
             stop("txp_float", &answer);
@@ -31,20 +32,30 @@ static void print_row(const int32_t *linear)
     printf("\n");
 }
 
-/* Decodes the first bytes of a file, and prints how near the values are. */
+/* Decodes the first bytes of a file, and prints how near the values are. The header says how much is to be lent. */
 static void show(const uint8_t *file, size_t bytes)
 {
-    int32_t values[ALL];
-    uint8_t precisions[ALL], marks[ALL];
     txp_answer answer;
     printf("%3zu bytes: ", bytes);
-    if (txp_decode(file, bytes, values, ALL, precisions, ALL, marks, ALL, &answer) != TXP_DONE) {
+    if (txp_header(file, bytes, &answer) != TXP_DONE) {
         printf("refusal %u at place %u\n", (unsigned)answer.refusal, (unsigned)answer.place);
         return;
     }
-    printf("%u of %u bits, %u of %u planes, worst error %u; row 0:", (unsigned)answer.bits, (unsigned)answer.declared,
-           (unsigned)answer.finished, (unsigned)answer.planes, (unsigned)answer.error);
-    print_row(values);
+    const uint32_t n = answer.n;
+    const size_t all = TXP_ENTRIES(n);
+    int32_t *values = malloc(2 * all * sizeof *values);
+    uint8_t *tables = malloc(2 * all);
+    if (values == NULL || tables == NULL) {
+        printf("no memory\n");
+    } else if (txp_decode(file, bytes, values, all, tables, all, tables + all, all, &answer) != TXP_DONE) {
+        printf("refusal %u at place %u\n", (unsigned)answer.refusal, (unsigned)answer.place);
+    } else {
+        printf("%u of %u bits, %u of %u planes, worst error %u; row 0:", (unsigned)answer.bits, (unsigned)answer.declared,
+               (unsigned)answer.finished, (unsigned)answer.planes, (unsigned)answer.error);
+        print_row(n, values, values + all);
+    }
+    free(values);
+    free(tables);
 }
 
 int main(void)

@@ -9,21 +9,23 @@ const SIDE: usize = 8;
 const ALL: usize = SIDE * SIDE;
 
 /// The first row of the picture, each value as the float that an audio engine takes.
-fn row(linear: &[i32]) -> Result<String, Refusal> {
-    let mut raster = [0; ALL];
-    txp::to_raster(N, linear, &mut raster)?;
+fn row(n: u32, linear: &[i32]) -> Result<String, Refusal> {
+    let mut raster = vec![0; txp::entries(n)];
+    txp::to_raster(n, linear, &mut raster)?;
     let mut text = String::new();
-    for &x in &raster[..SIDE] {
+    for &x in &raster[..1 << n] {
         text += &format!(" {}", txp::float(x)?);
     }
     Ok(text)
 }
 
-/// What the first bytes of a file give.
+/// What the first bytes of a file give. The header says how much is to be lent.
 fn shown(file: &[u8]) -> Result<String, Refusal> {
-    let mut values = [0; ALL];
-    let d = txp::decode(file, &mut values, &mut [0; ALL], &mut [0; ALL])?;
-    let row = row(&values)?;
+    let n = txp::header(file)?.n;
+    let all = txp::entries(n);
+    let mut values = vec![0; all];
+    let d = txp::decode(file, &mut values, &mut vec![0; all], &mut vec![0; all])?;
+    let row = row(n, &values)?;
     Ok(format!("{} of {} bits, {} of {} planes, worst error {}; row 0:{row}", d.bits, d.declared, d.finished, d.planes, d.error))
 }
 

@@ -80,6 +80,7 @@ mod c {
             marks_len: usize,
             answer: *mut Answer,
         ) -> u32;
+        pub fn txp_header(file: *const u8, file_len: usize, answer: *mut Answer) -> u32;
         pub fn txp_to_linear(n: u32, from: *const i32, from_len: usize, to: *mut i32, to_len: usize, answer: *mut Answer) -> u32;
         pub fn txp_to_raster(n: u32, from: *const i32, from_len: usize, to: *mut i32, to_len: usize, answer: *mut Answer) -> u32;
         pub fn txp_float(x: i32, to: *mut f32, answer: *mut Answer) -> u32;
@@ -115,6 +116,11 @@ pub fn encode(n: u32, l: u32, coefs: &[i32], desc: &mut [u32], grand: &mut [u32]
             a,
         )
     })
+}
+
+/// What the header of a file says: n, l, planes and declared bits.
+pub fn header(file: &[u8]) -> Result<Answer, Refusal> {
+    answer(|a| unsafe { c::txp_header(file.as_ptr(), file.len(), a) })
 }
 
 /// Reads a file, whole or cut.

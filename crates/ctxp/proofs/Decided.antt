@@ -30,6 +30,7 @@ use Rattle.ctxp.specs.Lent.{FileDecoded, BodyDecoded}
 use Rattle.ctxp.proofs.txp_decode.Reads as decode
 use Rattle.ctxp.proofs.txp_decode_body.Reads as decode-body
 use Rattle.ctxp.proofs.txp_encode.Reads as encode
+use Rattle.ctxp.proofs.txp_header.Reads as header
 use Rattle.ctxp.proofs.txp_worst_body.Reads as worst-body
 use Rattle.ctxp.proofs.txp_encode_body.Reads as encode-body
 use Rattle.ctxp.proofs.txp_summaries.Reads as summaries
@@ -62,6 +63,9 @@ pub encode-decided : OneOutcome {Lent = List ℕ × Loan} encode.Learnt
 encode-decided k args r r' s s' p q =
     let one = one-answer (ap ofEncoded (p .encodes .answered ∙ sym (q .encodes .answered))) (p .answers) (q .answers) in
     (one .0, λ i. (one .1 i, (p .encodes .filled ∙ sym (q .encodes .filled)) i))
+
+pub header-decided : OneOutcome {Lent = List ℕ} header.Learnt (λ k s. now (s .1 .0))
+header-decided k args r r' s s' p q = one-answer refl p q
 
 pub worst-body-decided : OneOutcome {Lent = List ℕ} worst-body.Learnt (λ k s. now (s .1 .1 .1 .0))
 worst-body-decided k args r r' s s' p q = one-answer refl p q

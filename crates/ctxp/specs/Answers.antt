@@ -25,7 +25,8 @@ use Rattle.encoder.specs.declared.body.WriteAnswer.{WriteAnswer}
 use Rattle.encoder.specs.declared.body.WriteAnswer.the-variants as writtens
 use Rattle.decoder.specs.declared.body.ReadAnswer.{ReadAnswer}
 use Rattle.decoder.specs.declared.body.ReadAnswer.the-variants as reads
-use Rattle.txp.specs.declared.{EncodeAnswer.EncodeAnswer, DecodeAnswer.DecodeAnswer}
+use Rattle.txp.specs.declared.{EncodeAnswer.EncodeAnswer, DecodeAnswer.DecodeAnswer, HeaderAnswer.HeaderAnswer}
+use Rattle.txp.specs.declared.HeaderAnswer.the-variants as headers
 use Rattle.txp.specs.declared.EncodeAnswer.the-variants as encodeds
 use Rattle.txp.specs.declared.DecodeAnswer.the-variants as decodeds
 
@@ -67,6 +68,11 @@ abbrev pub ofDecoded : DecodeAnswer → List ℕ
 ofDecoded (decodeds.Done d) =
     says ((n, d .n) ∷ (l, d .l) ∷ (planes, d .p) ∷ (declared, d .declared) ∷ (bits, d .used) ∷ (finished, d .finished) ∷ (error, d .error) ∷ [])
 ofDecoded (decodeds.Refused why) = ofRefusal why
+
+-- the header of a file by itself
+abbrev pub ofHeader : HeaderAnswer → List ℕ
+ofHeader (headers.Done h) = says ((n, h .n) ∷ (l, h .l) ∷ (planes, h .p) ∷ (declared, h .declared) ∷ [])
+ofHeader (headers.Refused why) = ofRefusal why
 
 -- the body's
 abbrev pub ofWorst : WorstAnswer → List ℕ

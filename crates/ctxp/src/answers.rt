@@ -4,7 +4,7 @@ use refusals::Refusal;
 ghost use mathlib.Core.Path.{_≡_};
 ghost use Rattle.refusals.specs.declared.Refusal.the-variants.{Coefficient};
 ghost use Rattle.bits.specs.Bits.{digit};
-ghost use Rattle.ctxp.specs.Answers.{ofRefusal, ofValue, ofPlanes, ofOutcome, ofEncoded, ofDecoded, ofWorst, ofWritten, ofRead, ofFigures, ofLinear, ofRaster, ofParted, ofNext, Answers};
+ghost use Rattle.ctxp.specs.Answers.{ofRefusal, ofValue, ofPlanes, ofOutcome, ofEncoded, ofDecoded, ofHeader, ofWorst, ofWritten, ofRead, ofFigures, ofLinear, ofRaster, ofParted, ofNext, Answers};
 ghost use Rattle.ctxp.specs.Inner.{nothing, entries, Short};
 
 // The numbers that a call answers, in the order of the header's `txp_answer`. Those that it does not speak of are 0.
@@ -143,6 +143,27 @@ pub(crate) fn of_decoded(d: txp::DecodeAnswer) -> Answer
             a
         }
         txp::DecodeAnswer::Refused(why) => refused(why),
+    }
+}
+
+// The header of a file by itself.
+pub(crate) fn of_header(h: txp::HeaderAnswer) -> Answer
+    ensures { λ r. ⌜ entries r ≡ ofHeader h ⌝ }
+{
+    match h {
+        txp::HeaderAnswer::Done(said) => {
+            let mut a = nothing();
+            let n = said.n;
+            let l = said.l;
+            let planes = said.p;
+            let declared = said.declared;
+            a.n = n;
+            a.l = l;
+            a.planes = planes;
+            a.declared = declared;
+            a
+        }
+        txp::HeaderAnswer::Refused(why) => refused(why),
     }
 }
 

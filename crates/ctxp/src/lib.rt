@@ -18,7 +18,9 @@ ghost use Rattle.figures.specs.Figures.{figuresOf, figuresChecks, answered};
 ghost use Rattle.room.specs.Room as room;
 ghost use Rattle.encoder.specs.Body.{loan};
 ghost use Rattle.decoder.specs.Body.{tables};
-ghost use Rattle.ctxp.specs.Answers.{blank, ofValue, ofPlanes, ofOutcome, ofWorst, ofFigures, ofLinear, ofRaster, ofParted, ofJoined, ofFloat, ofNext, Answers};
+ghost use Rattle.txp.specs.Header.{headerOf};
+ghost use Rattle.txp.specs.Calls.{headerChecks, headerAnswer};
+ghost use Rattle.ctxp.specs.Answers.{blank, ofValue, ofPlanes, ofOutcome, ofHeader, ofWorst, ofFigures, ofLinear, ofRaster, ofParted, ofJoined, ofFloat, ofNext, Answers};
 ghost use Rattle.ctxp.specs.Lent.{asBool, signedOf, joinedIn, floatIn, FileEncoded, BodyEncoded, FileDecoded, BodyDecoded};
 
 // ---- the file
@@ -55,6 +57,15 @@ pub extern "C" fn txp_decode(
 {
     let done = txp::decode(file, values, precisions, marks);
     put(answer, answers::of_decoded(done))
+}
+
+// What the header of a file says.
+#[no_mangle]
+pub extern "C" fn txp_header(file: &[u8], answer: &mut [u32; 15]) -> u32
+    ensures { λ r. ⌜ Answers r (now (answer .exit)) (ofHeader (headerAnswer (firstOf (headerChecks (now (file .entry)))) (headerOf (now (file .entry))))) ⌝ }
+{
+    let done = txp::read_header(file);
+    put(answer, answers::of_header(done))
 }
 
 // ---- the body
@@ -313,12 +324,22 @@ pub extern "C" fn txp_side_fits(n: u32, answer: &mut [u32; 15]) -> u32
     put(answer, answers::of_bool(done))
 }
 
-// Whether L is in range for this N: 1 or 0.
+// Whether N and L are in range.
+fn sizes_fit(n: u32, l: u32) -> bool
+    ensures { λ r. ⌜ r ≡ (sideFits n && levelsFit n l) ⌝ }
+{
+    if sizes::side_fits(n) {
+        return sizes::levels_fit(n, l);
+    }
+    false
+}
+
+// Whether N and L are in range: 1 or 0.
 #[no_mangle]
 pub extern "C" fn txp_levels_fit(n: u32, l: u32, answer: &mut [u32; 15]) -> u32
-    ensures { λ r. ⌜ Answers r (now (answer .exit)) (ofValue (digit (levelsFit n l))) ⌝ }
+    ensures { λ r. ⌜ Answers r (now (answer .exit)) (ofValue (digit (sideFits n && levelsFit n l))) ⌝ }
 {
-    let done = sizes::levels_fit(n, l);
+    let done = sizes_fit(n, l);
     put(answer, answers::of_bool(done))
 }
 

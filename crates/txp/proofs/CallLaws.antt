@@ -1,6 +1,6 @@
 -- What the checks of a call say where they are passed, and what the call then leaves.
 use mathlib.Core.Path.{_≡_, refl, sym, ap, subst, _∙_}
-use mathlib.Core.Bool.{Bool}
+use mathlib.Core.Bool.{Bool, true}
 use mathlib.Core.List.{List, [], _++_, append-assoc}
 use Prim.Native.Nat.{ℕ, _+_, _-_, _≤_, _<_}
 use native.Mathlib.Omega.{arith}
@@ -12,7 +12,7 @@ use Rattle.refusals.specs.declared.Refusal.{Refusal}
 use Rattle.refusals.specs.declared.Outcome.{Outcome}
 use Rattle.refusals.specs.declared.Outcome.the-variants.{Done, Refused}
 use Rattle.refusals.proofs.Laws.{AllHold, passed, all-pass}
-use Rattle.sizes.specs.Sizes.{allOf, mostPlanes, Sized}
+use Rattle.sizes.specs.Sizes.{allOf, sideFits, mostPlanes, Sized}
 use Rattle.sizes.proofs.Laws.{side-most, sized}
 use Rattle.bits.specs.Bits.{bytesFor, packed}
 use Rattle.coef.specs.Coef.{planesOf}
@@ -34,7 +34,7 @@ use Rattle.txp.specs.declared.EncodeAnswer.the-variants as encode
 use Rattle.txp.specs.declared.DecodeAnswer.the-variants as decode
 use Rattle.txp.specs.Header.{headerSize, headerBytes, headerOf, bodyOf}
 use Rattle.txp.specs.File.{headerFor, fileOf, usableBits}
-use Rattle.txp.specs.Calls.{encodeAnswer, encodeOutcome, Encodes, roomIn, decodeChecks, decodeAnswer, DecodesTo}
+use Rattle.txp.specs.Calls.{encodeAnswer, encodeOutcome, Encodes, roomIn, headerChecks, decodeChecks, decodeAnswer, DecodesTo}
 use Rattle.txp.specs.Under.{withHeader}
 use Rattle.txp.proofs.Headers.{header-length, letters-room}
 
@@ -110,6 +110,11 @@ with-verdict : (h : Header) (u : List Bool) (v : Verdict) → withHeader h (cutB
 with-verdict h u taken = refl
 with-verdict h u (contradiction bit) = refl
 with-verdict h u (beyond bit) = refl
+
+-- where the checks of the header hold, there is a header, and its side is in range
+pub header-passed : (file : List ℕ) → firstOf (headerChecks file) ≡ Done → (headerSize ≤ length file) × (sideFits (headerOf file .n) ≡ true)
+unfolding AllHold
+header-passed file e = let p = passed (headerChecks file) e in (letters-room file (p .0), p .1 .1 .0)
 
 -- where the checks of decoding hold, the sizes are in range
 pub in-range : (file : List ℕ) (values precisions marks : ℕ) → firstOf (decodeChecks file values precisions marks) ≡ Done → Sized (headerOf file .n) (headerOf file .l)

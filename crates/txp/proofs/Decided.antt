@@ -8,7 +8,7 @@ use denote.Ref.{now}
 use Rattle.refusals.specs.Checks.{firstOf}
 use Rattle.refusals.specs.declared.Outcome.{Outcome}
 use Rattle.refusals.specs.declared.Outcome.the-variants.{Done, Refused}
-use Rattle.refusals.proofs.Decided.{OneOutcome}
+use Rattle.refusals.proofs.Decided.{OneAnswer, OneOutcome}
 use Rattle.sizes.specs.Sizes.{Sized}
 use Rattle.nls.specs.Judging.{Verdict}
 use Rattle.nls.proofs.Verdicts.{judged-only}
@@ -21,11 +21,15 @@ use Rattle.txp.specs.File.{usableBits}
 use Rattle.txp.specs.Calls.{decodeChecks, decodeAnswer, DecodedFile, DecodesTo}
 use Rattle.txp.proofs.CallLaws.{in-range}
 use Rattle.txp.proofs.encode.Reads as encode
+use Rattle.txp.proofs.read_header.Reads as read-header
 use Rattle.txp.proofs.decode.Reads as decode
 
 -- DESC, GRAND, the marks and the output are the fourth to the seventh parameter
 pub encode-decided : OneOutcome {Lent = Loan} encode.Learnt (λ k s. loan (now (s .1 .1 .1 .0)) (now (s .1 .1 .1 .1 .0)) (now (s .1 .1 .1 .1 .1 .0)) (now (s .1 .1 .1 .1 .1 .1 .0)))
 encode-decided k args r r' s s' p q = (p .answered ∙ sym (q .answered), p .filled ∙ sym (q .filled))
+
+pub read-header-decided : OneAnswer read-header.Learnt
+read-header-decided k args r r' s s' p q = p ∙ sym q
 
 -- a file's header and usable bits decide the rest, where its sizes are in range: there is one verdict on the bits
 module _ (h : Header) (u : List Bool) (held : Tables) (r r' : DecodeAnswer) (left left' : Tables) where

@@ -2,7 +2,7 @@
 use Prim.Native.Nat.{ℕ, _+_, _-_, _/_, _%_, _^_}
 use mathlib.Core.Path.{_≡_}
 use mathlib.Core.Bool.{Bool, true, _&&_, cond}
-use mathlib.Core.List.{List, [], _∷_}
+use mathlib.Core.List.{List, [], _∷_, _++_}
 use lib.Dec.{leb, eqb}
 use lib.IntN.{ℤ}
 use lib.ListN.{length, getD}
@@ -10,14 +10,16 @@ use Rattle.refusals.specs.declared.Refusal.the-variants as refusal
 use Rattle.refusals.specs.declared.Outcome.{Outcome}
 use Rattle.refusals.specs.declared.Outcome.the-variants as outcome
 use Rattle.refusals.specs.Checks.{Check, need, firstOf}
-use Rattle.sizes.specs.Sizes.{allOf, sideFits, levelsFit, mostPlanes}
+use Rattle.sizes.specs.Sizes.{allOf}
 use Rattle.bits.specs.Bits.{bytesFor}
 use Rattle.coef.specs.Coef.{planesOf}
 use Rattle.nls.specs.Reading.{planesFinished, worstError}
 use Rattle.nls.specs.Judging.{Verdict, taken, contradiction, beyond, Judged}
+use Rattle.room.specs.Room.{worstChecks}
 use Rattle.encoder.specs.Body.{sentBits, Loan, writeOutcome, lentTo}
 use Rattle.decoder.specs.Body.{Tables, ownTables, over}
-use Rattle.txp.specs.declared.Header.{Header}
+use Rattle.txp.specs.declared.{Header.Header, HeaderAnswer.HeaderAnswer}
+use Rattle.txp.specs.declared.HeaderAnswer.the-variants as header
 use Rattle.txp.specs.declared.EncodeAnswer.{EncodeAnswer}
 use Rattle.txp.specs.declared.EncodeAnswer.the-variants as encode
 use Rattle.txp.specs.declared.DecodeAnswer.{DecodeAnswer}
@@ -52,21 +54,27 @@ paddingFits declared body =
 unfoldable pub roomIn : ℕ → ℕ → ℕ → ℕ → Bool
 roomIn all values precisions marks = leb all values && (leb all precisions && leb all marks)
 
--- by the header, the body, and the lengths of the lent values, precisions and marks: 1, 2, 9, 10, 11, 5
-abbrev pub restChecks : Header → List ℕ → ℕ → ℕ → ℕ → List Check
-restChecks h body values precisions marks =
-    need (sideFits (h .n)) refusal.Side
-    ∷ need (levelsFit (h .n) (h .l)) refusal.Levels
-    ∷ need (leb (h .p) mostPlanes) refusal.Planes
-    ∷ need (leb (length body) (bytesFor (h .declared))) refusal.Surplus
+-- those that the header decides: 7, 8, 1, 2, 9
+abbrev pub headerChecks : List ℕ → List Check
+headerChecks file =
+    need (lettersFit file) refusal.Letters ∷ need (versionFits file) refusal.Version
+    ∷ worstChecks (headerOf file .n) (headerOf file .l) (headerOf file .p)
+
+-- by the header, the body, and the lengths of the lent values, precisions and marks: 10, 11, 5
+abbrev pub bodyChecks : Header → List ℕ → ℕ → ℕ → ℕ → List Check
+bodyChecks h body values precisions marks =
+    need (leb (length body) (bytesFor (h .declared))) refusal.Surplus
     ∷ need (paddingFits (h .declared) body) refusal.Padding
     ∷ need (roomIn (allOf (h .n)) values precisions marks) refusal.Lent
     ∷ []
 
 abbrev pub decodeChecks : List ℕ → ℕ → ℕ → ℕ → List Check
-decodeChecks file values precisions marks =
-    need (lettersFit file) refusal.Letters ∷ need (versionFits file) refusal.Version
-    ∷ restChecks (headerOf file) (bodyOf file) values precisions marks
+decodeChecks file values precisions marks = headerChecks file ++ bodyChecks (headerOf file) (bodyOf file) values precisions marks
+
+-- what a call on the header alone answers
+abbrev pub headerAnswer : Outcome → Header → HeaderAnswer
+headerAnswer outcome.Done h = header.Done h
+headerAnswer (outcome.Refused why) h = header.Refused why
 
 -- by the header, the usable bits and the verdict on them
 abbrev pub decodeAnswer : Header → List Bool → Verdict → DecodeAnswer

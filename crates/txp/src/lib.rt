@@ -2,15 +2,17 @@
 use refusals::Outcome;
 use refusals::Refusal;
 ghost use mathlib.Core.Path.{_≡_};
+ghost use mathlib.Core.Bool.{true};
 ghost use mathlib.Core.List.{_++_};
 ghost use Prim.Native.Nat.{_<_, _≤_};
 ghost use lib.ListN.{length, getD, set, drop};
 ghost use lib.Seq.{sets};
 ghost use Rattle.refusals.specs.Checks.{firstOf};
+ghost use Rattle.sizes.specs.Sizes.{sideFits};
 ghost use Rattle.bits.specs.Bits.{bytesFor};
 ghost use Rattle.encoder.specs.Body.{loan};
 ghost use Rattle.decoder.specs.Body.{tables};
-ghost use Rattle.txp.specs.Calls.{Encodes, paddingFits, roomIn, restChecks, decodeChecks, Decodes};
+ghost use Rattle.txp.specs.Calls.{Encodes, paddingFits, roomIn, headerChecks, bodyChecks, headerAnswer, decodeChecks, Decodes};
 ghost use Rattle.txp.specs.Under.{withHeader};
 ghost use Rattle.txp.specs.Header.{bodyOf, headerSize, headerBytes, twoAt, twoBytes, lettersFit, versionFits, headerOf};
 
@@ -23,6 +25,12 @@ pub struct Header {
     pub l: u32,
     pub p: u32,
     pub declared: u32,
+}
+
+// What `read_header` answers.
+pub enum HeaderAnswer {
+    Done(Header),
+    Refused(Refusal),
 }
 
 // The planes of the array, the bits written, and the bytes of the file.
@@ -183,20 +191,36 @@ fn room_in(all: usize, values: usize, precisions: usize, marks: usize) -> bool
     all <= marks
 }
 
-// The checks behind letters and version, in their order: 1, 2, 9, 10, 11, 5.
-fn check_rest(h: Header, file: &[u8], values: usize, precisions: usize, marks: usize) -> Outcome
-    requires { ⌜ headerSize ≤ length (now file) ⌝ }
-    ensures { λ r. ⌜ r ≡ firstOf (restChecks h (bodyOf (now (file .entry))) values precisions marks) ⌝ }
+// The checks that the header decides, in their order: 7, 8, 1, 2, 9.
+fn check_header(file: &[u8]) -> Outcome
+    ensures { λ r. ⌜ r ≡ firstOf (headerChecks (now (file .entry))) ⌝ }
 {
-    if !sizes::side_fits(h.n) {
-        return Outcome::Refused(Refusal::Side);
+    if !letters_fit(file) {
+        return Outcome::Refused(Refusal::Letters);
     }
-    if !sizes::levels_fit(h.n, h.l) {
-        return Outcome::Refused(Refusal::Levels);
+    if !version_fits(file) {
+        return Outcome::Refused(Refusal::Version);
     }
-    if sizes::MOST_PLANES < h.p {
-        return Outcome::Refused(Refusal::Planes);
+    let h = header_of(file);
+    room::check_worst(h.n, h.l, h.p)
+}
+
+// What the header says. It reads the first 12 bytes alone, so that a caller can learn N before it lends any table.
+pub fn read_header(file: &[u8]) -> HeaderAnswer
+    ensures { λ r. ⌜ r ≡ headerAnswer (firstOf (headerChecks (now (file .entry)))) (headerOf (now (file .entry))) ⌝ }
+{
+    let checked = check_header(file);
+    match checked {
+        Outcome::Done => HeaderAnswer::Done(header_of(file)),
+        Outcome::Refused(why) => HeaderAnswer::Refused(why),
     }
+}
+
+// The checks behind those of the header, in their order: 10, 11, 5.
+fn check_body(h: Header, file: &[u8], values: usize, precisions: usize, marks: usize) -> Outcome
+    requires { ⌜ (headerSize ≤ length (now file)) × (sideFits (h .n) ≡ true) ⌝ }
+    ensures { λ r. ⌜ r ≡ firstOf (bodyChecks h (bodyOf (now (file .entry))) values precisions marks) ⌝ }
+{
     if bytes_for(h.declared) < file.len() - HEADER_SIZE {
         return Outcome::Refused(Refusal::Surplus);
     }
@@ -213,14 +237,11 @@ fn check_rest(h: Header, file: &[u8], values: usize, precisions: usize, marks: u
 fn check_decode(file: &[u8], values: usize, precisions: usize, marks: usize) -> Outcome
     ensures { λ r. ⌜ r ≡ firstOf (decodeChecks (now (file .entry)) values precisions marks) ⌝ }
 {
-    if !letters_fit(file) {
-        return Outcome::Refused(Refusal::Letters);
+    let checked = check_header(file);
+    match checked {
+        Outcome::Done => check_body(header_of(file), file, values, precisions, marks),
+        Outcome::Refused(why) => Outcome::Refused(why),
     }
-    if !version_fits(file) {
-        return Outcome::Refused(Refusal::Version);
-    }
-    let h = header_of(file);
-    check_rest(h, file, values, precisions, marks)
 }
 
 // Writes the file of a linear array of coefficients, with at most `budget` bits in its body.

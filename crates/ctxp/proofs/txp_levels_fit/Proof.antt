@@ -7,8 +7,8 @@ use Rattle.ctxp.proofs.Laws.{answers-by}
 use Rattle.ctxp.proofs.txp_levels_fit.Statement.{statement}
 use Rattle.ctxp.proofs.txp_levels_fit.Tie as tie
 
-levels-fit-requires : tie.Need-levels-fit-requires
-levels-fit-requires c κs = search needs
+sizes-fit-requires : tie.Need-sizes-fit-requires
+sizes-fit-requires c κs = search needs
 
 of-bool-requires : tie.Need-of-bool-requires
 of-bool-requires c κs = search needs
@@ -17,8 +17,8 @@ put-requires : tie.Need-put-requires
 put-requires c κs = search needs
 
 returns : tie.Need-returns
-returns c = answers-by (c .put .result) _ (c .before .of-bool .ensures ∙ ap (λ (t : Bool). ofValue (digit t)) (c .before .before .before .levels-fit .ensures)) (c .put .ensures)
+returns c = answers-by (c .put .result) _ (c .before .of-bool .ensures ∙ ap (λ (t : Bool). ofValue (digit t)) (c .before .before .before .sizes-fit .ensures)) (c .put .ensures)
 
 pub txp-levels-fit-spec : {M : Type 1} → statement M
 txp-levels-fit-spec =
-    tie.close (tie.spec levels-fit-requires of-bool-requires put-requires returns)
+    tie.close (tie.spec sizes-fit-requires of-bool-requires put-requires returns)
