@@ -130,11 +130,6 @@ pub empty : (N L : ℕ) (A : List ℤ) → stream N L 0 A ≡ []
 unfolding stream answers
 empty N L A = let e : 4 * allOf N * 0 ≡ 0 = omega arith in ap (λ (n : ℕ). answers N L A n (begin N L 0)) e
 
--- the worst body of at least one plane
-pub worst-some : (N L P : ℕ) → 1 ≤ P → worstBody N L P ≡ allOf N * (P + 1) + (allOf N - coarsestOf N L) / 4 + (allOf N - 4 * coarsestOf N L) / 16
-unfolding worstBody
-worst-some N L P h = rw (ne-eqb P 0 (λ e. omega (arith, e, h)))
-
 -- the bits of planes n - 1 to 0 of the magnitudes
 body-sum : (z : Size) (A : Arr) (n : ℕ) → length (body z (A .mag) (A .neg) n) ≡ sumTo n (λ b. length (plane z (A .mag) (A .neg) b))
 unfolding body sumTo
@@ -160,27 +155,32 @@ flat-planes N P h =
           (order P R);
     }
 
+module _ (N L P : ℕ) (s : Sized N L) (A : List ℤ) where
+  -- parts that stand after each plane, sets split in the end and coefficients that are not zero, in the words of Counting
+  counted-is : sumTo P (λ b. parts N L A b) + splits N L A 0 + nonzeros N L A
+      ≡ sum 0 P (λ b. counting.parts (sizeOf N L s) (mags A) b) + counting.splits (sizeOf N L s) (mags A) 0 + counted.nonzeros (sizeOf N L s) (mags A)
+  counted-is =
+      omega (
+        arith,
+        sum-to P (λ b. parts N L A b),
+        sum-cong 0 P (λ b. parts N L A b) (λ b. counting.parts (sizeOf N L s) (mags A) b) (λ b p q. parts-is N L s A b),
+        splits-is N L s A 0,
+        nonzeros-is N L s A,
+      )
+
+  -- they number no more than the worst body of at least one plane
+  pub bound : 1 ≤ P → sumTo P (λ b. parts N L A b) + splits N L A 0 + nonzeros N L A ≤ worstBody N L P
+  unfolding worstBody
+  bound h =
+      rw (ne-eqb P 0 (λ e. omega (arith, e, h)))
+      (omega (arith, counted-is, counted.counted-bound (sizeOf N L s) (mags A) P, counted.worst-is N L P (s .least) (s .most)))
+
+-- the worst body of at least one plane
+pub worst-some : (N L P : ℕ) → 1 ≤ P → worstBody N L P ≡ allOf N * (P + 1) + (allOf N - coarsestOf N L) / 4 + (allOf N - 4 * coarsestOf N L) / 16
+unfolding worstBody
+worst-some N L P h = rw (ne-eqb P 0 (λ e. omega (arith, e, h)))
+
 module _ (N L P : ℕ) (s : Sized N L) where
-  module _ (A : List ℤ) where
-    -- parts that stand after each plane, sets split in the end and coefficients that are not zero, in the words of Counting
-    counted-is : sumTo P (λ b. parts N L A b) + splits N L A 0 + nonzeros N L A
-        ≡ sum 0 P (λ b. counting.parts (sizeOf N L s) (mags A) b) + counting.splits (sizeOf N L s) (mags A) 0 + counted.nonzeros (sizeOf N L s) (mags A)
-    counted-is =
-        omega (
-          arith,
-          sum-to P (λ b. parts N L A b),
-          sum-cong 0 P (λ b. parts N L A b) (λ b. counting.parts (sizeOf N L s) (mags A) b) (λ b p q. parts-is N L s A b),
-          splits-is N L s A 0,
-          nonzeros-is N L s A,
-        )
-
-    -- they number no more than the worst body of at least one plane
-    pub bound : 1 ≤ P → sumTo P (λ b. parts N L A b) + splits N L A 0 + nonzeros N L A ≤ worstBody N L P
-    unfolding worstBody
-    bound h =
-        rw (ne-eqb P 0 (λ e. omega (arith, e, h)))
-        (omega (arith, counted-is, counted.counted-bound (sizeOf N L s) (mags A) P, counted.worst-is N L P (s .least) (s .most)))
-
   module _ (A : List ℤ) (planes : IsPlanes A P) where
     small : (i : ℕ) → i < 4 ^ N → magAt A i < 2 ^ P
     small i p = planes .below i
@@ -192,7 +192,7 @@ module _ (N L P : ℕ) (s : Sized N L) where
           arith,
           ap (λ (u : List Bool). length u) (stream-same N L s A P),
           joined.count N L (s .least) (s .most) P (arrOf A) small,
-          counted-is A,
+          counted-is N L P s A,
         )
 
     -- and are no more than the worst body
@@ -201,7 +201,7 @@ module _ (N L P : ℕ) (s : Sized N L) where
       where
         tell : (n : ℕ) → P ≡ n → length (stream N L P A) ≤ worstBody N L P
         tell zero e = rw e (rw (empty N L A) (omega arith))
-        tell (suc n) e = omega (arith, count, bound A (omega (arith, e)))
+        tell (suc n) e = omega (arith, count, bound N L P s A (omega (arith, e)))
 
     -- what is taken in plane b
     taken : (b : ℕ) → during N b (begin N L P) (stream N L P A) ≡ during N b (begin N L P) (whole N L P (arrOf A))
