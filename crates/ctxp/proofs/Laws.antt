@@ -32,13 +32,13 @@ pub answers-by : (r : ℕ) (held : List ℕ) {a b : List ℕ} → a ≡ b → An
 answers-by r held {a} {b} e p = subst (λ (x : List ℕ). Answers r held x) e p
 
 -- a file's bytes fit 32 bits, as its budget does
-module _ (N L : ℕ) (A : List ℤ) (budget : ℕ) (held left : Loan) {r : EncodeAnswer} where
+module _ (N L : ℕ) (A : List ℤ) (budget : ℕ) where
   short-by : budget < 2 ^ 32 → (o : Outcome) → Short (encodeAnswer N L A budget o)
   short-by h Done = omega (arith, sent-most N L A budget)
   short-by h (Refused why) = tt
 
-  pub file-short : budget < 2 ^ 32 → Encodes N L A budget held r left → Short r
-  file-short h e = subst (λ (x : EncodeAnswer). Short x) (sym (e .answered)) (short-by h (encodeOutcome N L A budget held))
+  pub file-short : (held left : Loan) (r : EncodeAnswer) → budget < 2 ^ 32 → Encodes N L A budget held r left → Short r
+  file-short held left r h e = subst (λ (x : EncodeAnswer). Short x) (sym (e .answered)) (short-by h (encodeOutcome N L A budget held))
 
 figures-end : (o : Outcome) (f : Figures) → outcomeOf (answered o f) ≡ o
 figures-end Done f = refl

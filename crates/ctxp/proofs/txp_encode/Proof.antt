@@ -12,7 +12,7 @@ of-encoded-requires c κs =
     let a = c .before .before .before .before .before .before .before .before .before .before .before .before .before .before .before .before .before .before .args in
     let e = c .before .before .before .before .before .before .before .before .before .encode in
     file-short (a .n) (a .l) (a .coefs .now) (a .budget) (loan (a .desc .now) (a .grand .now) (a .marks .now) (a .out .now))
-    (loan (e .last .1 .1 .1 .0) (e .last .1 .1 .1 .1 .0) (e .last .1 .1 .1 .1 .1 .0) (e .last .1 .1 .1 .1 .1 .1 .0)) (c .before .before .before .before .before .before .before .before .before .before .before .before .before .before .before .before .before .before .fits .budget .fits) (e .ensures)
+    (loan (e .last .1 .1 .1 .0) (e .last .1 .1 .1 .1 .0) (e .last .1 .1 .1 .1 .1 .0) (e .last .1 .1 .1 .1 .1 .1 .0)) (e .result) (c .before .before .before .before .before .before .before .before .before .before .before .before .before .before .before .before .before .before .fits .budget .fits) (e .ensures)
 
 put-requires : tie.Need-put-requires
 put-requires c κs = search needs

@@ -24,7 +24,7 @@ returns : tie.Need-returns
 returns c = rw (c .nothing .ensures) (sym (ap ofNext (c .before .before .x .given .1)))
 
 returns-2 : tie.Need-returns-2
-returns-2 c = ap entries (c .nothing2 .ensures) ∙ sym (ap ofNext (c .before .before .enum-told .given .1))
+returns-2 c = ap entries (c .nothing2 .ensures) ∙ sym (ap ofNext (c .before .enum-told .given .1))
 
 pub of-next-spec : {M : Type 1} → statement M
 of-next-spec =

@@ -18,7 +18,7 @@ refused-requires : tie.Need-refused-requires
 refused-requires c κs = search needs
 
 returns : tie.Need-returns
-returns c = ap entries (c .nothing .ensures) ∙ sym (ap ofOutcome (c .before .before .enum-told .given .1))
+returns c = ap entries (c .nothing .ensures) ∙ sym (ap ofOutcome (c .before .enum-told .given .1))
 
 returns-2 : tie.Need-returns-2
 returns-2 c = c .refused .ensures ∙ sym (ap ofOutcome (c .before .before .o .given .1))

@@ -1,4 +1,4 @@
-use mathlib.Core.Path.{sym, ap}
+use mathlib.Core.Path.{sym, ap, _∙_}
 use borrow.Author.Needs.{needs}
 use Rattle.ctxp.specs.Answers.{ofParted}
 use Rattle.ctxp.proofs.answers.of_parted.Statement.{statement}
@@ -23,7 +23,7 @@ returns : tie.Need-returns
 returns c = rw (c .before .nothing .ensures) (sym (ap ofParted (c .before .before .before .p .given .1)))
 
 returns-2 : tie.Need-returns-2
-returns-2 c = search needs
+returns-2 c = c .too-large .ensures ∙ sym (ap ofParted (c .before .enum-told .given .1))
 
 pub of-parted-spec : {M : Type 1} → statement M
 of-parted-spec =
