@@ -3,5 +3,6 @@ pub mod Levels
 pub mod Standing
 pub mod Counted
 pub mod Checks
+pub mod All
 pub mod Laws
 pub mod Decided
