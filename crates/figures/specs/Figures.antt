@@ -1,10 +1,10 @@
--- The figures of one plane, from the values alone, and the checks of the call that counts them:
--- those of the summaries, and after them number 9 for a plane that no array has.
-use Prim.Native.Nat.{ℕ, _+_}
+-- The figures of one plane and of all planes, from the values alone, and the checks of the calls that count them: those of
+-- the summaries, and after them number 9 for a plane that no array has, or number 5 for an output too short for all planes.
+use Prim.Native.Nat.{ℕ, zero, suc, _+_, _*_}
 use mathlib.Core.List.{List, [], _∷_, _++_}
-use lib.Dec.{ltb}
+use lib.Dec.{ltb, leb}
 use lib.IntN.{ℤ}
-use Rattle.refusals.specs.declared.Refusal.the-variants.{Planes}
+use Rattle.refusals.specs.declared.Refusal.the-variants.{Planes, Lent}
 use Rattle.refusals.specs.declared.Outcome.{Outcome}
 use Rattle.refusals.specs.declared.Outcome.the-variants as outcome
 use Rattle.refusals.specs.Checks.{Check, need}
@@ -29,6 +29,21 @@ figuresOf N L A b =
 -- the values, the lengths of the two lent tables, and the plane
 abbrev pub figuresChecks : ℕ → ℕ → List ℤ → ℕ → ℕ → ℕ → List Check
 figuresChecks N L A descs grands b = summaryChecks N L A descs grands ++ (need (ltb b mostPlanes) Planes ∷ [])
+
+-- all planes: the four numbers of each, in the order of the record, plane after plane from 0 on
+abbrev pub numbersOf : Figures → List ℕ
+numbersOf f = f .parts ∷ f .splits ∷ f .bits ∷ f .found ∷ []
+
+unfoldable pub figuresBelow : ℕ → ℕ → List ℤ → ℕ → List ℕ
+figuresBelow N L A zero = []
+figuresBelow N L A (suc b) = figuresBelow N L A b ++ numbersOf (figuresOf N L A b)
+
+abbrev pub allFigures : ℕ → ℕ → List ℤ → List ℕ
+allFigures N L A = figuresBelow N L A mostPlanes
+
+-- the values, and the lengths of the two lent tables and of the output
+abbrev pub allFiguresChecks : ℕ → ℕ → List ℤ → ℕ → ℕ → ℕ → List Check
+allFiguresChecks N L A descs grands outs = summaryChecks N L A descs grands ++ (need (leb (4 * mostPlanes) outs) Lent ∷ [])
 
 -- what is answered where the checks come to an outcome, and the outcome of an answer
 abbrev pub answered : Outcome → Figures → FiguresAnswer

@@ -1,18 +1,22 @@
-// The figures of one plane, from the values alone: the parts that stand after it, the sets split in it, the coefficients found in it, and the bits that these make.
+// The figures of one plane and of all planes, from the values alone: the parts that stand after a plane, the sets split in it, the coefficients found in it, and the bits that these make.
 use refusals::Outcome;
 use refusals::Refusal;
 use sizes::MOST_PLANES;
-ghost use Prim.Native.Nat.{_/_, _<_, _≤_, _^_};
+ghost use Prim.Native.Nat.{ℕ, _+_, _*_, _/_, _<_, _≤_, _^_};
 ghost use mathlib.Core.Path.{_≡_};
-ghost use lib.ListN.{length, getD};
+ghost use lib.ListN.{length, getD, set};
 ghost use Rattle.refusals.specs.Checks.{firstOf, lentAfter};
+ghost use Rattle.refusals.specs.declared.Outcome.the-variants as outcome;
 ghost use Rattle.sizes.specs.Sizes.{allOf, mostN, mostPlanes};
 ghost use Rattle.bits.specs.Bits.{digit};
 ghost use Rattle.coef.specs.Coef.{magAt};
 ghost use Rattle.tree.specs.Summaries.{descTable, grandTable};
 ghost use Rattle.nls.specs.Parts.{sumTo, countTo};
-ghost use Rattle.figures.specs.Figures.{figuresOf, figuresChecks, answered, outcomeOf};
+ghost use Rattle.figures.specs.Figures.{figuresOf, figuresChecks, answered, outcomeOf, allFigures, allFiguresChecks};
 ghost use Rattle.figures.specs.Tables.{atLevel, openBy, membersBy, descBy, grandBy, partsBy, Filled};
+
+// Four numbers for each plane.
+const ALL_FIGURES: usize = 96;
 
 pub struct Figures {
     pub parts: u32,
@@ -231,5 +235,76 @@ pub fn figures_of(
             FiguresAnswer::Done(figures)
         }
         Outcome::Refused(why) => FiguresAnswer::Refused(why),
+    }
+}
+
+// The checks of the summaries, and after them refusal 5 for the output.
+fn check_all(n: u32, l: u32, values: &[i32], descs: usize, grands: usize, outs: usize) -> Outcome
+    ensures { λ r. ⌜ r ≡ firstOf (allFiguresChecks n l (now (values .entry)) descs grands outs) ⌝ }
+{
+    let checked = tree::check(n, l, values, descs, grands);
+    match checked {
+        Outcome::Done => {
+            if outs < ALL_FIGURES {
+                return Outcome::Refused(Refusal::Lent);
+            }
+            Outcome::Done
+        }
+        Outcome::Refused(why) => Outcome::Refused(why),
+    }
+}
+
+// The four numbers of a plane, from `first` on.
+fn put_numbers(out: &mut [u32], first: usize, figures: Figures)
+    requires { ⌜ first + 3 < length (now out) ⌝ }
+    ensures { λ r. ⌜ now (out .exit) ≡ set (set (set (set (now (out .entry)) first (figures .parts)) (first + 1) (figures .splits)) (first + 2) (figures .bits)) (first + 3) (figures .found) ⌝ }
+{
+    let parts = figures.parts;
+    let splits = figures.splits;
+    let bits = figures.bits;
+    let found = figures.found;
+    out[first] = parts;
+    out[first + 1] = splits;
+    out[first + 2] = bits;
+    out[first + 3] = found;
+}
+
+// The figures of all planes, from tables that are filled.
+fn count_all(n: u32, l: u32, values: &[i32], desc: &[u32], grand: &[u32], out: &mut [u32])
+    requires { ⌜ ((b : ℕ) → b < mostPlanes → Filled n l (now values) b (now desc) (now grand)) × (4 * mostPlanes ≤ length (now out)) ⌝ }
+    ensures { λ r. ⌜ now (out .exit) ≡ lentAfter outcome.Done (allFigures n l (now (values .entry))) (now (out .entry)) ⌝ }
+{
+    let mut plane = 0u32;
+    while plane < MOST_PLANES {
+        let figures = count(n, l, values, plane, desc, grand);
+        put_numbers(out, (4 * plane) as usize, figures);
+        plane += 1;
+    }
+}
+
+// The figures of all planes. Fills DESC and GRAND once on the way, and the first 96 entries of the output: parts, splits, bits and found of plane 0, then those of plane 1, and so on.
+pub fn figures_of_all(
+    n: u32,
+    l: u32,
+    values: &[i32],
+    desc: &mut [u32],
+    grand: &mut [u32],
+    out: &mut [u32],
+) -> Outcome
+    ensures answer { λ r. ⌜ r ≡ firstOf (allFiguresChecks n l (now (values .entry)) (length (now (desc .entry))) (length (now (grand .entry))) (length (now (out .entry)))) ⌝ }
+    ensures descs { λ r. ⌜ now (desc .exit) ≡ lentAfter r (descTable n l (now (values .entry))) (now (desc .entry)) ⌝ }
+    ensures grands { λ r. ⌜ now (grand .exit) ≡ lentAfter r (grandTable n l (now (values .entry))) (now (grand .entry)) ⌝ }
+    ensures outs { λ r. ⌜ now (out .exit) ≡ lentAfter r (allFigures n l (now (values .entry))) (now (out .entry)) ⌝ }
+{
+    let checked = check_all(n, l, values, desc.len(), grand.len(), out.len());
+    match checked {
+        Outcome::Done => {
+            tree::summaries(n, l, values, desc, grand);
+            let descs = values.len() / 4;
+            let grands = values.len() / 16;
+            count_all(n, l, values, &desc[..descs], &grand[..grands], out);
+            checked
+        }
+        Outcome::Refused(_) => checked,
     }
 }
