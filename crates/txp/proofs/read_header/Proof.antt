@@ -1,5 +1,6 @@
 use mathlib.Core.Path.{sym, ap, _∙_}
 use borrow.Author.Needs.{needs}
+use Rattle.txp.specs.declared.HeaderAnswer.the-variants.{Done}
 use Rattle.txp.proofs.read_header.Statement.{statement}
 use Rattle.txp.proofs.read_header.Tie as tie
 
@@ -16,10 +17,11 @@ enum-known-checked : tie.Need-enum-known-checked
 enum-known-checked c = search needs
 
 returns : tie.Need-returns
-returns c = ?
+returns c =
+    rw (sym (c .before .before .before .check-header .ensures) ∙ c .before .enum-told .given .1) (ap Done (c .header-of .ensures))
 
 returns-2 : tie.Need-returns-2
-returns-2 c = ?
+returns-2 c = rw (sym (c .before .before .before .check-header .ensures) ∙ c .before .checked .given .1)
 
 pub read-header-spec : {M : Type 1} → statement M
 read-header-spec =
