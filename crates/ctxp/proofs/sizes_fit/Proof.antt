@@ -11,10 +11,10 @@ levels-fit-requires : tie.Need-levels-fit-requires
 levels-fit-requires c κs = search needs
 
 returns : tie.Need-returns
-returns c = ?
+returns c = rw (sym (c .before .before .side-fits .ensures) ∙ c .before .if1 .taken) (c .levels-fit .ensures)
 
 returns-2 : tie.Need-returns-2
-returns-2 c = ?
+returns-2 c = rw (sym (c .before .side-fits .ensures) ∙ c .if1 .left)
 
 pub sizes-fit-spec : {M : Type 1} → statement M
 sizes-fit-spec =
