@@ -1,7 +1,9 @@
 pub mod Sums
 pub mod Levels
 pub mod Standing
+pub mod Splitting
 pub mod Counted
+pub mod Reached
 pub mod Checks
 pub mod All
 pub mod Laws

@@ -4,6 +4,7 @@ use refusals::Refusal;
 use sizes::MOST_PLANES;
 ghost use Prim.Native.Nat.{ℕ, _+_, _*_, _/_, _<_, _≤_, _^_};
 ghost use mathlib.Core.Path.{_≡_};
+ghost use lib.Dec.{leb};
 ghost use lib.ListN.{length, getD, set};
 ghost use Rattle.refusals.specs.Checks.{firstOf, lentAfter};
 ghost use Rattle.refusals.specs.declared.Outcome.the-variants as outcome;
@@ -13,7 +14,7 @@ ghost use Rattle.coef.specs.Coef.{magAt};
 ghost use Rattle.tree.specs.Summaries.{descTable, grandTable};
 ghost use Rattle.nls.specs.Parts.{sumTo, countTo};
 ghost use Rattle.figures.specs.Figures.{figuresOf, figuresChecks, answered, outcomeOf, allFigures, allFiguresChecks};
-ghost use Rattle.figures.specs.Tables.{atLevel, openBy, membersBy, descBy, grandBy, partsBy, Filled};
+ghost use Rattle.figures.specs.Tables.{atLevel, openBy, membersBy, descBy, grandBy, partsBy, Filled, reachOf, Between, figuresBetween};
 
 // Four numbers for each plane.
 const ALL_FIGURES: usize = 96;
@@ -269,15 +270,90 @@ fn put_numbers(out: &mut [u32], first: usize, figures: Figures)
     out[first + 3] = found;
 }
 
+// The entries of a table that reach the level, among the first.
+fn count_reaching(level: u32, held: &[u32], upto: usize) -> u32
+    requires { ⌜ (upto ≤ length (now held)) × (upto ≤ allOf mostN) ⌝ }
+    ensures { λ r. ⌜ r ≡ countTo upto (λ i. leb level (getD (now (held .entry)) i 0)) ⌝ }
+{
+    let mut count = 0u32;
+    let mut i = 0;
+    while i < upto {
+        let x = held[i];
+        count += digit_of(level <= x);
+        i += 1;
+    }
+    count
+}
+
+// The coefficients whose magnitude reaches the level.
+fn count_large(level: u32, values: &[i32]) -> u32
+    requires { ⌜ length (now values) ≤ allOf mostN ⌝ }
+    ensures { λ r. ⌜ r ≡ countTo (length (now (values .entry))) (λ i. leb level (magAt (now (values .entry)) i)) ⌝ }
+{
+    let mut count = 0u32;
+    let mut i = 0;
+    while i < values.len() {
+        let x = values[i];
+        count += digit_of(level <= coef::magnitude(x));
+        i += 1;
+    }
+    count
+}
+
+// How many reach a level: of DESC, of its entries that have one in GRAND, of GRAND, and of the magnitudes.
+struct Reach {
+    descs: u32,
+    inner: u32,
+    grands: u32,
+    large: u32,
+}
+
+fn reach_of(level: u32, values: &[i32], desc: &[u32], grand: &[u32]) -> Reach
+    requires { ⌜ (length (now values) ≤ allOf mostN) × (length (now desc) ≤ allOf mostN) × (length (now grand) ≤ length (now desc)) ⌝ }
+    ensures { λ r. ⌜ r ≡ reachOf level (now (values .entry)) (now (desc .entry)) (now (grand .entry)) ⌝ }
+{
+    let descs = count_reaching(level, desc, desc.len());
+    let inner = count_reaching(level, desc, grand.len());
+    let grands = count_reaching(level, grand, grand.len());
+    let large = count_large(level, values);
+    Reach {
+        descs,
+        inner,
+        grands,
+        large,
+    }
+}
+
+// The figures of a plane, from what reaches its level and what reaches twice that. Each split of an entry of DESC adds three parts, and one more where it has one in GRAND; each split of an entry of GRAND adds three.
+fn figures_between(least: u32, here: Reach, above: Reach) -> Figures
+    requires { ⌜ Between least here above ⌝ }
+    ensures { λ r. ⌜ r ≡ figuresBetween least here above ⌝ }
+{
+    let parts = least + 3 * here.descs + 3 * here.grands + here.inner;
+    let splits = here.descs + here.grands - (above.descs + above.grands);
+    let found = here.large - above.large;
+    let bits = parts + splits + found;
+    Figures {
+        parts,
+        splits,
+        bits,
+        found,
+    }
+}
+
 // The figures of all planes, from tables that are filled.
 fn count_all(n: u32, l: u32, values: &[i32], desc: &[u32], grand: &[u32], out: &mut [u32])
     requires { ⌜ ((b : ℕ) → b < mostPlanes → Filled n l (now values) b (now desc) (now grand)) × (4 * mostPlanes ≤ length (now out)) ⌝ }
     ensures { λ r. ⌜ now (out .exit) ≡ lentAfter outcome.Done (allFigures n l (now (values .entry))) (now (out .entry)) ⌝ }
 {
+    let least = (sizes::coarsest_of(n, l) / 4 * 7) as u32;
+    let mut here = reach_of(1, values, desc, grand);
     let mut plane = 0u32;
     while plane < MOST_PLANES {
-        let figures = count(n, l, values, plane, desc, grand);
+        let above = reach_of(2 * level_of(plane), values, desc, grand);
+        let figures = figures_between(least, here, above);
         put_numbers(out, (4 * plane) as usize, figures);
+        here = above;
         plane += 1;
     }
 }

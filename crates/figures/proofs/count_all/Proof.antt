@@ -1,28 +1,87 @@
 use mathlib.Core.Path.{_≡_, refl, sym, _∙_, ap}
 use mathlib.Core.List.{_++_}
-use Prim.Native.Nat.{ℕ, _+_, _*_, _-_, _≤_, _<_}
+use Prim.Native.Nat.{ℕ, suc, _+_, _*_, _-_, _/_, _^_, _≤_, _<_}
+use native.Mathlib.Nat.{pow-succ'}
+use native.Mathlib.Numerals.{add-one}
 use native.Mathlib.Omega.{arith}
 use borrow.Author.Needs.{needs}
 use lib.ListN.{length, drop}
-use Rattle.sizes.specs.Sizes.{mostPlanes}
-use Rattle.figures.specs.Figures.{figuresBelow}
+use lib.Pow.{pow-mono}
+use Rattle.sizes.specs.Sizes.{coarsestOf, mostPlanes}
+use Rattle.sizes.proofs.Laws.{sized, side-most, all-most, coarsest-all}
+use Rattle.figures.specs.Figures.{figuresOf, figuresBelow}
+use Rattle.figures.specs.Tables.{reachOf}
+use Rattle.figures.proofs.Counted.{all-size, desc-size}
+use Rattle.figures.proofs.Reached.{grand-within, reached, between}
 use Rattle.figures.proofs.All.{below-length, below-none, next-plane}
 use Rattle.figures.proofs.count_all.Statement.{statement}
 use Rattle.figures.proofs.count_all.Tie as tie
 
 abbrev Inv-loop : tie.InvT-loop
-Inv-loop n l values desc grand out₀ plane₀ out plane = (plane ≤ mostPlanes) × (length out ≡ length out₀) × (out ≡ figuresBelow n l values plane ++ drop (4 * plane) out₀)
+Inv-loop n l values desc grand out₀ least here₀ plane₀ out here plane = (plane ≤ mostPlanes) × (length out ≡ length out₀) × (here ≡ reachOf (2 ^ plane) values desc grand) × (out ≡ figuresBelow n l values plane ++ drop (4 * plane) out₀)
 
 abbrev μ-loop : tie.MeasureT-loop
-μ-loop n l values desc grand out₀ plane₀ out plane = mostPlanes - plane
+μ-loop n l values desc grand out₀ least here₀ plane₀ out here plane = mostPlanes - plane
+
+coarsest-of-requires : tie.Need-coarsest-of-requires Inv-loop μ-loop
+coarsest-of-requires c κs = search needs
+
+-- D, and how small it is
+coarsest : (c : tie.After-coarsest-of Inv-loop μ-loop) → let a = c .before .before .before .before .args in c .coarsest-of .result ≡ coarsestOf (a .n) (a .l)
+coarsest c =
+    let f = c .before .before .before .before .pre .0 0 (omega arith) in
+    c .coarsest-of .ensures ∙ rw (f .side, f .levels)
+
+few : (c : tie.After-coarsest-of Inv-loop μ-loop) → c .coarsest-of .result ≤ 65536
+few c =
+    let a = c .before .before .before .before .args in
+    let f = c .before .before .before .before .pre .0 0 (omega arith) in
+    omega (arith, coarsest c, coarsest-all (a .n) (a .l) (sized (a .n) (a .l) (f .levels)), all-most (a .n) (side-most (a .n) (f .side)))
+
+mul-least : tie.Need-mul-least Inv-loop μ-loop
+mul-least c = omega (arith, few c)
+
+cast-least : tie.Need-cast-least Inv-loop μ-loop
+cast-least c = omega (arith, few c)
+
+reach-of-requires : tie.Need-reach-of-requires Inv-loop μ-loop
+reach-of-requires c κs =
+    let s = c .before .before .before .before in
+    let a = s .args in
+    let f = s .pre .0 0 (omega arith) in
+    (all-size (a .n) (a .l) (a .values .now) 0 (a .desc .now) (a .grand .now) f, desc-size (a .n) (a .l) (a .values .now) 0 (a .desc .now) (a .grand .now) f, grand-within (a .n) (a .l) (a .values .now) 0 (a .desc .now) (a .grand .now) f)
 
 loop-holds : tie.Need-loop-holds Inv-loop μ-loop
 loop-holds c =
-    let a = c .before .before .before .args in
-    (omega arith, refl, below-none (a .n) (a .l) (a .values .now) (a .out .now))
+    let a = c .before .before .before .before .before .args in
+    (omega arith, refl, c .reach-of .ensures, below-none (a .n) (a .l) (a .values .now) (a .out .now))
 
-count-requires : tie.Need-count-requires Inv-loop μ-loop
-count-requires c κs = c .before .before .before .before .before .pre .0 (c .before .loop .plane) (c .loop-test .taken)
+level-of-requires : tie.Need-level-of-requires Inv-loop μ-loop
+level-of-requires c κs = c .loop-test .taken
+
+mul-reach-of : tie.Need-mul-reach-of Inv-loop μ-loop
+mul-reach-of c =
+    let l = c .before .before .loop in
+    omega (arith, c .level-of .ensures, pow-mono {i = l .plane} {j = 24} (l .inv .0))
+
+reach-of-requires-2 : tie.Need-reach-of-requires-2 Inv-loop μ-loop
+reach-of-requires-2 c κs =
+    let s = c .before .before .before .before .before .before .before .before in
+    let a = s .args in
+    let f = s .pre .0 0 (omega arith) in
+    (all-size (a .n) (a .l) (a .values .now) 0 (a .desc .now) (a .grand .now) f, desc-size (a .n) (a .l) (a .values .now) 0 (a .desc .now) (a .grand .now) f, grand-within (a .n) (a .l) (a .values .now) 0 (a .desc .now) (a .grand .now) f)
+
+-- the level of the plane above
+twice : (c : tie.After-level-of Inv-loop μ-loop) → 2 * c .level-of .result ≡ 2 ^ suc (c .before .before .loop .plane)
+twice c = ap (λ (x : ℕ). 2 * x) (c .level-of .ensures) ∙ sym (pow-succ' 2 (c .before .before .loop .plane))
+
+figures-between-requires : tie.Need-figures-between-requires Inv-loop μ-loop
+figures-between-requires c κs =
+    let s = c .before .before .before .before .before .before .before .before .before in
+    let a = s .args in
+    let l = c .before .before .before .loop in
+    rw (l .inv .2, c .reach-of2 .ensures)
+    (between (a .n) (a .l) (a .values .now) (l .plane) (a .desc .now) (a .grand .now) (s .pre .0 (l .plane) (c .before .before .loop-test .taken)) (ap (λ (x : ℕ). x / 4 * 7) (coarsest (c .before .before .before .before .before))) refl (twice (c .before)))
 
 mul-put-numbers : tie.Need-mul-put-numbers Inv-loop μ-loop
 mul-put-numbers c = omega arith
@@ -31,7 +90,7 @@ cast-put-numbers : tie.Need-cast-put-numbers Inv-loop μ-loop
 cast-put-numbers c = search needs
 
 put-numbers-requires : tie.Need-put-numbers-requires Inv-loop μ-loop
-put-numbers-requires c κs = omega (arith, c .before .before .before .before .before .before .before .pre .1)
+put-numbers-requires c κs = omega (arith, c .before .before .before .before .before .before .before .before .before .before .before .pre .1)
 
 add-plane : tie.Need-add-plane Inv-loop μ-loop
 add-plane c = search needs
@@ -41,21 +100,31 @@ loop-less c = search needs
 
 loop-again : tie.Need-loop-again Inv-loop μ-loop
 loop-again c =
-    let s = c .before .before .before .before .before .before .before .before .before .before in
+    let s = c .before .before .before .before .before .before .before .before .before .before .before .before .before .before in
     let a = s .args in
-    let l = c .before .before .before .before .before .before .loop in
-    (omega arith, omega (arith, c .before .out .given), c .before .before .put-numbers .ensures ∙ next-plane (a .n) (a .l) (a .values .now) (l .plane) (a .out .now) (l .out) (c .before .before .before .before .count .result) (c .before .before .before .before .count .ensures) (l .inv .2) (omega (arith, s .pre .1)))
+    let l = c .before .before .before .before .before .before .before .before .loop in
+    let d = c .before .before .before .before in
+    let own : d .figures-between .result ≡ figuresOf (a .n) (a .l) (a .values .now) (l .plane) =
+    d .figures-between .ensures
+    ∙ rw (l .inv .2, d .before .reach-of2 .ensures)
+    (reached (a .n) (a .l) (a .values .now) (l .plane) (a .desc .now) (a .grand .now) (s .pre .0 (l .plane) (c .before .before .before .before .before .before .before .loop-test .taken)) (ap (λ (x : ℕ). x / 4 * 7) (coarsest (c .before .before .before .before .before .before .before .before .before .before))) refl (twice (d .before .before))) in (
+      omega arith,
+      omega (arith, c .before .out .given),
+      d .before .reach-of2 .ensures ∙ ap (λ (x : ℕ). reachOf x (a .values .now) (a .desc .now) (a .grand .now)) (twice (d .before .before) ∙ ap (λ (x : ℕ). 2 ^ x) (sym (add-one (l .plane)))),
+      c .before .before .put-numbers .ensures
+          ∙ next-plane (a .n) (a .l) (a .values .now) (l .plane) (a .out .now) (l .out) (d .figures-between .result) own (l .inv .3) (omega (arith, s .pre .1)),
+    )
 
 same-length : tie.Need-same-length Inv-loop μ-loop
 same-length c = search needs
 
 returns : tie.Need-returns Inv-loop μ-loop
 returns c =
-    let a = c .before .before .before .before .before .args in
+    let a = c .before .before .before .before .before .before .before .args in
     let l = c .before .loop in
     let e : l .plane ≡ mostPlanes = omega arith in
     rw (below-length (a .n) (a .l) (a .values .now) mostPlanes)
-    (l .inv .2 ∙ ap (λ (b : ℕ). figuresBelow (a .n) (a .l) (a .values .now) b ++ drop (4 * b) (a .out .now)) e)
+    (l .inv .3 ∙ ap (λ (b : ℕ). figuresBelow (a .n) (a .l) (a .values .now) b ++ drop (4 * b) (a .out .now)) e)
 
 pub count-all-spec : {M : Type 1} → statement M
 count-all-spec =
@@ -63,8 +132,15 @@ count-all-spec =
     (tie.spec
     Inv-loop
     μ-loop
+    coarsest-of-requires
+    mul-least
+    cast-least
+    reach-of-requires
     loop-holds
-    count-requires
+    level-of-requires
+    mul-reach-of
+    reach-of-requires-2
+    figures-between-requires
     mul-put-numbers
     cast-put-numbers
     put-numbers-requires
