@@ -18,11 +18,23 @@ use Rattle.txp.specs.declared.Header.{Header}
 use Rattle.txp.specs.declared.DecodeAnswer.{DecodeAnswer}
 use Rattle.txp.specs.Header.{headerOf}
 use Rattle.txp.specs.File.{usableBits}
-use Rattle.txp.specs.Calls.{decodeChecks, decodeAnswer, DecodedFile, DecodesTo}
+use Rattle.txp.specs.Calls.{decodeChecks, decodeAnswer, DecodedFile, DecodesTo, Decodes}
 use Rattle.txp.proofs.CallLaws.{in-range}
+use Rattle.txp.proofs.letters_fit.Reads as letters-fit
+use Rattle.txp.proofs.version_fits.Reads as version-fits
+use Rattle.txp.proofs.header_of.Reads as header-of
 use Rattle.txp.proofs.encode.Reads as encode
 use Rattle.txp.proofs.read_header.Reads as read-header
 use Rattle.txp.proofs.decode.Reads as decode
+
+pub letters-fit-decided : OneAnswer letters-fit.Learnt
+letters-fit-decided k args r r' s s' p q = p ∙ sym q
+
+pub version-fits-decided : OneAnswer version-fits.Learnt
+version-fits-decided k args r r' s s' p q = p ∙ sym q
+
+pub header-of-decided : OneAnswer header-of.Learnt
+header-of-decided k args r r' s s' p q = p ∙ sym q
 
 -- DESC, GRAND, the marks and the output are the fourth to the seventh parameter
 pub encode-decided : OneOutcome {Lent = Loan} encode.Learnt (λ k s. loan (now (s .1 .1 .1 .0)) (now (s .1 .1 .1 .1 .0)) (now (s .1 .1 .1 .1 .1 .0)) (now (s .1 .1 .1 .1 .1 .1 .0)))
@@ -42,12 +54,15 @@ module _ (h : Header) (u : List Bool) (held : Tables) (r r' : DecodeAnswer) (lef
   one-outcome Done z p q = one-verdict (z refl) p q
   one-outcome (Refused why) z p q = (p .0 ∙ sym (q .0), p .1 ∙ sym (q .1))
 
+-- so two outcomes of reading one file are equal
+pub decodes-one : (file : List ℕ) (held : Tables) (r r' : DecodeAnswer) (left left' : Tables) → Decodes file held r left → Decodes file held r' left' → (r ≡ r') × (left ≡ left')
+decodes-one file held r r' left left' p q =
+    one-outcome (headerOf file) (usableBits file) held r r' left left'
+    (firstOf (decodeChecks file (length (held .values)) (length (held .precisions)) (length (held .marks))))
+    (in-range file (length (held .values)) (length (held .precisions)) (length (held .marks))) p q
+
 -- values, precisions and marks are the second to the fourth parameter
 pub decode-decided : OneOutcome {Lent = Tables} decode.Learnt (λ k s. tables (now (s .1 .0)) (now (s .1 .1 .0)) (now (s .1 .1 .1 .0)))
 decode-decided k args r r' s s' p q =
-    let file = now (args .0) in
-    let held = tables (now (args .1 .0)) (now (args .1 .1 .0)) (now (args .1 .1 .1 .0)) in
-    one-outcome (headerOf file) (usableBits file) held r r'
-    (tables (now (s .1 .0)) (now (s .1 .1 .0)) (now (s .1 .1 .1 .0))) (tables (now (s' .1 .0)) (now (s' .1 .1 .0)) (now (s' .1 .1 .1 .0)))
-    (firstOf (decodeChecks file (length (held .values)) (length (held .precisions)) (length (held .marks))))
-    (in-range file (length (held .values)) (length (held .precisions)) (length (held .marks))) p q
+    decodes-one (now (args .0)) (tables (now (args .1 .0)) (now (args .1 .1 .0)) (now (args .1 .1 .1 .0))) r r'
+    (tables (now (s .1 .0)) (now (s .1 .1 .0)) (now (s .1 .1 .1 .0))) (tables (now (s' .1 .0)) (now (s' .1 .1 .0)) (now (s' .1 .1 .1 .0))) p q

@@ -84,7 +84,7 @@ fn two_at(file: &[u8], i: usize) -> u32
 }
 
 // The condition of refusal 7.
-fn letters_fit(file: &[u8]) -> bool
+pub fn letters_fit(file: &[u8]) -> bool
     ensures { λ r. ⌜ r ≡ lettersFit (now (file .entry)) ⌝ }
 {
     if file.len() < HEADER_SIZE {
@@ -100,14 +100,14 @@ fn letters_fit(file: &[u8]) -> bool
 }
 
 // The condition of refusal 8.
-fn version_fits(file: &[u8]) -> bool
+pub fn version_fits(file: &[u8]) -> bool
     ensures { λ r. ⌜ r ≡ versionFits (now (file .entry)) ⌝ }
 {
     two_at(file, 3) == 1
 }
 
 // What the header says.
-fn header_of(file: &[u8]) -> Header
+pub fn header_of(file: &[u8]) -> Header
     ensures { λ r. ⌜ r ≡ headerOf (now (file .entry)) ⌝ }
 {
     let n = byte_at(file, 5);

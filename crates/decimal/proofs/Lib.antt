@@ -1,0 +1,3 @@
+pub mod Sets
+pub mod Laws
+pub mod Decided
