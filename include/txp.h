@@ -47,6 +47,7 @@ extern "C" {
 #define TXP_ENTRIES(n) ((size_t)1 << (2 * (n)))      /* I: coefficients, values, precisions, marks */
 #define TXP_DESC(n) ((size_t)1 << (2 * (n) - 2))     /* I/4 */
 #define TXP_GRAND(n) ((size_t)1 << (2 * (n) - 4))    /* I/16 */
+#define TXP_ALL_FIGURES (4 * TXP_MOST_PLANES)        /* the numbers of txp_figures_all */
 
 /* Bytes that hold any body of this N, and any file; a body of P planes may need less: txp_worst_body. */
 #define TXP_MOST_BODY(n) ((((size_t)25 << (2 * (n))) + TXP_DESC(n) + TXP_GRAND(n) + 7) / 8)
@@ -168,6 +169,12 @@ uint32_t txp_summaries(uint32_t n, uint32_t l, const int32_t *coefs, size_t coef
  * Answer: parts, splits, bits, found. */
 uint32_t txp_figures(uint32_t n, uint32_t l, const int32_t *values, size_t values_len, uint32_t plane, uint32_t *desc,
                      size_t desc_len, uint32_t *grand, size_t grand_len, txp_answer *answer);
+
+/* The figures of all planes at once. values, desc, grand: as for txp_summaries. out: TXP_ALL_FIGURES or more.
+ * Refusals 1, 2, 3, 4, 5; nothing that is lent is touched. Done: desc and grand as after txp_summaries; out, for plane 0, 1, .. 23,
+ * four numbers each: parts, splits, bits, found. Answer: nothing. */
+uint32_t txp_figures_all(uint32_t n, uint32_t l, const int32_t *values, size_t values_len, uint32_t *desc, size_t desc_len,
+                         uint32_t *grand, size_t grand_len, uint32_t *out, size_t out_len, txp_answer *answer);
 
 /* ---- places */
 

@@ -35,6 +35,7 @@ use Rattle.ctxp.proofs.txp_worst_body.Reads as worst-body
 use Rattle.ctxp.proofs.txp_encode_body.Reads as encode-body
 use Rattle.ctxp.proofs.txp_summaries.Reads as summaries
 use Rattle.ctxp.proofs.txp_figures.Reads as figures
+use Rattle.ctxp.proofs.txp_figures_all.Reads as figures-all
 use Rattle.ctxp.proofs.txp_to_linear.Reads as to-linear
 use Rattle.ctxp.proofs.txp_to_raster.Reads as to-raster
 use Rattle.ctxp.proofs.txp_linear_place.Reads as linear-place
@@ -91,6 +92,15 @@ figures-decided k args r r' s s' p q =
     let lent1 : now (s .1 .1 .1 .1 .0) ≡ now (s' .1 .1 .1 .1 .0) = p .1 .0 ∙ sym (q .1 .0) in
     let lent2 : now (s .1 .1 .1 .1 .1 .0) ≡ now (s' .1 .1 .1 .1 .1 .0) = p .1 .1 ∙ sym (q .1 .1) in
     (one .0, λ i. (one .1 i, lent1 i, lent2 i))
+
+pub figures-all-decided : OneOutcome {Lent = List ℕ × List ℕ × List ℕ × List ℕ} figures-all.Learnt
+    (λ k s. (now (s .1 .1 .1 .1 .1 .1 .0), now (s .1 .1 .1 .0), now (s .1 .1 .1 .1 .0), now (s .1 .1 .1 .1 .1 .0)))
+figures-all-decided k args r r' s s' p q =
+    let one = one-answer refl (p .0) (q .0) in
+    let lent1 : now (s .1 .1 .1 .0) ≡ now (s' .1 .1 .1 .0) = p .1 .0 ∙ sym (q .1 .0) in
+    let lent2 : now (s .1 .1 .1 .1 .0) ≡ now (s' .1 .1 .1 .1 .0) = p .1 .1 .0 ∙ sym (q .1 .1 .0) in
+    let lent3 : now (s .1 .1 .1 .1 .1 .0) ≡ now (s' .1 .1 .1 .1 .1 .0) = p .1 .1 .1 ∙ sym (q .1 .1 .1) in
+    (one .0, λ i. (one .1 i, lent1 i, lent2 i, lent3 i))
 
 pub to-linear-decided : OneOutcome {Lent = List ℕ × List ℤ} to-linear.Learnt
     (λ k s. (now (s .1 .1 .1 .0), now (s .1 .1 .0)))

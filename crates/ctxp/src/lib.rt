@@ -14,7 +14,7 @@ ghost use Rattle.places.specs.Order as order;
 ghost use Rattle.places.specs.Answers.{placeChecks, reorderChecks, rasterIf, linearIf};
 ghost use Rattle.coef.specs.Coef as coefficient;
 ghost use Rattle.tree.specs.Summaries.{summaryChecks, descTable, grandTable};
-ghost use Rattle.figures.specs.Figures.{figuresOf, figuresChecks, answered};
+ghost use Rattle.figures.specs.Figures.{figuresOf, figuresChecks, answered, allFigures, allFiguresChecks};
 ghost use Rattle.room.specs.Room as room;
 ghost use Rattle.encoder.specs.Body.{loan};
 ghost use Rattle.decoder.specs.Body.{tables};
@@ -155,6 +155,26 @@ pub extern "C" fn txp_figures(
 {
     let done = figures::figures_of(n, l, values, plane, desc, grand);
     put(answer, answers::of_figures(done))
+}
+
+// The figures of all planes, 0 to 23: the summaries are filled once.
+#[no_mangle]
+pub extern "C" fn txp_figures_all(
+    n: u32,
+    l: u32,
+    values: &[i32],
+    desc: &mut [u32],
+    grand: &mut [u32],
+    out: &mut [u32],
+    answer: &mut [u32; 15],
+) -> u32
+    ensures answer { λ r. ⌜ Answers r (now (answer .exit)) (ofOutcome (firstOf (allFiguresChecks n l (now (values .entry)) (length (now (desc .entry))) (length (now (grand .entry))) (length (now (out .entry)))))) ⌝ }
+    ensures descs { λ r. ⌜ now (desc .exit) ≡ lentAfter (firstOf (allFiguresChecks n l (now (values .entry)) (length (now (desc .entry))) (length (now (grand .entry))) (length (now (out .entry))))) (descTable n l (now (values .entry))) (now (desc .entry)) ⌝ }
+    ensures grands { λ r. ⌜ now (grand .exit) ≡ lentAfter (firstOf (allFiguresChecks n l (now (values .entry)) (length (now (desc .entry))) (length (now (grand .entry))) (length (now (out .entry))))) (grandTable n l (now (values .entry))) (now (grand .entry)) ⌝ }
+    ensures outs { λ r. ⌜ now (out .exit) ≡ lentAfter (firstOf (allFiguresChecks n l (now (values .entry)) (length (now (desc .entry))) (length (now (grand .entry))) (length (now (out .entry))))) (allFigures n l (now (values .entry))) (now (out .entry)) ⌝ }
+{
+    let done = figures::figures_of_all(n, l, values, desc, grand, out);
+    put(answer, answers::of_outcome(done))
 }
 
 // ---- places

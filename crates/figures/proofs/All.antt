@@ -18,7 +18,7 @@ use Rattle.refusals.proofs.Laws.{first-holds, first-fails, first-none, first-th
 use Rattle.sizes.specs.Sizes.{mostPlanes}
 use Rattle.tree.specs.Summaries.{summaryChecks}
 use Rattle.figures.specs.declared.Figures.{Figures}
-use Rattle.figures.specs.Figures.{figuresOf, figuresChecks, numbersOf, figuresBelow, allFiguresChecks}
+use Rattle.figures.specs.Figures.{figuresOf, figuresChecks, fourNumbers, figuresBelow, allFiguresChecks}
 use Rattle.figures.proofs.Checks.{all-met}
 
 -- the room is checked after the summaries' checks
@@ -96,7 +96,7 @@ module _ (N L : ℕ) (A : List ℤ) where
   pub below-length : (b : ℕ) → length (figuresBelow N L A b) ≡ 4 * b
   unfolding figuresBelow
   below-length zero = refl
-  below-length (suc b) = omega (arith, length-append (figuresBelow N L A b) (numbersOf (figuresOf N L A b)), below-length b)
+  below-length (suc b) = omega (arith, length-append (figuresBelow N L A b) (fourNumbers (figuresOf N L A b)), below-length b)
 
   pub below-none : (held : List ℕ) → held ≡ figuresBelow N L A 0 ++ drop (4 * 0) held
   unfolding figuresBelow

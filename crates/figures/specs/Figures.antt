@@ -31,12 +31,12 @@ abbrev pub figuresChecks : ℕ → ℕ → List ℤ → ℕ → ℕ → ℕ → 
 figuresChecks N L A descs grands b = summaryChecks N L A descs grands ++ (need (ltb b mostPlanes) Planes ∷ [])
 
 -- all planes: the four numbers of each, in the order of the record, plane after plane from 0 on
-abbrev pub numbersOf : Figures → List ℕ
-numbersOf f = f .parts ∷ f .splits ∷ f .bits ∷ f .found ∷ []
+abbrev pub fourNumbers : Figures → List ℕ
+fourNumbers f = f .parts ∷ f .splits ∷ f .bits ∷ f .found ∷ []
 
 unfoldable pub figuresBelow : ℕ → ℕ → List ℤ → ℕ → List ℕ
 figuresBelow N L A zero = []
-figuresBelow N L A (suc b) = figuresBelow N L A b ++ numbersOf (figuresOf N L A b)
+figuresBelow N L A (suc b) = figuresBelow N L A b ++ fourNumbers (figuresOf N L A b)
 
 abbrev pub allFigures : ℕ → ℕ → List ℤ → List ℕ
 allFigures N L A = figuresBelow N L A mostPlanes

@@ -36,20 +36,8 @@ valuesAt n = valuesBy 2 1 3 (take n whole) midpoint
 unfoldable pub errorAt : ℕ → ℕ
 errorAt n = worstError 2 1 3 (take n whole)
 
--- A picture of N=3, L=2, so that GRAND, MG and MN2 come in: that of Shapiro's paper on embedded zerotrees (1993), in raster rows.
+-- A picture of N=3, L=2, so that GRAND, MG and MN2 come in: that of Shapiro's paper on embedded zerotrees (1993), in linear order.
 -- The numbers said of it are the second coder's (tests/second.py).
-unfoldable pub picture : List ℤ
-picture =
-    pos 63 ∷ negsuc 33 ∷ pos 49 ∷ pos 10 ∷ pos 7 ∷ pos 13 ∷ negsuc 11 ∷ pos 7
-    ∷ negsuc 30 ∷ pos 23 ∷ pos 14 ∷ negsuc 12 ∷ pos 3 ∷ pos 4 ∷ pos 6 ∷ negsuc 0
-    ∷ pos 15 ∷ pos 14 ∷ pos 3 ∷ negsuc 11 ∷ pos 5 ∷ negsuc 6 ∷ pos 3 ∷ pos 9
-    ∷ negsuc 8 ∷ negsuc 6 ∷ negsuc 13 ∷ pos 8 ∷ pos 4 ∷ negsuc 1 ∷ pos 3 ∷ pos 2
-    ∷ negsuc 4 ∷ pos 9 ∷ negsuc 0 ∷ pos 47 ∷ pos 4 ∷ pos 6 ∷ negsuc 1 ∷ pos 2
-    ∷ pos 3 ∷ pos 0 ∷ negsuc 2 ∷ pos 2 ∷ pos 3 ∷ negsuc 1 ∷ pos 0 ∷ pos 4
-    ∷ pos 2 ∷ negsuc 2 ∷ pos 6 ∷ negsuc 3 ∷ pos 3 ∷ pos 6 ∷ pos 3 ∷ pos 6
-    ∷ pos 5 ∷ pos 11 ∷ pos 5 ∷ pos 6 ∷ pos 0 ∷ pos 3 ∷ negsuc 3 ∷ pos 4 ∷ []
-
--- in linear order, and its whole stream
 unfoldable pub pictured : List ℤ
 pictured =
     pos 63 ∷ negsuc 33 ∷ negsuc 30 ∷ pos 23 ∷ pos 49 ∷ pos 10 ∷ pos 14 ∷ negsuc 12
