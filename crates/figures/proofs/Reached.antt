@@ -2,12 +2,11 @@
 use mathlib.Core.Path.{_≡_, refl, sym, ap, _∙_}
 use mathlib.Core.List.{List}
 use Prim.Native.Nat.{ℕ, suc, _+_, _*_, _-_, _/_, _^_, _≤_}
-use native.Mathlib.Nat.{pow-succ'}
 use native.Mathlib.Omega.{arith}
 use lib.Dec.{leb}
 use lib.IntN.{ℤ}
 use lib.ListN.{length, getD}
-use Rattle.sizes.specs.Sizes.{allOf, coarsestOf, mostN, Sized}
+use Rattle.sizes.specs.Sizes.{allOf, coarsestOf, Sized}
 use Rattle.sizes.proofs.Laws.{sized, side-most, all-most, coarsest-all}
 use Rattle.sizes.proofs.Tables.{table-length}
 use Rattle.bits.specs.Bits.{digit}
@@ -15,9 +14,9 @@ use Rattle.coef.specs.Coef.{magAt}
 use Rattle.tree.specs.Tree.{anyIn}
 use Rattle.tree.specs.Summaries.{descOr, grandOr, descTable, grandTable}
 use Rattle.tree.proofs.Laws.{desc-high, grand-high}
-use Rattle.nls.specs.Parts.{sumTo, countTo, found, descSplit, grandSplit, splits, founds, parts, splitsIn, foundIn}
+use Rattle.nls.specs.Parts.{countTo, found, descSplit, grandSplit, splits, founds, parts, splitsIn, foundIn}
 use Rattle.figures.specs.Figures.{figuresOf}
-use Rattle.figures.specs.Tables.{atLevel, Filled, reachOf, figuresBetween, Between}
+use Rattle.figures.specs.Tables.{Filled, reachOf, figuresBetween, Between}
 use Rattle.figures.proofs.Sums.{sum-same, sum-short, count-most}
 use Rattle.figures.proofs.Levels.{desc-reaches, grand-reaches, desc-held, grand-held, level-count}
 use Rattle.figures.proofs.Splitting.{parts-split}

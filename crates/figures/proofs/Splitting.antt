@@ -2,8 +2,8 @@
 -- where a GRAND is split, four sets do.
 use mathlib.Core.Path.{_≡_, refl, sym, ap, _∙_}
 use mathlib.Core.Bool.{Bool, true, false, false≢true, not, _&&_, _||_}
-use mathlib.Core.List.{List, [], _++_, flatMap}
-use Prim.Native.Nat.{ℕ, zero, suc, _+_, _*_, _/_, _^_, _≤_, _<_, min}
+use mathlib.Core.List.{List}
+use Prim.Native.Nat.{ℕ, zero, suc, _+_, _*_, _/_, _≤_, _<_, min}
 use native.Mathlib.Decide.{decLt}
 use native.Mathlib.Omega.{arith}
 use borrow.Author.Tests.{lt-ltb, le-ltb, le-leb, lt-leb}
@@ -12,11 +12,11 @@ use lib.IntN.{ℤ}
 use Rattle.sizes.specs.Sizes.{allOf, coarsestOf, Sized}
 use Rattle.sizes.proofs.Laws.{all-sixteen, coarsest-four, coarsest-all}
 use Rattle.bits.specs.Bits.{digit}
-use Rattle.tree.specs.Tree.{fours, children, desc, grand, anyIn}
+use Rattle.tree.specs.Tree.{children, desc, grand, anyIn}
 use Rattle.tree.proofs.Lists.{any-append, any-flat, any-four, or-right}
 use Rattle.tree.proofs.Laws.{children-some, desc-is, desc-low, desc-high, grand-low, grand-high}
 use Rattle.nls.specs.Parts.{sumTo, countTo, found, descSplit, grandSplit, standsAlone, descStands, grandStands, parts}
-use Rattle.figures.proofs.Sums.{sum-suc, sum-none, sum-add, sum-short}
+use Rattle.figures.proofs.Sums.{sum-add, sum-short}
 use Rattle.figures.proofs.Standing.{desc-range, grand-range}
 
 -- sums whose terms agree below n

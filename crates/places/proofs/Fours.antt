@@ -1,8 +1,8 @@
 -- Four places from a multiple of 4 on: in the other order they lie two by two, each two one after the other.
-use mathlib.Core.Path.{_≡_, refl, sym, _∙_, ap, subst}
+use mathlib.Core.Path.{_≡_, sym, _∙_, ap}
 use mathlib.Core.List.{List, _++_}
 use Prim.Native.Nat.{ℕ, zero, suc, _+_, _*_, _-_, _/_, _%_, _^_, _≤_, _<_}
-use native.Mathlib.Nat.{pow-succ', pow-suc, div-add-mod', add-mul, mul-left-comm}
+use native.Mathlib.Nat.{pow-suc, div-add-mod', add-mul, mul-left-comm}
 use native.Mathlib.Omega.{arith}
 use lib.IntN.{ℤ, pos}
 use lib.ListN.{length, getD, drop, set}
@@ -10,7 +10,7 @@ use lib.Pow.{high, low}
 use Rattle.sizes.specs.Tables.{table}
 use Rattle.sizes.proofs.Tables.{fill-step}
 use Rattle.places.specs.Spread.{spread}
-use Rattle.places.specs.Order.{interleaved, rowOf, colOf, toLinear, toRaster}
+use Rattle.places.specs.Order.{rowOf, colOf, toLinear, toRaster}
 use Rattle.places.proofs.Laws.{interleaved-spread, raster-col}
 
 -- how far the k-th of four lies from the first, where the second two are `step` further than the first two
