@@ -1,12 +1,9 @@
 -- Bits of a number, and of a body (document 01, "File TXP": "Body bits fill each byte from its highest bit; the last byte is padded with 0").
 use Prim.Native.Nat.{ℕ, zero, suc, _+_, _*_, _-_, _/_, _%_, _^_}
-use mathlib.Core.Bool.{Bool, true, false, cond}
-use mathlib.Core.List.{List}
-use lib.Dec.{ltb, eqb}
-use lib.ListN.{length, getD, set}
+use mathlib.Core.{Bool.Bool, Bool.true, Bool.false, Bool.cond, List.List}
+use lib.{Dec.ltb, Dec.eqb, ListN.length, ListN.getD, ListN.set}
 use Rattle.sizes.specs.Tables.{table}
-use Rattle.bits.specs.declared.Next.{Next}
-use Rattle.bits.specs.declared.Next.the-variants.{Bit, NoMore}
+use Rattle.bits.specs.{declared.Next.Next, declared.Next.the-variants.Bit, declared.Next.the-variants.NoMore}
 
 -- bit b of x
 unfoldable pub bit : ℕ → ℕ → Bool

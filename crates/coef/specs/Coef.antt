@@ -1,21 +1,12 @@
 -- Coefficients (document 01, "Sizes").
 use Prim.Native.Nat.{ℕ, zero, suc, max, _/_, _≤_, _<_, _^_}
-use mathlib.Core.Bool.{Bool, true, false, cond}
-use mathlib.Core.List.{List, [], _∷_}
-use lib.Dec.{leb, eqb}
-use lib.ListN.{length, getD}
-use lib.IntN.{ℤ, pos, negsuc, natAbs, negℤ}
-use lib.Ieee.{binary32, ofInt}
-use lib.Ieee.Exact.{HasValue}
+use mathlib.Core.{Bool.Bool, Bool.true, Bool.false, Bool.cond, List.List, List.[], List._∷_}
+use lib.{Dec.leb, Dec.eqb, ListN.length, ListN.getD, IntN.ℤ, IntN.pos, IntN.negsuc, IntN.natAbs, IntN.negℤ, Ieee.binary32, Ieee.ofInt, Ieee.Exact.HasValue}
 use Rattle.sizes.specs.Sizes.{limit}
-use Rattle.refusals.specs.Checks.{Check, need}
-use Rattle.refusals.specs.declared.Refusal.the-variants.{Coefficient}
-use Rattle.coef.specs.declared.Signed.{Signed}
-use Rattle.coef.specs.declared.Parted.{Parted}
+use Rattle.refusals.specs.{Checks.Check, Checks.need, declared.Refusal.the-variants.Coefficient}
+use Rattle.coef.specs.{declared.Signed.Signed, declared.Parted.Parted, declared.Joined.Joined, declared.Float.Float}
 use Rattle.coef.specs.declared.Parted.the-variants as parted
-use Rattle.coef.specs.declared.Joined.{Joined}
 use Rattle.coef.specs.declared.Joined.the-variants as joined
-use Rattle.coef.specs.declared.Float.{Float}
 use Rattle.coef.specs.declared.Float.the-variants as float
 
 -- sign and magnitude of a number, and back

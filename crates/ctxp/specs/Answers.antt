@@ -1,14 +1,11 @@
 -- The answers of the base's calls, read as numbers (document 01, "Numbers for no"): a refusal is its number and its place, and "all other figures of a refusal are 0".
 -- A number that an answer does not speak of is 0.
 use Prim.Native.Nat.{ℕ}
-use mathlib.Core.Path.{_≡_}
-use mathlib.Core.List.{List, [], _∷_}
+use mathlib.Core.{Path._≡_, List.List, List.[], List._∷_}
 use lib.ListN.{getD, set, replicate}
-use Rattle.refusals.specs.Refusals.{numberOf, placeOf}
-use Rattle.refusals.specs.declared.{Refusal.Refusal, Refusal.the-variants.Coefficient, Outcome.Outcome}
+use Rattle.refusals.specs.{Refusals.numberOf, Refusals.placeOf, declared.Refusal.Refusal, declared.Refusal.the-variants.Coefficient, declared.Outcome.Outcome}
 use Rattle.refusals.specs.declared.Outcome.the-variants as outcomes
-use Rattle.bits.specs.Bits.{digit}
-use Rattle.bits.specs.declared.Next.{Next}
+use Rattle.bits.specs.{Bits.digit, declared.Next.Next}
 use Rattle.bits.specs.declared.Next.the-variants as nexts
 use Rattle.places.specs.declared.{LinearAnswer.LinearAnswer, RasterAnswer.RasterAnswer}
 use Rattle.places.specs.declared.LinearAnswer.the-variants as linears

@@ -1,22 +1,16 @@
 -- What else a call from C is lent: numbers that stand for a truth, a coefficient, a float, and the coders' tables.
 use Prim.Native.Nat.{ℕ}
-use mathlib.Core.Bool.{Bool, not}
-use mathlib.Core.List.{List}
-use lib.Dec.{eqb}
-use lib.IntN.{ℤ}
+use mathlib.Core.{Bool.Bool, Bool.not, List.List}
+use lib.{Dec.eqb, IntN.ℤ, ListN.length}
 use lib.Ieee as ieee
-use lib.ListN.{length}
 use Rattle.refusals.specs.Checks.{firstOf}
 use Rattle.coef.specs.declared.{Signed.Signed, Joined.Joined, Float.Float}
 use Rattle.coef.specs.declared.Joined.the-variants as joineds
 use Rattle.coef.specs.declared.Float.the-variants as floats
 use Rattle.room.specs.Room.{readChecks, bodyBits}
-use Rattle.encoder.specs.Body.{Loan, Writes}
-use Rattle.encoder.specs.declared.body.WriteAnswer.{WriteAnswer}
-use Rattle.decoder.specs.Body.{Tables, ReadsTo}
-use Rattle.decoder.specs.declared.body.ReadAnswer.{ReadAnswer}
-use Rattle.txp.specs.declared.{EncodeAnswer.EncodeAnswer, DecodeAnswer.DecodeAnswer}
-use Rattle.txp.specs.Calls.{Encodes, Decodes}
+use Rattle.encoder.specs.{Body.Loan, Body.Writes, declared.body.WriteAnswer.WriteAnswer}
+use Rattle.decoder.specs.{Body.Tables, Body.ReadsTo, declared.body.ReadAnswer.ReadAnswer}
+use Rattle.txp.specs.{declared.EncodeAnswer.EncodeAnswer, declared.DecodeAnswer.DecodeAnswer, Calls.Encodes, Calls.Decodes}
 use Rattle.ctxp.specs.Answers.{ofEncoded, ofDecoded, ofWritten, ofRead, Answers}
 
 -- any number but 0 is a truth

@@ -1,17 +1,11 @@
 -- The call that reads a body: what it answers, and what the tables lent to it hold afterwards (document 01, "Numbers for no"). What it checks is in crate `room`.
 use Prim.Native.Nat.{ℕ, _+_}
-use mathlib.Core.Path.{_≡_}
-use mathlib.Core.Bool.{Bool}
-use mathlib.Core.List.{List, _++_}
-use lib.IntN.{ℤ, pos}
-use lib.ListN.{length, drop, replicate}
-use Rattle.refusals.specs.declared.Refusal.the-variants.{Contradiction, Beyond}
-use Rattle.refusals.specs.declared.Outcome.{Outcome}
+use mathlib.Core.{Path._≡_, Bool.Bool, List.List, List._++_}
+use lib.{IntN.ℤ, IntN.pos, ListN.length, ListN.drop, ListN.replicate}
+use Rattle.refusals.specs.{declared.Refusal.the-variants.Contradiction, declared.Refusal.the-variants.Beyond, declared.Outcome.Outcome}
 use Rattle.refusals.specs.declared.Outcome.the-variants as outcome
 use Rattle.sizes.specs.Sizes.{allOf}
-use Rattle.nls.specs.Stream.{after}
-use Rattle.nls.specs.Reading.{midpoint, valuesBy, precisions, planesFinished, worstError}
-use Rattle.nls.specs.Judging.{Verdict, taken, contradiction, beyond, Judged}
+use Rattle.nls.specs.{Stream.after, Reading.midpoint, Reading.valuesBy, Reading.precisions, Reading.planesFinished, Reading.worstError, Judging.Verdict, Judging.taken, Judging.contradiction, Judging.beyond, Judging.Judged}
 use Rattle.decoder.specs.declared.body.ReadAnswer.{ReadAnswer}
 use Rattle.decoder.specs.declared.body.ReadAnswer.the-variants as decode
 

@@ -1,12 +1,8 @@
 -- The call that writes a body: what it answers, and what the tables lent to it hold afterwards (document 01, "Numbers for no"). What it checks is in crate `room`.
 use Prim.Native.Nat.{ℕ, _+_}
-use mathlib.Core.Path.{_≡_}
-use mathlib.Core.Bool.{Bool}
-use mathlib.Core.List.{List, _++_}
-use lib.IntN.{ℤ}
-use lib.ListN.{length, take, drop}
-use Rattle.refusals.specs.Checks.{firstOf, lentAfter}
-use Rattle.refusals.specs.declared.Outcome.{Outcome}
+use mathlib.Core.{Path._≡_, Bool.Bool, List.List, List._++_}
+use lib.{IntN.ℤ, ListN.length, ListN.take, ListN.drop}
+use Rattle.refusals.specs.{Checks.firstOf, Checks.lentAfter, declared.Outcome.Outcome}
 use Rattle.refusals.specs.declared.Outcome.the-variants as outcome
 use Rattle.bits.specs.Bits.{packed}
 use Rattle.coef.specs.Coef.{planesOf}

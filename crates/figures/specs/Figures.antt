@@ -2,17 +2,13 @@
 -- the summaries, and after them number 9 for a plane that no array has, or number 5 for an output too short for all planes.
 use Prim.Native.Nat.{ℕ, zero, suc, _+_, _*_}
 use mathlib.Core.List.{List, [], _∷_, _++_}
-use lib.Dec.{ltb, leb}
-use lib.IntN.{ℤ}
-use Rattle.refusals.specs.declared.Refusal.the-variants.{Planes, Lent}
-use Rattle.refusals.specs.declared.Outcome.{Outcome}
+use lib.{Dec.ltb, Dec.leb, IntN.ℤ}
+use Rattle.refusals.specs.{declared.Refusal.the-variants.Planes, declared.Refusal.the-variants.Lent, declared.Outcome.Outcome, Checks.Check, Checks.need}
 use Rattle.refusals.specs.declared.Outcome.the-variants as outcome
-use Rattle.refusals.specs.Checks.{Check, need}
 use Rattle.sizes.specs.Sizes.{mostPlanes}
 use Rattle.tree.specs.Summaries.{summaryChecks}
 use Rattle.nls.specs.Parts.{parts, splitsIn, foundIn}
-use Rattle.figures.specs.declared.Figures.{Figures}
-use Rattle.figures.specs.declared.FiguresAnswer.{FiguresAnswer}
+use Rattle.figures.specs.{declared.Figures.Figures, declared.FiguresAnswer.FiguresAnswer}
 use Rattle.figures.specs.declared.FiguresAnswer.the-variants as answer
 
 -- of the magnitudes of A and plane b: the parts that stand after it, the sets split in it, the coefficients found in it,

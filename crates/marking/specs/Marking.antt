@@ -1,9 +1,7 @@
 -- Marks as the code has them: skips, pushes and splits of a table of at most 4^8 marks (document 01, "Marks").
 use Prim.Native.Nat.{ℕ, _+_, _*_, _%_}
-use mathlib.Core.Bool.{Bool, cond, _&&_}
-use mathlib.Core.List.{List}
-use lib.Dec.{ltb, leb, eqb}
-use lib.ListN.{set}
+use mathlib.Core.{Bool.Bool, Bool.cond, Bool._&&_, List.List}
+use lib.{Dec.ltb, Dec.leb, Dec.eqb, ListN.set}
 use Rattle.sizes.specs.Sizes.{mostN, allOf}
 use Rattle.nls.specs.Marks.{MD, MN, skip, setSkip, pushFrom, splitDesc}
 

@@ -13,7 +13,7 @@ use Rattle.sizes.specs.Tables.{table}
 use Rattle.coef.specs.Coef.{at, IsPlanes}
 use Rattle.nls.specs.Marks.{noMark}
 use Rattle.nls.specs.Scan.{State, silent, look, ask}
-use Rattle.nls.specs.Stream.{answers, sent, begin, after, stream, during, worstBody}
+use Rattle.nls.specs.Stream.{answers, begin, after, stream, during, worstBody}
 use Rattle.nls.specs.Parts.{sumTo, parts, partSizes, splits, splitsIn, foundIn, nonzeros}
 use Rattle.nls.specs.Reading.{midpoint, valueBy, highBits, lastPlane, precisionAt, valuesBy, precisions, planesFinished, worstError, CompletedBy}
 use Rattle.nls.specs.Judging.{Begins, Fits, Verdict, taken, Judged}
@@ -30,10 +30,6 @@ use Rattle.nls.proofs.Visited.{Passed}
 module _ (N L P : ℕ) (sized : Sized N L) where
   -- ---- demand 2
   module _ (A : List ℤ) (planes : IsPlanes A P) where
-    -- "After the same bits, encoder and decoder hold equal tables."
-    pub in-step : (n : ℕ) → (sent N L A n (begin N L P)) .marks ≡ (after N L P (answers N L A n (begin N L P))) .marks
-    in-step n = ap (λ (s : State). s .marks) (streams.in-step N L P A n)
-
     -- "The encoder writes exactly the bits of the scan, up to the budget": the smaller of the budget and the whole stream's length
     pub budget-bits : (n : ℕ) → answers N L A n (begin N L P) ≡ take n (stream N L P A)
     budget-bits n = streams.budget-bits N L sized P A (planes .below) n

@@ -35,8 +35,8 @@ unfolding body
 eight = subst (λ (v : Verdict). Judged 2 1 1 body v) no-child-found (verdict-judged 2 1 small 1 body)
 
 pub all-samples : Each scanSamples
-unfolding body raster linear whole valuesAt errorAt picture pictured wholePicture scanSamples table bit packed number linearly toRaster rowOf colOf planesOf largest digits
+unfolding body raster linear whole valuesAt errorAt pictured wholePicture scanSamples table bit packed number linearly toRaster rowOf colOf planesOf largest digits
     children descendants desc grand anyIn flatMap orAll descOr grandOr skip setSkip pushFrom pushRoots startMarks
     silently settle ask next reach start answer answers worstBody stream during
     sumTo found descSplit grandSplit standsAlone descStands grandStands parts splits nonzeros learned valueBy
-all-samples = (refl, (refl, (refl, (refl, (refl, (refl, (refl, (refl, (refl, (refl, (refl, (refl, (refl, (refl, (six, (eight, (refl, (refl, (refl, (refl, (refl, (refl, (refl, tt)))))))))))))))))))))))
+all-samples = (refl, (refl, (refl, (refl, (refl, (refl, (refl, (refl, (refl, (refl, (refl, (refl, (refl, (refl, (six, (eight, (refl, (refl, (refl, (refl, (refl, tt)))))))))))))))))))))

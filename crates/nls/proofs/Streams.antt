@@ -1,10 +1,10 @@
--- The stream of an array of numbers: it ends, a budget cuts it, encoder and decoder stay in step, and which bits begin it.
-use Prim.Native.Nat.{ℕ, zero, suc, _+_, _-_, _*_, _^_, min, _≤_, _<_}
+-- The stream of an array of numbers: it ends, a budget cuts it, and which bits begin it.
+use Prim.Native.Nat.{ℕ, _+_, _-_, _*_, _^_, min, _≤_, _<_}
 use mathlib.Core.Path.{_≡_, refl, sym, ap, subst, _∙_}
 use mathlib.Core.Bool.{Bool}
 use mathlib.Core.Logic.{⊎-elim}
-use mathlib.Core.Option.{Option, none, some}
-use mathlib.Core.List.{List, [], _∷_, _++_}
+use mathlib.Core.Option.{none}
+use mathlib.Core.List.{List, _++_}
 use native.Mathlib.Nat.{le-refl, pow-le-pow-right}
 use native.Mathlib.Omega.{arith}
 use lib.IntN.{ℤ}
@@ -13,8 +13,8 @@ use lib.Seq.{take-all}
 use Rattle.sizes.specs.Sizes.{allOf, coarsestOf, Sized}
 use Rattle.sizes.proofs.Laws.{coarsest-least}
 use Rattle.coef.specs.Coef.{magAt, IsPlanes}
-use Rattle.nls.specs.Scan.{Question, State, pixels, stateAt, ask, next, reach}
-use Rattle.nls.specs.Stream.{answer, answers, sent, begin, after, stream}
+use Rattle.nls.specs.Scan.{State, pixels, stateAt, ask, reach}
+use Rattle.nls.specs.Stream.{answers, begin, after, stream}
 use Rattle.nls.specs.Judging.{Begins}
 use Rattle.nls.proofs.Arrays.{bits-of, answersOf, Fit}
 use Rattle.nls.proofs.Counting.Sums.{order}
@@ -22,22 +22,6 @@ use Rattle.nls.proofs.Machine.Run.{Settled, start-settled, reach-settle
 use Rattle.nls.proofs.Joined.Whole as Whole
 use Rattle.nls.proofs.Kept.{kept-reach}
 use Rattle.nls.proofs.Lists.{arrOf, begin-kept, answers-same, stream-same}
-
-sent-from : (N L : ℕ) (A : List ℤ) (n : ℕ) (s : State) → sent N L A n s ≡ reach (allOf N) s (answers N L A n s)
-unfolding sent answers reach
-sent-from N L A zero s = refl
-sent-from N L A (suc n) s = on (ask (allOf N) s) (λ a. sent-from N L A n (next (allOf N) s a))
-  where
-    on : (o : Option Question)
-        → ((a : Bool) → sent N L A n (next (allOf N) s a) ≡ reach (allOf N) (next (allOf N) s a) (answers N L A n (next (allOf N) s a)))
-        → (elim o as (λ _. State) [ none ↦ s | some q ↦ sent N L A n (next (allOf N) s (answer N L A q)) ])
-        ≡ reach (allOf N) s (elim o as (λ _. List Bool) [ none ↦ [] | some q ↦ answer N L A q ∷ answers N L A n (next (allOf N) s (answer N L A q)) ])
-    on none ih = refl
-    on (some q) ih = ih (answer N L A q)
-
--- after the same bits encoder and decoder stand in equal states, with equal marks
-pub in-step : (N L P : ℕ) (A : List ℤ) (n : ℕ) → sent N L A n (begin N L P) ≡ after N L P (answers N L A n (begin N L P))
-in-step N L P A n = sent-from N L A n (begin N L P)
 
 -- each bit of u is what A answers where it is asked
 abbrev pub Answered : ℕ → ℕ → ℕ → List ℤ → List Bool → Type 0

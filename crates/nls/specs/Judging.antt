@@ -1,10 +1,7 @@
 -- Which bodies are refused as 12 or 13 (document 01, "Numbers for no").
 use Prim.Native.Nat.{ℕ, suc, _<_}
-use mathlib.Core.Path.{_≡_}
-use mathlib.Core.Bool.{Bool}
-use mathlib.Core.List.{List}
-use lib.IntN.{ℤ}
-use lib.ListN.{length, take}
+use mathlib.Core.{Path._≡_, Bool.Bool, List.List}
+use lib.{IntN.ℤ, ListN.length, ListN.take}
 use Rattle.sizes.specs.Sizes.{allOf}
 use Rattle.coef.specs.Coef.{IsPlanes}
 use Rattle.nls.specs.Stream.{stream, after}

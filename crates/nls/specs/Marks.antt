@@ -1,9 +1,7 @@
 -- Marks (document 01, "Marks"). A table of marks is a list of codes, one for each of the I places.
 use Prim.Native.Nat.{ℕ, zero, suc, _+_, _*_, _-_, _/_, _^_}
-use mathlib.Core.Bool.{Bool, true, false}
-use mathlib.Core.List.{List, _++_}
-use lib.Dec.{ltb}
-use lib.ListN.{set, replicate}
+use mathlib.Core.{Bool.Bool, Bool.true, Bool.false, List.List, List._++_}
+use lib.{Dec.ltb, ListN.set, ListN.replicate}
 
 -- "0 none; 1 MIP; 2 MNP; 3 MSP; 4 MCP; 5 MD; 6 MG; MNk is k+5"
 abbrev pub noMark : ℕ

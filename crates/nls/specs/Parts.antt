@@ -1,10 +1,7 @@
 -- Parts that stand (document 01), after plane b, from the magnitudes of A alone.
 use Prim.Native.Nat.{ℕ, zero, suc, _+_, _-_, _/_, _^_}
-use mathlib.Core.Bool.{Bool, true, false, not, _&&_, _||_, cond}
-use mathlib.Core.List.{List}
-use lib.Dec.{ltb, leb}
-use lib.IntN.{ℤ}
-use lib.ListN.{length}
+use mathlib.Core.{Bool.Bool, Bool.true, Bool.false, Bool.not, Bool._&&_, Bool._||_, Bool.cond, List.List}
+use lib.{Dec.ltb, Dec.leb, IntN.ℤ, ListN.length}
 use Rattle.sizes.specs.Sizes.{allOf, coarsestOf}
 use Rattle.bits.specs.Bits.{digit}
 use Rattle.coef.specs.Coef.{magAt}

@@ -1,18 +1,11 @@
 -- Reading a cut stream (document 01, "Reading a cut stream").
-use mathlib.Core.Path.{_≡_}
+use mathlib.Core.{Path._≡_, Bool.Bool, Bool.true, Bool.false, Bool.cond, Bool._&&_, Bool.not, Option.Option, Option.none, Option.some, List.List, List.[], List._∷_}
 use Prim.Native.Nat.{ℕ, zero, suc, _+_, _*_, _-_, _/_, _^_, _<_, min}
-use mathlib.Core.Bool.{Bool, true, false, cond, _&&_, not}
-use mathlib.Core.Option.{Option, none, some}
-use mathlib.Core.List.{List, [], _∷_}
-use lib.Dec.{eqb}
-use lib.IntN.{ℤ, pos}
-use lib.ListN.{length, getD, set, replicate, take}
-use Rattle.sizes.specs.Sizes.{allOf}
-use Rattle.sizes.specs.Tables.{table}
+use lib.{Dec.eqb, IntN.ℤ, IntN.pos, ListN.length, ListN.getD, ListN.set, ListN.replicate, ListN.take}
+use Rattle.sizes.specs.{Sizes.allOf, Tables.table}
 use Rattle.bits.specs.Bits.{digit}
 use Rattle.coef.specs.Coef.{at, magnitude, negative, signed}
-use Rattle.nls.specs.Scan.{Question, bitOf, signOf, inDesc, inGrand, Pass, pixels, sets, refining, State, ask, next}
-use Rattle.nls.specs.Stream.{begin, after}
+use Rattle.nls.specs.{Scan.Question, Scan.bitOf, Scan.signOf, Scan.inDesc, Scan.inGrand, Scan.Pass, Scan.pixels, Scan.sets, Scan.refining, Scan.State, Scan.ask, Scan.next, Stream.begin, Stream.after}
 
 -- What has been read of each coefficient: its known bits with their sign, and the plane of its own bit that was read last, P before any.
 pub record Known : Type 0 where

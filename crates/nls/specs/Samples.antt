@@ -1,18 +1,12 @@
 -- The starred samples of document 01, then a larger picture, as one list: each is what the definitions give beside what the document
 -- says, or what the second coder says. That all hold is `all-samples` of proofs/Samples.antt.
-use mathlib.Core.Path.{_≡_}
-use mathlib.Core.Bool.{Bool, true, false}
-use mathlib.Core.List.{List, [], _∷_, _++_, map}
+use mathlib.Core.{Path._≡_, Bool.Bool, Bool.true, Bool.false, List.List, List.[], List._∷_, List._++_, List.map}
 use Prim.Native.Nat.{ℕ}
-use lib.IntN.{ℤ, pos, negsuc}
-use lib.ListN.{length, take, replicate}
+use lib.{IntN.ℤ, IntN.pos, IntN.negsuc, ListN.length, ListN.take, ListN.replicate}
 use Rattle.bits.specs.Bits.{packed}
 use Rattle.places.specs.Order.{linearly}
 use Rattle.coef.specs.Coef.{planesOf}
-use Rattle.nls.specs.Stream.{begin, worstBody, stream, during}
-use Rattle.nls.specs.Parts.{sumTo, parts, splits, splitsIn, nonzeros}
-use Rattle.nls.specs.Reading.{midpoint, valuesBy, worstError}
-use Rattle.nls.specs.Judging.{Verdict, contradiction, Judged}
+use Rattle.nls.specs.{Stream.begin, Stream.worstBody, Stream.stream, Stream.during, Parts.sumTo, Parts.parts, Parts.splits, Parts.splitsIn, Parts.nonzeros, Reading.midpoint, Reading.valuesBy, Reading.worstError, Judging.Verdict, Judging.contradiction, Judging.Judged}
 
 -- "N=2, L=1, raster rows 5 -3 0 0 / 0 1 2 0 / 0 0 0 -1 / 0 0 0 0."
 unfoldable pub raster : List ℤ
@@ -93,14 +87,9 @@ scanSamples =
     ∷ judged 1 (replicate 4 false ++ (true ∷ replicate 4 false)) (contradiction 8)
     -- "worst body for N=2, L=1, P=3 is 67"
     ∷ numbers (worstBody 2 1 3 ∷ []) (67 ∷ [])
-    -- the picture: its order and P, then bits, parts and sets split of each plane, then its body
-    ∷ coefficients (linearly 3 picture) pictured
+    -- the picture: P, then bits, parts and sets split of each plane; its bytes are among those of txp/Samples
     ∷ numbers (planesOf pictured ∷ []) (6 ∷ [])
     ∷ numbers (map (λ b. length (during 3 b (begin 3 2 6) wholePicture)) (5 ∷ 4 ∷ 3 ∷ 2 ∷ 1 ∷ 0 ∷ [])) (29 ∷ 23 ∷ 64 ∷ 92 ∷ 82 ∷ 66 ∷ [])
     ∷ numbers (map (λ b. parts 3 2 pictured b) (5 ∷ 4 ∷ 3 ∷ 2 ∷ 1 ∷ 0 ∷ [])) (21 ∷ 21 ∷ 43 ∷ 64 ∷ 64 ∷ 64 ∷ [])
     ∷ numbers (map (λ b. splitsIn 3 2 pictured b) (5 ∷ 4 ∷ 3 ∷ 2 ∷ 1 ∷ 0 ∷ [])) (4 ∷ 0 ∷ 7 ∷ 7 ∷ 0 ∷ 0 ∷ [])
-    ∷ numbers (packed wholePicture)
-    (0xB3 ∷ 0x08 ∷ 0x15 ∷ 0x07 ∷ 0x00 ∷ 0x00 ∷ 0xAA ∷ 0xEB ∷ 0x0B ∷ 0xED ∷ 0x1C ∷ 0x28 ∷ 0xA2 ∷ 0x22 ∷ 0x9D
-    ∷ 0x2A ∷ 0x0C ∷ 0x05 ∷ 0xB9 ∷ 0xBA ∷ 0xE8 ∷ 0x8A ∷ 0x8A ∷ 0xEB ∷ 0x3D ∷ 0xB2 ∷ 0xA7 ∷ 0x54 ∷ 0x75 ∷ 0xDF
-    ∷ 0x25 ∷ 0x7B ∷ 0x6A ∷ 0x8D ∷ 0x0B ∷ 0x2B ∷ 0x36 ∷ 0x5C ∷ 0xDC ∷ 0x72 ∷ 0xCE ∷ 0xF9 ∷ 0xC8 ∷ 0x85 ∷ 0x80 ∷ [])
     ∷ []

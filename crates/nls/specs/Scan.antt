@@ -1,11 +1,8 @@
 -- The three passes (document 01, "The three passes"), as a machine that moves silently, asks, or is over.
 -- It takes one bit at a time, so a stop between a test bit and its sign is a state like any other.
-use mathlib.Core.Bool.{Bool, true, false}
-use mathlib.Core.Option.{Option, none, some}
-use mathlib.Core.List.{List, [], _∷_}
+use mathlib.Core.{Bool.Bool, Bool.true, Bool.false, Option.Option, Option.none, Option.some, List.List, List.[], List._∷_}
 use Prim.Native.Nat.{ℕ, zero, suc, _+_, _*_, _-_, _/_}
-use lib.ListN.{getD, set}
-use lib.Dec.{ltb, eqb}
+use lib.{ListN.getD, ListN.set, Dec.ltb, Dec.eqb}
 use Rattle.nls.specs.Marks.{MIP, MNP, MSP, MCP, MD, MG, skip, setSkip, splitDesc, splitGrand, startMarks}
 
 -- What the scan asks: bit b of the magnitude at i; the sign at i; whether DESC(g) or GRAND(g) has bit b.

@@ -1,11 +1,7 @@
 -- The stream of an array: the answers that it gives to the scan's questions.
-use mathlib.Core.Bool.{Bool}
-use mathlib.Core.Option.{Option, none, some}
-use mathlib.Core.List.{List, [], _∷_}
+use mathlib.Core.{Bool.Bool, Option.Option, Option.none, Option.some, List.List, List.[], List._∷_, Bool.cond}
 use Prim.Native.Nat.{ℕ, zero, suc, _+_, _*_, _-_, _/_}
-use lib.Dec.{eqb}
-use lib.IntN.{ℤ}
-use mathlib.Core.Bool.{cond}
+use lib.{Dec.eqb, IntN.ℤ}
 use Rattle.sizes.specs.Sizes.{allOf, coarsestOf}
 use Rattle.bits.specs.Bits.{bit, digit}
 use Rattle.coef.specs.Coef.{at, magAt, negative}
@@ -26,11 +22,6 @@ answers N L A (suc n) s = elim (ask (allOf N) s) [
   | none ↦ []
   | some q ↦ answer N L A q ∷ answers N L A n (next (allOf N) s (answer N L A q))
 ]
-
--- the encoder's own state after at most n of these answers
-unfoldable pub sent : ℕ → ℕ → List ℤ → ℕ → State → State
-sent N L A zero s = s
-sent N L A (suc n) s = elim (ask (allOf N) s) [ none ↦ s | some q ↦ sent N L A n (next (allOf N) s (answer N L A q)) ]
 
 -- the scan before its first bit, and after the bits u
 abbrev pub begin : ℕ → ℕ → ℕ → State

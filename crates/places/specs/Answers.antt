@@ -2,14 +2,11 @@
 use Prim.Native.Nat.{ℕ}
 use mathlib.Core.List.{List, [], _∷_}
 use lib.Dec.{ltb, leb, eqb}
-use Rattle.refusals.specs.declared.Outcome.{Outcome}
+use Rattle.refusals.specs.{declared.Outcome.Outcome, declared.Refusal.the-variants.Side, declared.Refusal.the-variants.Length, declared.Refusal.the-variants.Lent, Checks.Check, Checks.need}
 use Rattle.refusals.specs.declared.Outcome.the-variants as outcome
-use Rattle.refusals.specs.declared.Refusal.the-variants.{Side, Length, Lent}
-use Rattle.refusals.specs.Checks.{Check, need}
 use Rattle.sizes.specs.Sizes.{allOf, sideFits}
-use Rattle.places.specs.declared.RasterAnswer.{RasterAnswer}
+use Rattle.places.specs.{declared.RasterAnswer.RasterAnswer, declared.LinearAnswer.LinearAnswer}
 use Rattle.places.specs.declared.RasterAnswer.the-variants as raster
-use Rattle.places.specs.declared.LinearAnswer.{LinearAnswer}
 use Rattle.places.specs.declared.LinearAnswer.the-variants as linear
 
 -- one place

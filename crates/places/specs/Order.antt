@@ -1,10 +1,8 @@
 -- Linear order (document 01: "Row and column bits are interleaved, row bit above column bit at each place").
 use Prim.Native.Nat.{ℕ, zero, suc, _+_, _*_, _/_, _%_, _^_}
 use mathlib.Core.List.{List}
-use lib.IntN.{ℤ, pos}
-use lib.ListN.{getD}
-use Rattle.sizes.specs.Sizes.{allOf}
-use Rattle.sizes.specs.Tables.{table}
+use lib.{IntN.ℤ, IntN.pos, ListN.getD}
+use Rattle.sizes.specs.{Sizes.allOf, Tables.table}
 
 -- the linear place of a row and a column of n bits each
 unfoldable pub interleaved : ℕ → ℕ → ℕ → ℕ

@@ -1,8 +1,6 @@
 -- The spreader (document 01, "Linear order": "bit k goes to bit 2k, the others are 0").
 use Prim.Native.Nat.{ℕ, zero, suc, _+_, _*_, _/_, _%_}
-use mathlib.Core.List.{List}
-use mathlib.Core.Path.{_≡_}
-use mathlib.Core.Bool.{false}
+use mathlib.Core.{List.List, Path._≡_, Bool.false}
 use Rattle.bits.specs.Bits.{bit}
 use Rattle.sizes.specs.Tables.{table}
 

@@ -1,11 +1,8 @@
 -- The order of checks ("Encoding checks 1 to 6 in that order ..."), and what a lent table holds afterwards
 -- ("Numbers 1 to 11 touch no lent byte", "Past a table's own entries .. nothing is touched in any call").
-use mathlib.Core.Bool.{Bool, cond}
-use mathlib.Core.List.{List, [], _∷_, _++_}
+use mathlib.Core.{Bool.Bool, Bool.cond, List.List, List.[], List._∷_, List._++_}
 use lib.ListN.{length, drop}
-use Rattle.refusals.specs.declared.Refusal.{Refusal}
-use Rattle.refusals.specs.declared.Outcome.{Outcome}
-use Rattle.refusals.specs.declared.Outcome.the-variants.{Done, Refused}
+use Rattle.refusals.specs.{declared.Refusal.Refusal, declared.Outcome.Outcome, declared.Outcome.the-variants.Done, declared.Outcome.the-variants.Refused}
 
 -- one check: what must hold, and the refusal where it does not
 pub record Check : Type 0 where

@@ -1,7 +1,6 @@
 -- The numbers for no, and the places reported (document 01, "Numbers for no").
 use Prim.Native.Nat.{ℕ}
-use Rattle.refusals.specs.declared.Refusal.{Refusal}
-use Rattle.refusals.specs.declared.Refusal.the-variants.{Side, Levels, Length, Coefficient, Lent, Output, Letters, Version, Planes, Surplus, Padding, Contradiction, Beyond}
+use Rattle.refusals.specs.{declared.Refusal.Refusal, declared.Refusal.the-variants.Side, declared.Refusal.the-variants.Levels, declared.Refusal.the-variants.Length, declared.Refusal.the-variants.Coefficient, declared.Refusal.the-variants.Lent, declared.Refusal.the-variants.Output, declared.Refusal.the-variants.Letters, declared.Refusal.the-variants.Version, declared.Refusal.the-variants.Planes, declared.Refusal.the-variants.Surplus, declared.Refusal.the-variants.Padding, declared.Refusal.the-variants.Contradiction, declared.Refusal.the-variants.Beyond}
 
 -- column "no."
 abbrev pub numberOf : Refusal → ℕ

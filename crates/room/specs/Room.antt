@@ -1,13 +1,8 @@
 -- The checks of the calls on a body, in document 01's order ("Numbers for no"), and the worst body.
 use Prim.Native.Nat.{ℕ, _+_, _*_, min}
-use mathlib.Core.Bool.{Bool, _&&_}
-use mathlib.Core.List.{List, [], _∷_, _++_}
-use lib.Dec.{leb}
-use lib.IntN.{ℤ}
-use lib.ListN.{length}
-use Rattle.refusals.specs.Checks.{Check, need}
-use Rattle.refusals.specs.declared.Refusal.the-variants.{Side, Levels, Lent, Output, Planes}
-use Rattle.refusals.specs.declared.Outcome.{Outcome}
+use mathlib.Core.{Bool.Bool, Bool._&&_, List.List, List.[], List._∷_, List._++_}
+use lib.{Dec.leb, IntN.ℤ, ListN.length}
+use Rattle.refusals.specs.{Checks.Check, Checks.need, declared.Refusal.the-variants.Side, declared.Refusal.the-variants.Levels, declared.Refusal.the-variants.Lent, declared.Refusal.the-variants.Output, declared.Refusal.the-variants.Planes, declared.Outcome.Outcome}
 use Rattle.refusals.specs.declared.Outcome.the-variants as outcome
 use Rattle.sizes.specs.Sizes.{allOf, sideFits, levelsFit, mostPlanes}
 use Rattle.bits.specs.Bits.{bitsOf, bytesFor}

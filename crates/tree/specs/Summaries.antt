@@ -1,16 +1,10 @@
 -- The summaries (document 01: "the bitwise OR of magnitudes over DESC(i) and GRAND(i): I/4 and I/16 numbers"),
 -- and the checks of the call that fills them ("Summaries: 1 to 5").
 use Prim.Native.Nat.{ℕ, _/_}
-use mathlib.Core.Bool.{_&&_}
-use mathlib.Core.List.{List, [], _∷_, map}
-use lib.Bits.{bitOr}
-use lib.Dec.{leb, eqb}
-use lib.IntN.{ℤ}
-use lib.ListN.{length}
-use Rattle.refusals.specs.declared.Refusal.the-variants.{Side, Levels, Length, Lent}
-use Rattle.refusals.specs.Checks.{Check, need}
-use Rattle.sizes.specs.Sizes.{allOf, sideFits, levelsFit}
-use Rattle.sizes.specs.Tables.{table}
+use mathlib.Core.{Bool._&&_, List.List, List.[], List._∷_, List.map}
+use lib.{Bits.bitOr, Dec.leb, Dec.eqb, IntN.ℤ, ListN.length}
+use Rattle.refusals.specs.{declared.Refusal.the-variants.Side, declared.Refusal.the-variants.Levels, declared.Refusal.the-variants.Length, declared.Refusal.the-variants.Lent, Checks.Check, Checks.need}
+use Rattle.sizes.specs.{Sizes.allOf, Sizes.sideFits, Sizes.levelsFit, Tables.table}
 use Rattle.coef.specs.Coef.{magAt, coefficientCheck}
 use Rattle.tree.specs.Tree.{desc, grand}
 

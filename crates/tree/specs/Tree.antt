@@ -1,7 +1,6 @@
 -- Children and descendants of a place (document 01, "Linear order").
 use Prim.Native.Nat.{ℕ, zero, suc, _+_, _*_, _/_}
-use mathlib.Core.Bool.{Bool, false, _&&_, _||_, cond}
-use mathlib.Core.List.{List, [], _∷_, _++_, flatMap}
+use mathlib.Core.{Bool.Bool, Bool.false, Bool._&&_, Bool._||_, Bool.cond, List.List, List.[], List._∷_, List._++_, List.flatMap}
 use lib.Dec.{leb, ltb}
 use Rattle.sizes.specs.Sizes.{allOf, coarsestOf}
 

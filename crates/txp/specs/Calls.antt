@@ -1,31 +1,21 @@
 -- The calls on a file: what they check, what they answer, and what is lent to them holds afterwards (document 01, "Numbers for no").
 use Prim.Native.Nat.{ℕ, _+_, _-_, _/_, _%_, _^_}
-use mathlib.Core.Path.{_≡_}
-use mathlib.Core.Bool.{Bool, true, _&&_, cond}
-use mathlib.Core.List.{List, [], _∷_, _++_}
-use lib.Dec.{leb, eqb}
-use lib.IntN.{ℤ}
-use lib.ListN.{length, getD}
+use mathlib.Core.{Path._≡_, Bool.Bool, Bool.true, Bool._&&_, Bool.cond, List.List, List.[], List._∷_, List._++_}
+use lib.{Dec.leb, Dec.eqb, IntN.ℤ, ListN.length, ListN.getD}
 use Rattle.refusals.specs.declared.Refusal.the-variants as refusal
-use Rattle.refusals.specs.declared.Outcome.{Outcome}
+use Rattle.refusals.specs.{declared.Outcome.Outcome, Checks.Check, Checks.need, Checks.firstOf}
 use Rattle.refusals.specs.declared.Outcome.the-variants as outcome
-use Rattle.refusals.specs.Checks.{Check, need, firstOf}
 use Rattle.sizes.specs.Sizes.{allOf}
 use Rattle.bits.specs.Bits.{bytesFor}
 use Rattle.coef.specs.Coef.{planesOf}
-use Rattle.nls.specs.Reading.{planesFinished, worstError}
-use Rattle.nls.specs.Judging.{Verdict, taken, contradiction, beyond, Judged}
+use Rattle.nls.specs.{Reading.planesFinished, Reading.worstError, Judging.Verdict, Judging.taken, Judging.contradiction, Judging.beyond, Judging.Judged}
 use Rattle.room.specs.Room.{worstChecks}
 use Rattle.encoder.specs.Body.{sentBits, Loan, writeOutcome, lentTo}
 use Rattle.decoder.specs.Body.{Tables, ownTables, over}
-use Rattle.txp.specs.declared.{Header.Header, HeaderAnswer.HeaderAnswer}
+use Rattle.txp.specs.{declared.Header.Header, declared.HeaderAnswer.HeaderAnswer, declared.EncodeAnswer.EncodeAnswer, declared.DecodeAnswer.DecodeAnswer, Header.headerSize, Header.lettersFit, Header.versionFits, Header.headerOf, Header.bodyOf, File.fileOf, File.usableBits}
 use Rattle.txp.specs.declared.HeaderAnswer.the-variants as header
-use Rattle.txp.specs.declared.EncodeAnswer.{EncodeAnswer}
 use Rattle.txp.specs.declared.EncodeAnswer.the-variants as encode
-use Rattle.txp.specs.declared.DecodeAnswer.{DecodeAnswer}
 use Rattle.txp.specs.declared.DecodeAnswer.the-variants as decode
-use Rattle.txp.specs.Header.{headerSize, lettersFit, versionFits, headerOf, bodyOf}
-use Rattle.txp.specs.File.{fileOf, usableBits}
 
 -- ---- encoding
 

@@ -1,15 +1,12 @@
 -- What encoding writes, and the bits that decoding reads (document 01, "File TXP, version 1").
 use Prim.Native.Nat.{ℕ}
-use mathlib.Core.Bool.{Bool}
-use mathlib.Core.List.{List, _++_}
-use lib.IntN.{ℤ}
-use lib.ListN.{length}
+use mathlib.Core.{Bool.Bool, List.List, List._++_}
+use lib.{IntN.ℤ, ListN.length}
 use Rattle.bits.specs.Bits.{packed}
 use Rattle.coef.specs.Coef.{planesOf}
 use Rattle.room.specs.Room as room
 use Rattle.encoder.specs.Body.{sentBits}
-use Rattle.txp.specs.declared.Header.{Header}
-use Rattle.txp.specs.Header.{headerBytes, headerOf, bodyOf}
+use Rattle.txp.specs.{declared.Header.Header, Header.headerBytes, Header.headerOf, Header.bodyOf}
 
 -- the header of an array's file
 abbrev pub headerFor : ℕ → ℕ → List ℤ → ℕ → Header

@@ -1,9 +1,7 @@
 -- The header of a TXP file (document 01, "File TXP, version 1").
 use Prim.Native.Nat.{ℕ, _+_, _*_, _/_, _%_}
-use mathlib.Core.Bool.{Bool, _&&_}
-use mathlib.Core.List.{List, [], _∷_, _++_}
-use lib.Dec.{leb, eqb}
-use lib.ListN.{length, getD, drop}
+use mathlib.Core.{Bool.Bool, Bool._&&_, List.List, List.[], List._∷_, List._++_}
+use lib.{Dec.leb, Dec.eqb, ListN.length, ListN.getD, ListN.drop}
 use Rattle.txp.specs.declared.Header.{Header}
 
 -- "Numbers have the high byte first": 16 and 32 bits at a place, and as bytes

@@ -1,12 +1,9 @@
 -- Bits read through a view (document 01, "Reading a cut stream": "The decoder reads bits through a view that carries the lent body and the number of the next bit").
 use Prim.Native.Nat.{ℕ, _+_}
-use mathlib.Core.Bool.{cond}
-use mathlib.Core.List.{List}
+use mathlib.Core.{Bool.cond, List.List}
 use lib.Dec.{ltb}
 use denote.Ref.{RefT, now}
-use Rattle.bits.specs.declared.Next.{Next}
-use Rattle.bits.specs.declared.Next.the-variants.{Bit, NoMore}
-use Rattle.bits.specs.Bits.{fetched}
+use Rattle.bits.specs.{declared.Next.Next, declared.Next.the-variants.Bit, declared.Next.the-variants.NoMore, Bits.fetched}
 use Rattle.view.specs.declared.BitView.{BitView}
 
 -- the bit with number `at` of the usable bits, those below `end`; or that there are no more
