@@ -17,7 +17,7 @@ use Rattle.nls.specs.Stream.{answer, answers, worstBody, stream, during}
 use Rattle.nls.specs.Parts.{sumTo, found, descSplit, grandSplit, standsAlone, descStands, grandStands, parts, splits, nonzeros}
 use Rattle.nls.specs.Reading.{learned, valueBy}
 use Rattle.nls.specs.Judging.{Verdict, contradiction, Judged}
-use Rattle.nls.specs.Samples.{raster, linear, whole, valuesAt, errorAt, picture, pictured, wholePicture, scanSamples, Each}
+use Rattle.nls.specs.Samples.{raster, linear, whole, valuesAt, errorAt, pictured, wholePicture, scanSamples, Each}
 use Rattle.nls.proofs.Verdicts.{no-one-found, no-child-found, verdict-judged}
 
 small : Sized 2 1
