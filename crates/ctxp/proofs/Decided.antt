@@ -23,7 +23,7 @@ use Rattle.txp.specs.declared.Header.{Header}
 use Rattle.txp.specs.declared.DecodeAnswer.{DecodeAnswer}
 use Rattle.txp.specs.Header.{headerOf}
 use Rattle.txp.specs.File as file
-use Rattle.txp.specs.Calls.{decodeChecks, decodeAnswer, DecodedFile, DecodesTo, Decodes}
+use Rattle.txp.specs.Calls.{decodeChecks, decodeAnswer, DecodedFile, DecodesTo}
 use Rattle.txp.proofs.CallLaws.{in-range}
 use Rattle.ctxp.specs.Answers.{Answers, ofEncoded, ofDecoded, ofWritten, ofRead}
 use Rattle.ctxp.specs.Lent.{FileDecoded, BodyDecoded}

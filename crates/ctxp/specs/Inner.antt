@@ -5,9 +5,9 @@ use Rattle.txp.specs.declared.EncodeAnswer.{EncodeAnswer}
 use Rattle.txp.specs.declared.EncodeAnswer.the-variants as encode
 use Rattle.ctxp.specs.declared.answers.Answer.{Answer}
 
--- done, with nothing to say
-abbrev pub nothing : Answer
-nothing =
+-- the struct of a call that is done, with nothing to say
+abbrev pub blankAnswer : Answer
+blankAnswer =
     record { refusal = 0; place = 0; n = 0; l = 0; planes = 0; declared = 0; bits = 0; bytes = 0; finished = 0; error = 0; parts = 0; splits = 0; found = 0; negative = 0; value = 0 }
 
 -- the struct entry after entry

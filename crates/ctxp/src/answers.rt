@@ -5,7 +5,7 @@ ghost use mathlib.Core.Path.{_≡_};
 ghost use Rattle.refusals.specs.declared.Refusal.the-variants.{Coefficient};
 ghost use Rattle.bits.specs.Bits.{digit};
 ghost use Rattle.ctxp.specs.Answers.{ofRefusal, ofValue, ofPlanes, ofOutcome, ofEncoded, ofDecoded, ofHeader, ofWorst, ofWritten, ofRead, ofFigures, ofLinear, ofRaster, ofParted, ofNext, Answers};
-ghost use Rattle.ctxp.specs.Inner.{nothing, entries, Short};
+ghost use Rattle.ctxp.specs.Inner.{blankAnswer, entries, Short};
 
 // The numbers that a call answers, in the order of the header's `txp_answer`. Those that it does not speak of are 0.
 pub struct Answer {
@@ -28,7 +28,7 @@ pub struct Answer {
 
 // Done, with nothing to say.
 pub(crate) fn nothing() -> Answer
-    ensures { λ r. ⌜ r ≡ nothing ⌝ }
+    ensures { λ r. ⌜ r ≡ blankAnswer ⌝ }
 {
     Answer {
         refusal: 0,
