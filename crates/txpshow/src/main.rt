@@ -29,7 +29,7 @@ fn read_input(bytes: &mut [u8]) -> Input
     Input::Read(got)
 }
 
-// Writes the text of a file.
+// Writes the text of a file, which is never longer than the buffer for it.
 fn show_file(file: &[u8]) {
     let mut text = [0u8; 65536];
     let length = show::render(file, &mut text);

@@ -9,6 +9,7 @@ use Rattle.decimal.proofs.Laws.{length-large, decimal-least, decimal-mo
 use Rattle.decimal.proofs.put_behind.Statement.{statement}
 use Rattle.decimal.proofs.put_behind.Tie as tie
 
+-- the k highest digits are left: those of what is left of the number
 abbrev Inv-loop : tie.InvT-loop
 Inv-loop out₀ at before x digits k₀ left₀ out k left = (length out ≡ length out₀) × (k ≡ length (decimal left)) × (k ≤ digits) × (sets out (at + before) (decimal left) ≡ sets out₀ (at + before) (decimal x))
 

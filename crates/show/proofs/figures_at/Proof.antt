@@ -10,6 +10,14 @@ use borrow.Author.Needs.{needs}
 use Rattle.show.proofs.figures_at.Statement.{statement}
 use Rattle.show.proofs.figures_at.Tie as tie
 
+-- every check holds, so the answer is the figures
+done : (c : tie.After-figures-of) → let a = c .before .before .before .before .before .args in c .figures-of .result ≡ answer.Done (figuresOf (a .n) (a .l) (a .values .now) (a .plane))
+done c =
+    let a = c .before .before .before .before .before .args in
+    let p = c .before .before .before .before .before .pre in
+    let checks = figures-checks (a .n) (a .l) (a .values .now) (p .0) (length (a .desc .now)) (length (a .grand .now)) (a .plane) (p .2) (p .3) (p .1) in
+    c .figures-of .ensures .0 ∙ ap (λ (o : Outcome). answered o (figuresOf (a .n) (a .l) (a .values .now) (a .plane))) checks
+
 figures-of-requires : tie.Need-figures-of-requires
 figures-of-requires c κs = search needs
 
@@ -26,13 +34,7 @@ same-length-2 : tie.Need-same-length-2
 same-length-2 c = search needs
 
 returns : tie.Need-returns
-returns c =
-    let a = c .before .before .before .before .before .before .before .before .before .before .before .before .args in
-    let p = c .before .before .before .before .before .before .before .before .before .before .before .before .pre in
-    let done = figures-checks (a .n) (a .l) (a .values .now) (p .0) (length (a .desc .now)) (length (a .grand .now)) (a .plane) (p .2) (p .3) (p .1) in
-    let all : c .before .before .before .before .before .before .before .figures-of .result ≡ answer.Done (figuresOf (a .n) (a .l) (a .values .now) (a .plane)) =
-    c .before .before .before .before .before .before .before .figures-of .ensures .0 ∙ ap (λ (o : Outcome). answered o (figuresOf (a .n) (a .l) (a .values .now) (a .plane))) done in
-    cc
+returns c = let e = done (c .before .before .before .before .before .before .before) in cc
 
 same-length-3 : tie.Need-same-length-3
 same-length-3 c = search needs
@@ -42,11 +44,7 @@ same-length-4 c = search needs
 
 returns-2 : tie.Need-returns-2
 returns-2 c =
-    let a = c .before .before .before .before .before .before .before .before .before .before .before .args in
-    let p = c .before .before .before .before .before .before .before .before .before .before .before .pre in
-    let done = figures-checks (a .n) (a .l) (a .values .now) (p .0) (length (a .desc .now)) (length (a .grand .now)) (a .plane) (p .2) (p .3) (p .1) in
-    let all : c .before .before .before .before .before .before .figures-of .result ≡ answer.Done (figuresOf (a .n) (a .l) (a .values .now) (a .plane)) =
-    c .before .before .before .before .before .before .figures-of .ensures .0 ∙ ap (λ (o : Outcome). answered o (figuresOf (a .n) (a .l) (a .values .now) (a .plane))) done in
+    let e = done (c .before .before .before .before .before .before) in
     let z : _≡_ {A = ℕ} 0 1 = cc in
     absurd (omega arith)
 

@@ -8,6 +8,7 @@ use borrow.Author.Needs.{needs}
 use Rattle.show.proofs.put_letters.Statement.{statement}
 use Rattle.show.proofs.put_letters.Tie as tie
 
+-- the letters from the i-th on are left, to be put from `end` on
 abbrev Inv-loop : tie.InvT-loop
 Inv-loop out₀ at word end₀ i₀ out end i = (length out ≡ length out₀) × (i ≤ length word) × (end ≡ at + i) × Leaves out₀ at word out end (drop i word)
 

@@ -11,6 +11,7 @@ use borrow.Author.Needs.{needs}
 use Rattle.show.proofs.put_planes.Statement.{statement}
 use Rattle.show.proofs.put_planes.Tie as tie
 
+-- the lines of `left` planes below `plane` are left; each takes at most 50 characters
 abbrev Inv-loop : tie.InvT-loop
 Inv-loop out₀ at n l values planes finished desc₀ grand₀ end₀ plane₀ left₀ out desc grand end plane left = (length out ≡ length out₀) × (length desc ≡ length desc₀) × (length grand ≡ length grand₀) × (left ≤ plane) × (plane ≤ planes) × (end + 50 * left ≤ at + 50 * finished) × Leaves out₀ at (textOf (planeLines n l values planes finished)) out end (textOf (planeLines n l values plane left))
 

@@ -13,6 +13,7 @@ use borrow.Author.Needs.{needs}
 use Rattle.show.proofs.put_row_behind.Statement.{statement}
 use Rattle.show.proofs.put_row_behind.Tie as tie
 
+-- the numbers from the i-th on are left; each takes at most 12 characters
 abbrev Inv-loop : tie.InvT-loop
 Inv-loop out₀ at row end₀ i₀ out end i = (length out ≡ length out₀) × (i ≤ length row) × (end ≤ at + 12 * i) × Leaves out₀ at (wordsAfter (map number row)) out end (wordsAfter (map number (drop i row)))
 

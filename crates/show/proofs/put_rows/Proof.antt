@@ -12,6 +12,7 @@ use borrow.Author.Needs.{needs}
 use Rattle.show.proofs.put_rows.Statement.{statement}
 use Rattle.show.proofs.put_rows.Tie as tie
 
+-- `left` rows are left, from place `from` of the picture on; each takes at most 900 characters
 abbrev Inv-loop : tie.InvT-loop
 Inv-loop out₀ at raster side end₀ from₀ left₀ out end from left = (length out ≡ length out₀) × (from + left * side ≡ length raster) × (end + 900 * left ≤ at + 900 * side) × (left ≤ side) × Leaves out₀ at (textOf (rowLines side side raster)) out end (textOf (rowLines side left (drop from raster)))
 

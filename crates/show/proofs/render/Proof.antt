@@ -1,12 +1,13 @@
 use mathlib.Core.Path.{_≡_, sym, ap, _∙_, subst}
-use Prim.Native.Nat.{ℕ}
+use Prim.Native.Nat.{ℕ, _≤_}
 use native.Mathlib.Omega.{arith}
 use mathlib.Core.List.{List}
-use lib.ListN.{length, take, length-replicate}
 use lib.IntN.{pos}
+use lib.ListN.{length, take, length-replicate}
 use lib.Seq.{length-take-le}
-use Rattle.sizes.specs.Sizes.{allOf}
+use Rattle.sizes.specs.Sizes.{allOf, mostPlanes}
 use Rattle.decoder.specs.Body.{Tables, tables, zeros}
+use Rattle.txp.specs.declared.Decoded.{Decoded}
 use Rattle.txp.specs.declared.DecodeAnswer.{DecodeAnswer}
 use Rattle.txp.specs.declared.DecodeAnswer.the-variants as decode
 use Rattle.txp.specs.Calls.{Decodes}
@@ -19,6 +20,24 @@ use Rattle.show.proofs.Shows.{shows-large, shows-answer}
 use borrow.Author.Needs.{needs}
 use Rattle.show.proofs.render.Statement.{statement}
 use Rattle.show.proofs.render.Tie as tie
+
+-- the tables that decoding leaves
+abbrev left : tie.After-decode → Tables
+left c = tables (c .decode .last .1 .0) (c .decode .last .1 .1 .0) (c .decode .last .1 .1 .1 .0)
+
+-- the answer is one that decoding allows
+said : (c : tie.After-decode) (x : DecodeAnswer) → c .decode .result ≡ x → Decodes (c .before .before .before .before .before .before .before .before .args .file .now) (zeros (allOf mostShownN)) x (left c)
+said c x e = subst (λ (y : DecodeAnswer). Decodes (c .before .before .before .before .before .before .before .before .args .file .now) (zeros (allOf mostShownN)) y (left c)) e (c .decode .ensures)
+
+-- where the file is taken, what the answer says can be drawn
+abbrev told : tie.After-known-told → Decoded
+told c = c .before .d .given .0 .0
+
+can : (c : tie.After-known-told) → let d = told c in Drawn (d .n) (d .l) (take (allOf (d .n)) (left (c .before .before .before .before .before .before) .values)) × (d .p ≤ mostPlanes) × (d .finished ≤ d .p) × (allOf (d .n) ≤ 4096)
+can c = drawn-own (c .before .before .before .before .before .before .before .before .before .before .before .before .before .before .args .file .now) (left (c .before .before .before .before .before .before)) (told c) (said (c .before .before .before .before .before .before) (decode.Done (told c)) (c .before .d .given .1))
+
+all-so : (c : tie.After-all-of) → c .all-of .result ≡ allOf (told (c .before) .n)
+all-so c = c .all-of .ensures ∙ rw (can (c .before) .0 .side)
 
 is-large-requires : tie.Need-is-large-requires
 is-large-requires c κs = search needs
@@ -55,38 +74,17 @@ all-of-requires : tie.Need-all-of-requires
 all-of-requires c κs = search needs
 
 array-share-prefix-values : tie.Need-array-share-prefix-values
-array-share-prefix-values c =
-    let file = c .before .before .before .before .before .before .before .before .before .before .before .before .before .before .before .before .args .file .now in
-    let d = c .before .before .before .d .given .0 .0 in
-    let left : Tables = tables (c .before .before .before .before .before .before .before .before .decode .last .1 .0) (c .before .before .before .before .before .before .before .before .decode .last .1 .1 .0) (c .before .before .before .before .before .before .before .before .decode .last .1 .1 .1 .0) in
-    let q : Decodes file (zeros (allOf mostShownN)) (decode.Done d) left =
-    subst (λ (x : DecodeAnswer). Decodes file (zeros (allOf mostShownN)) x left) (c .before .before .before .d .given .1) (c .before .before .before .before .before .before .before .before .decode .ensures) in
-    let can = drawn-own file left d q in
-    let all : c .before .all-of .result ≡ allOf (d .n) = c .before .all-of .ensures ∙ rw (can .0 .side) in
-    omega (arith, can .3, all)
+array-share-prefix-values c = omega (arith, can (c .before .before) .3, all-so (c .before))
 
 slice-aggregate-put-picture : tie.Need-slice-aggregate-put-picture
 slice-aggregate-put-picture c =
-    let file = c .before .before .before .before .before .before .before .before .before .before .before .before .before .before .before .before .before .args .file .now in
-    let d = c .before .before .before .before .d .given .0 .0 in
-    let left : Tables = tables (c .before .before .before .before .before .before .before .before .before .decode .last .1 .0) (c .before .before .before .before .before .before .before .before .before .decode .last .1 .1 .0) (c .before .before .before .before .before .before .before .before .before .decode .last .1 .1 .1 .0) in
-    let q : Decodes file (zeros (allOf mostShownN)) (decode.Done d) left =
-    subst (λ (x : DecodeAnswer). Decodes file (zeros (allOf mostShownN)) x left) (c .before .before .before .before .d .given .1) (c .before .before .before .before .before .before .before .before .before .decode .ensures) in
-    let can = drawn-own file left d q in
-    let all : c .before .before .all-of .result ≡ allOf (d .n) = c .before .before .all-of .ensures ∙ rw (can .0 .side) in
-    let size : length (left .values) ≡ 4096 = c .before .before .before .before .before .before .before .before .before .decode .kept .1 .0 ∙ length-replicate 4096 (pos 0) in
-    sym (length-take-le _ (left .values) (omega (arith, can .3, all, size)))
+    let size : length (c .before .before .before .before .before .before .before .before .before .decode .last .1 .0) ≡ 4096 = c .before .before .before .before .before .before .before .before .before .decode .kept .1 .0 ∙ length-replicate 4096 (pos 0) in
+    sym (length-take-le _ (c .before .before .before .before .before .before .before .before .before .decode .last .1 .0) (omega (arith, can (c .before .before .before) .3, all-so (c .before .before), size)))
 
 put-picture-requires : tie.Need-put-picture-requires
 put-picture-requires c κs =
-    let file = c .before .before .before .before .before .before .before .before .before .before .before .before .before .before .before .before .before .args .file .now in
-    let d = c .before .before .before .before .d .given .0 .0 in
-    let left : Tables = tables (c .before .before .before .before .before .before .before .before .before .decode .last .1 .0) (c .before .before .before .before .before .before .before .before .before .decode .last .1 .1 .0) (c .before .before .before .before .before .before .before .before .before .decode .last .1 .1 .1 .0) in
-    let q : Decodes file (zeros (allOf mostShownN)) (decode.Done d) left =
-    subst (λ (x : DecodeAnswer). Decodes file (zeros (allOf mostShownN)) x left) (c .before .before .before .before .d .given .1) (c .before .before .before .before .before .before .before .before .before .decode .ensures) in
-    let can = drawn-own file left d q in
-    let all : c .before .before .all-of .result ≡ allOf (d .n) = c .before .before .all-of .ensures ∙ rw (can .0 .side) in
-    (subst (λ (k : ℕ). Drawn (d .n) (d .l) (take k (left .values))) (sym all) (can .0), can .1, can .2)
+    let d = told (c .before .before .before) in
+    (subst (λ (k : ℕ). Drawn (d .n) (d .l) (take k (left (c .before .before .before .before .before .before .before .before .before) .values))) (sym (all-so (c .before .before))) (can (c .before .before .before) .0), can (c .before .before .before) .1, can (c .before .before .before) .2)
 
 enum-known-why : tie.Need-enum-known-why
 enum-known-why c = search needs
@@ -99,16 +97,10 @@ same-length-2 c = search needs
 
 returns-2 : tie.Need-returns-2
 returns-2 c =
-    let file = c .before .before .before .before .before .before .before .before .before .before .before .before .before .before .before .before .before .before .before .before .args .file .now in
-    let d = c .before .before .before .before .before .before .before .d .given .0 .0 in
-    let left : Tables = tables (c .before .before .before .before .before .before .before .before .before .before .before .before .decode .last .1 .0) (c .before .before .before .before .before .before .before .before .before .before .before .before .decode .last .1 .1 .0) (c .before .before .before .before .before .before .before .before .before .before .before .before .decode .last .1 .1 .1 .0) in
-    let q : Decodes file (zeros (allOf mostShownN)) (decode.Done d) left =
-    subst (λ (x : DecodeAnswer). Decodes file (zeros (allOf mostShownN)) x left) (c .before .before .before .before .before .before .before .d .given .1) (c .before .before .before .before .before .before .before .before .before .before .before .before .decode .ensures) in
-    let can = drawn-own file left d q in
-    let all : c .before .before .before .before .before .all-of .result ≡ allOf (d .n) = c .before .before .before .before .before .all-of .ensures ∙ rw (can .0 .side) in (
-      shows-answer file (c .before .before .before .before .before .before .before .before .before .before .before .before .before .before .before .before .before .before .before .before .args .out .now) (c .before .before .put-picture .last .0) (c .before .before .put-picture .result) (decode.Done d) left
-          (sym (c .before .before .before .before .before .before .before .before .before .before .before .before .before .before .before .before .before .is-large .ensures) ∙ c .before .before .before .before .before .before .before .before .before .before .before .before .before .before .before .before .if1 .left) q
-          (puts-as (ap {B = List ℕ} (λ (k : ℕ). textOf (pictureLines d (take k (left .values)))) all) (c .before .before .put-picture .ensures .0)),
+    let d = told (c .before .before .before .before .before .before) in (
+      shows-answer (c .before .before .before .before .before .before .before .before .before .before .before .before .before .before .before .before .before .before .before .before .args .file .now) (c .before .before .before .before .before .before .before .before .before .before .before .before .before .before .before .before .before .before .before .before .args .out .now) (c .before .before .put-picture .last .0) (c .before .before .put-picture .result) (decode.Done d) (left (c .before .before .before .before .before .before .before .before .before .before .before .before))
+          (sym (c .before .before .before .before .before .before .before .before .before .before .before .before .before .before .before .before .before .is-large .ensures) ∙ c .before .before .before .before .before .before .before .before .before .before .before .before .before .before .before .before .if1 .left) (said (c .before .before .before .before .before .before .before .before .before .before .before .before) (decode.Done d) (c .before .before .before .before .before .before .before .d .given .1))
+          (puts-as (ap {B = List ℕ} (λ (k : ℕ). textOf (pictureLines d (take k (left (c .before .before .before .before .before .before .before .before .before .before .before .before) .values)))) (all-so (c .before .before .before .before .before))) (c .before .before .put-picture .ensures .0)),
       c .before .before .put-picture .ensures .1,
     )
 
@@ -117,13 +109,9 @@ same-length-3 c = search needs
 
 returns-3 : tie.Need-returns-3
 returns-3 c =
-    let file = c .before .before .before .before .before .before .before .before .before .before .before .before .before .before .before .before .before .before .args .file .now in
-    let why = c .before .before .before .before .before .why .given .0 .0 in
-    let left : Tables = tables (c .before .before .before .before .before .before .before .before .before .before .decode .last .1 .0) (c .before .before .before .before .before .before .before .before .before .before .decode .last .1 .1 .0) (c .before .before .before .before .before .before .before .before .before .before .decode .last .1 .1 .1 .0) in
-    let q : Decodes file (zeros (allOf mostShownN)) (decode.Refused why) left =
-    subst (λ (x : DecodeAnswer). Decodes file (zeros (allOf mostShownN)) x left) (c .before .before .before .before .before .why .given .1) (c .before .before .before .before .before .before .before .before .before .before .decode .ensures) in (
-      shows-answer file (c .before .before .before .before .before .before .before .before .before .before .before .before .before .before .before .before .before .before .args .out .now) (c .before .before .put-refusal .last .0) (c .before .before .put-refusal .result) (decode.Refused why) left
-          (sym (c .before .before .before .before .before .before .before .before .before .before .before .before .before .before .before .is-large .ensures) ∙ c .before .before .before .before .before .before .before .before .before .before .before .before .before .before .if1 .left) q
+    let why = c .before .before .before .before .before .why .given .0 .0 in (
+      shows-answer (c .before .before .before .before .before .before .before .before .before .before .before .before .before .before .before .before .before .before .args .file .now) (c .before .before .before .before .before .before .before .before .before .before .before .before .before .before .before .before .before .before .args .out .now) (c .before .before .put-refusal .last .0) (c .before .before .put-refusal .result) (decode.Refused why) (left (c .before .before .before .before .before .before .before .before .before .before))
+          (sym (c .before .before .before .before .before .before .before .before .before .before .before .before .before .before .before .is-large .ensures) ∙ c .before .before .before .before .before .before .before .before .before .before .before .before .before .before .if1 .left) (said (c .before .before .before .before .before .before .before .before .before .before) (decode.Refused why) (c .before .before .before .before .before .why .given .1))
           (puts-as (sym (text-one (refusedLine why))) (c .before .before .put-refusal .ensures .0)),
       c .before .before .put-refusal .ensures .1,
     )

@@ -5,6 +5,7 @@ use lib.ListN.{length}
 use Rattle.txpshow.proofs.read_input.Statement.{statement}
 use Rattle.txpshow.proofs.read_input.Tie as tie
 
+-- what was read is within the room
 abbrev Inv-loop : tie.InvT-loop
 Inv-loop bytes₀ got₀ bytes got = (length bytes ≡ length bytes₀) × (got ≤ length bytes)
 
