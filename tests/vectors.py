@@ -377,16 +377,57 @@ def damaged_headers(rng):
             yield 'header', bytes(damaged), None
 
 
-def show_cases():
+def show_cases(seed):
     """(kind, file) of files that only txpshow tells apart."""
-    header = b'TXP\0\1'
-    yield 'size', b'x' * 16_384
-    yield 'size', b'x' * 16_385
-    for N in (6, 7, 8, 9):
-        yield 'large', header + bytes((N, 1, 0)) + bytes(4)
-        yield 'large', header + bytes((N, 0, 99)) + bytes(4) + b'x'
-        yield 'large', header + bytes((N, 1, 0)) + bytes(3)
-        yield 'large', b'TXP\0\2' + bytes((N, 1, 0)) + bytes(4)
+    rng = random.Random('%d show' % seed)
+    yield from labelled_files()
+    yield from limit_files(rng)
+    # over 65,535: values, declared and used bits
+    for N, L in ((2, 1), (3, 2), (5, 3)):
+        P, bits = encode(N, L, random_array(rng, N, 24, 'dense'), NO_BUDGET)
+        for declared in (len(bits), 65_535, 65_536, 99_999, NO_BUDGET):
+            if declared >= len(bits):
+                yield 'numbers', write_file(N, L, P, declared, bits)
+    # raster and linear order differ; planes that are not finished; bits that
+    # are declared and not there
+    for N, L in shapes(6):
+        A = [i + 1 if i % 3 else -i - 1 for i in range(4 ** N)]
+        P, bits = encode(N, L, A, NO_BUDGET)
+        yield 'order', write_file(N, L, P, len(bits), bits)
+        for _ in range(4):
+            count = rng.randrange(len(bits))
+            yield 'unfinished', write_file(N, L, P, count, bits[:count])
+            count = count // 8 * 8
+            declared = rng.randint(count + 8, 2 * len(bits))
+            yield 'declared', write_file(N, L, P, declared, bits[:count])
+
+
+def labelled_files():
+    """Letters, version and N, each right or not, in files of about the
+    header's length."""
+    letters = (b'TXP', b'UXP', b'TYP', b'TXQ')
+    for N in (5, 6, 7, 8, 9):
+        for letter in letters:
+            for version in (1, 0, 2, 256, 257):
+                data = write_file(N, 1, 0, 8, [0] * 8, version, letter)
+                for count in (11, 12, 13):
+                    yield 'label', data[:count]
+        yield 'label', write_file(N, 0, 99, 0, [1])
+
+
+def limit_files(rng):
+    """About as many bytes as txpshow takes."""
+    P, bits = encode(6, 3, random_array(rng, 6, 24, 'full'), NO_BUDGET)
+    whole = write_file(6, 3, P, len(bits), bits)
+    yield 'size', whole
+    for size in (second.SHOW_BYTES, second.SHOW_BYTES + 1):
+        yield 'size', b'x' * size
+        yield 'size', whole + bytes(size - len(whole))
+        more = 8 * (size - second.HEADER_BYTES) - len(bits)
+        for declared in (len(bits) + more, len(bits) + more + 1):
+            yield 'size', write_file(6, 3, P, declared, bits + [0] * more)
+        for N in (7, 9):
+            yield 'size', write_file(N, 1, 0, 0, [0] * (len(bits) + more))
 
 
 def worst_cases():
@@ -510,7 +551,7 @@ def write(directory, seed):
         cases.append((kind, decode_line(data, lent)))
         if lent is None and number % (5 if len(data) < 250 else 40) == 0:
             write_show(number, kind, data)
-    for number, (kind, data) in enumerate(show_cases(), len(decodes)):
+    for number, (kind, data) in enumerate(show_cases(seed), len(decodes)):
         write_show(number, kind, data)
     for more in (worst_cases(), place_cases(seed), order_cases(seed),
                  float_cases(seed)):
