@@ -11,10 +11,10 @@ values alike. The exit status is 1 if anything differs.
 """
 
 import os
-import subprocess
 import sys
 
 import second
+import show
 from selftest import EZW, NO_BUDGET
 
 N, L = 3, 2
@@ -29,8 +29,7 @@ def rows(raster):
 
 def shown(command, data):
     """What a command prints for a file."""
-    return subprocess.run([command], input=data, capture_output=True,
-                          check=True).stdout.decode()
+    return show.run([command], data)[0].decode()
 
 
 def main(command='target/bin/txpshow'):

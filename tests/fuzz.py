@@ -10,11 +10,11 @@ was one.
 """
 
 import random
-import subprocess
 import sys
 from collections import Counter
 
 import second
+import show
 from arrays import STYLES, random_array, random_bits
 
 HEADER = second.HEADER_BYTES
@@ -97,16 +97,33 @@ def repad(rng, data):
     set_declared(data, len(bits))
 
 
-def enlarge(rng, data):
-    """About as many bytes as txpshow takes."""
-    data += bytes(max(0, 16_384 + rng.randint(-1, 1) - len(data)))
-    if rng.random() < 0.5:
-        set_declared(data, 8 * (len(data) - HEADER))
+def relabel(rng, data):
+    """Letters, version and N at once, each right or not: N about the largest
+    that is shown and the largest that there is."""
+    label = (rng.choice((b'TXP', b'TXP', b'TXp', b'TxP', b'tXP'))
+             + rng.choice((1, 1, 0, 2, 256, 257)).to_bytes(2, 'big')
+             + bytes((rng.choice((6, 7, 8, 9)),)))
+    data[:6] = label[:len(data)]
+
+
+def resize(rng, data):
+    """About as many bytes as the header has, or as txpshow takes."""
+    count = rng.choice((HEADER, HEADER, second.SHOW_BYTES)) + rng.randint(-1, 1)
+    data += bytes(max(0, count - len(data)))
+    del data[count:]
+    if count > HEADER and rng.random() < 0.5:
+        set_declared(data, 8 * (count - HEADER))
 
 
 CHANGES = (flip_body_bit, flip_bit, change_size, shorten, lengthen,
-           change_declared, random_tail, repad, enlarge)
-WEIGHTS = (20, 5, 5, 15, 5, 10, 15, 15, 1)
+           change_declared, random_tail, repad, relabel, resize)
+WEIGHTS = (20, 5, 5, 15, 5, 10, 15, 15, 10, 10)
+
+
+def answer_of(text):
+    """What an output says, without its figures."""
+    words = text.split()
+    return words[0] if words[0] == 'TXP' else ' '.join(words[:2])
 
 
 def changed_file(rng):
@@ -125,18 +142,14 @@ def main(seed, count, command):
     for case in range(count):
         data = changed_file(rng)
         wanted = second.show(data)
-        first = wanted.split()
-        answers[first[0] if first[0] != 'refused' else ' '.join(first[:2])] += 1
-        done = subprocess.run(command, input=data, stdout=subprocess.PIPE,
-                              check=False)
-        if done.stdout != wanted.encode() or done.returncode < 0:
+        answers[answer_of(wanted)] += 1
+        got, status = show.run(command, data)
+        if got != wanted.encode() or status < 0:
             different += 1
             name = 'fuzz-%d-%d.txp' % (seed, case)
             with open(name, 'wb') as file:
                 file.write(data)
-            print('%s: exit status %d\n  got    %r\n  wanted %r'
-                  % (name, done.returncode, done.stdout[:300],
-                     wanted[:300].encode()))
+            print(show.told(name, got, status, wanted.encode()))
     print('%d files, %d different' % (count, different))
     for answer, number in sorted(answers.items()):
         print('  %-10s %d' % (answer, number))

@@ -568,6 +568,19 @@ def decode_file(data, lent=None):
     return decoded if isinstance(decoded, Refused) else (header, decoded)
 
 
+def decode_body(N, L, P, body, usable, lent):
+    """What the first usable bits of a body decode to, or a refusal. lent gives
+    the lengths of the lent values, precisions and marks."""
+    refused = check_sizes(N, L)
+    if refused:
+        return refused
+    if P > PLANE_LIMIT:
+        return Refused(9, 0)
+    if min(lent) < 4 ** N:
+        return Refused(5, 0)
+    return decode(N, L, P, unpack(body)[:usable])
+
+
 def too_large(data):
     """What txpshow does not take: "A file over 16,384 bytes, or one of at
     least 12 bytes with right letters and version and N of 7 or 8"."""

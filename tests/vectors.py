@@ -2,56 +2,10 @@
 
     python3 tests/second.py vectors DIR SEED
 
-DIR/stdin holds the cases, DIR/stdout what the program `second` prints where
-all of them agree, and DIR/txp some of the files as NUMBER-KIND.txp with what
-txpshow prints for them as NUMBER-KIND.out. The gate keeps the first two as
-crates/second/stdin and crates/second/stdout.
-
-The format of the cases:
-
-- One case a line. Each line ends with a newline. Fields have one space between
-  them, and none before or after. Numbers are decimal, without leading zeros; a
-  minus sign stands before a negative one.
-- A line that begins with # is a remark. It names the cases after it.
-- The first field of any other line is the kind, one letter. A fixed count of
-  numbers from 0 to 2^32-1 follows, then the kind's lists.
-- A list is its length, then its items. An item is a number, or NUMBER*COUNT
-  for COUNT equal numbers; COUNT is at least 2. The counts of the items add up
-  to the length. An empty list is 0 alone.
-- A list of bytes is its length and, if that is not 0, one field of two
-  hexadecimal digits a byte, in small letters.
-- Arrays and tables are in linear order, but for the raster side of O. Bits and
-  places count from 0.
-
-    E N L BUDGET DESC GRAND MARKS OUT  REFUSAL PLACE PLANES BITS BYTES
-      coefficients desc grand marks out
-        txp::encode. DESC to OUT are the lengths lent, OUT in bytes; BYTES is
-        the length of the file. coefficients is the input, a list from -2^31 to
-        2^31-1; out is a list of bytes.
-    D VALUES PRECISIONS MARKS  REFUSAL PLACE N L P DECLARED USED FINISHED ERROR
-      file values precisions marks
-        txp::decode. VALUES to MARKS are the lengths lent; FINISHED is the
-        number of planes finished, ERROR the worst error. file is the input, a
-        list of bytes.
-    W N L P  REFUSAL PLACE BITS
-        room::worst_body.
-    P N AT  REFUSAL PLACE LINEAR RASTER
-        One place: LINEAR is the linear place of the raster place AT, RASTER
-        the raster place of the linear place AT.
-    O WAY N LENT  REFUSAL PLACE
-      from to
-        A whole array in the other order: places::reorder_to_linear if WAY is
-        0, places::reorder_to_raster if it is 1. LENT is the length of the
-        output.
-    F NEGATIVE SIZE  REFUSAL PLACE FLOAT
-        coef::float_of. NEGATIVE is 1 for a number below 0 and else 0, SIZE its
-        magnitude, FLOAT the bit pattern of the 32-bit float.
-
-REFUSAL is the number for no and PLACE the place reported, both 0 if there is
-none; all other figures of a refusal are 0. The lists desc, grand, marks, out,
-values, precisions, marks and to are what the first entries of a lent table
-hold after the call. All other entries hold what they held before: after a
-refusal the list is empty, but for 12 and 13, after which it is I zeros.
+DIR/stdin holds the cases, DIR/stdout what the program `second` prints for
+them, and DIR/txp some of the files as NUMBER-KIND.txp with what txpshow prints
+for them as NUMBER-KIND.out. The gate keeps the first two as
+crates/second/stdin and crates/second/stdout. VECTORS.md has their format.
 
 The remarks 12a to 12d are the contradictions: all of plane P-1 is 0; four
 children of a split set without a GRAND are 0; a GRAND is 0 whose DESC was split
@@ -61,6 +15,7 @@ and whose children are 0; the four sets of a split GRAND are 0.
 import os
 import random
 import struct
+from collections import Counter, namedtuple
 from itertools import groupby
 
 import second
@@ -68,9 +23,42 @@ from arrays import STYLES, random_array, random_bits
 from second import Decoder, Refused, encode, write_file
 from selftest import EZW, NO_BUDGET, SAMPLE, clash_kind
 
-# The kinds of case, and what the program's text calls them.
-KINDS = (('E', 'encode'), ('D', 'decode'), ('W', 'worst'), ('P', 'place'),
-         ('O', 'order'), ('F', 'float'))
+# A case: the letter of its call, the numbers that go in, the answer, the
+# lengths lent of the TABLES, the arrays that go in, and what the first entries
+# of each table hold after the call.
+Case = namedtuple('Case', 'letter numbers answer lent ints file '
+                  'desc grand marks bytes values')
+TABLES = 'desc', 'grand', 'marks', 'bytes', 'values'
+
+# The numbers of an answer: the result of the call, then the fields of
+# `struct txp_answer` in the order of include/txp.h.
+ANSWER = ('result', 'refusal', 'place', 'n', 'l', 'planes', 'declared', 'bits',
+          'bytes', 'finished', 'error', 'parts', 'splits', 'found', 'negative',
+          'value')
+
+# Entries past a table's lent end that are compared too.
+PAST = 64
+
+
+def before(i):
+    """What entry i of a lent table holds before a call; a byte is the low one
+    of its four."""
+    return 0xa00000a0 + i % 65536 * 256 + i % 93
+
+
+def answer(refused=None, **numbers):
+    """An answer: a refusal, or the numbers named. All others are 0."""
+    if refused:
+        numbers = {'result': refused.number, 'refusal': refused.number,
+                   'place': refused.place}
+    return [numbers.get(name, 0) for name in ANSWER]
+
+
+def case(letter, numbers, answered, ints=(), file=b'', **tables):
+    """A case; a table is named with its lent length and its list."""
+    lists = [tables.get(name, (0, ())) for name in TABLES]
+    return Case(letter, numbers, answered, [lent for lent, _ in lists],
+                ints, file, *(own for _, own in lists))
 
 
 def listed(numbers):
@@ -83,32 +71,44 @@ def listed(numbers):
     return fields
 
 
-def listed_bytes(data):
-    """The fields of a list of bytes."""
-    return [str(len(data)), data.hex()] if data else ['0']
+def line(one):
+    """The line of a case. Empty lists at its end are left out."""
+    lists = [listed(items) for items in one[1:]]
+    while lists[-1] == ['0']:
+        lists.pop()
+    return ' '.join([one.letter] + sum(lists, [])) + '\n'
 
 
-def line(kind, numbers, *lists):
-    """One case."""
-    fields = [kind] + [str(number) for number in numbers]
-    for items in lists:
-        fields += (listed_bytes if isinstance(items, bytes) else listed)(items)
-    return ' '.join(fields) + '\n'
-
-
-def encode_line(N, L, budget, A, lent=None):
-    """The line of an encode case."""
+def encode_case(N, L, budget, A, lent=None):
+    """A call of txp_encode."""
     if lent is None:
         P = second.plane_count(A)
         lent = (4 ** N // 4, 4 ** N // 16, 4 ** N,
                 second.output_bytes(N, L, P, budget))
-    answer = second.encode_file(N, L, A, budget, lent)
-    numbers = (N, L, budget) + lent
-    if isinstance(answer, Refused):
-        return line('E', numbers + answer + (0, 0, 0), A, [], [], [], b'')
-    return line('E', numbers + (0, 0, answer.P, len(answer.bits),
-                                len(answer.file)),
-                A, answer.desc, answer.grand, answer.marks, answer.file)
+    got = second.encode_file(N, L, A, budget, lent)
+    if isinstance(got, Refused):
+        answered, tables = answer(got), [()] * 4
+    else:
+        answered = answer(planes=got.P, bits=len(got.bits),
+                          bytes=len(got.file))
+        tables = got.desc, got.grand, got.marks, got.file
+    return case('E', (N, L, budget), answered, A,
+                **dict(zip(TABLES, zip(lent, tables))))
+
+
+def encode_body_case(one, offset):
+    """The call of txp_encode_body that writes the same body at another place,
+    and no header."""
+    N, L, budget = one.numbers
+    moved = offset - second.HEADER_BYTES
+    lent = one.lent[:3] + [one.lent[3] + moved] + one.lent[4:]
+    numbers = list(one.answer)
+    numbers[ANSWER.index('bytes')] = 0
+    out = [before(i) & 255 for i in range(offset)]
+    out += one.bytes[second.HEADER_BYTES:]
+    return one._replace(letter='B', numbers=(N, L, offset, budget),
+                        answer=numbers, lent=lent,
+                        bytes=out if one.bytes else ())
 
 
 def lent_for(data):
@@ -119,19 +119,65 @@ def lent_for(data):
     return 16
 
 
-def decode_line(data, lent=None):
-    """The line of a decode case."""
+def decode_case(data, lent=None):
+    """A call of txp_decode."""
     if lent is None:
         lent = (lent_for(data),) * 3
-    answer = second.decode_file(data, lent)
-    if isinstance(answer, Refused):
-        cleared = [0] * 4 ** data[5] if answer.number in (12, 13) else []
-        return line('D', lent + answer + (0,) * 7, data,
-                    cleared, cleared, cleared)
-    (N, L, P, declared, _), decoded = answer
-    return line('D', lent + (0, 0, N, L, P, declared, decoded.used,
-                             decoded.finished, decoded.error),
-                data, decoded.values, decoded.precisions, decoded.marks)
+    got = second.decode_file(data, lent)
+    if isinstance(got, Refused):
+        tables = cleared(got, data[5:6])
+        answered = answer(got)
+    else:
+        (N, L, P, declared, _), decoded = got
+        tables = decoded.values, decoded.precisions, decoded.marks
+        answered = answer(n=N, l=L, planes=P, declared=declared,
+                          **decoded_numbers(decoded))
+    return case('D', (), answered, (), data,
+                **dict(zip(('values', 'bytes', 'marks'), zip(lent, tables))))
+
+
+def decoded_numbers(decoded):
+    """The numbers of what was decoded that file and body have."""
+    return {'bits': decoded.used, 'finished': decoded.finished,
+            'error': decoded.error}
+
+
+def cleared(refused, side):
+    """What a refusal leaves in values, precisions and marks: I zeros after 12
+    and 13."""
+    return ([0] * 4 ** side[0] if refused.number in (12, 13) else (),) * 3
+
+
+def decode_body_case(N, L, P, body, usable, lent):
+    """A call of txp_decode_body."""
+    got = second.decode_body(N, L, P, body, usable, lent)
+    if isinstance(got, Refused):
+        tables, answered = cleared(got, (N,)), answer(got)
+    else:
+        tables = got.values, got.precisions, got.marks
+        answered = answer(**decoded_numbers(got))
+    return case('C', (N, L, P, usable), answered, (), body,
+                **dict(zip(('values', 'bytes', 'marks'), zip(lent, tables))))
+
+
+def summaries_case(one):
+    """The call of txp_summaries on an encode case's array."""
+    return one._replace(letter='S', numbers=one.numbers[:2], answer=answer(),
+                        lent=one.lent[:2] + [0, 0, 0], marks=(), bytes=())
+
+
+def figures_case(one, plane):
+    """The call of txp_figures on an encode case's array."""
+    N, L, _ = one.numbers
+    A, size = one.ints, [abs(a) for a in one.ints]
+    bits = second.plane_bits(second.shape_of(N, L), A, size, one.desc,
+                             one.grand, plane)
+    parts, splits = second.plane_figures(N, L, A, plane)
+    found = sum(1 << plane <= m < 2 << plane for m in size)
+    return summaries_case(one)._replace(
+        letter='G', numbers=(N, L, plane),
+        answer=answer(bits=len(bits), parts=parts, splits=splits,
+                      found=found))
 
 
 def shapes(largest):
@@ -377,34 +423,150 @@ def damaged_headers(rng):
             yield 'header', bytes(damaged), None
 
 
-def show_cases():
+def show_cases(seed):
     """(kind, file) of files that only txpshow tells apart."""
-    header = b'TXP\0\1'
-    yield 'size', b'x' * 16_384
-    yield 'size', b'x' * 16_385
-    for N in (6, 7, 8, 9):
-        yield 'large', header + bytes((N, 1, 0)) + bytes(4)
-        yield 'large', header + bytes((N, 0, 99)) + bytes(4) + b'x'
-        yield 'large', header + bytes((N, 1, 0)) + bytes(3)
-        yield 'large', b'TXP\0\2' + bytes((N, 1, 0)) + bytes(4)
+    rng = random.Random('%d show' % seed)
+    yield from labelled_files()
+    yield from limit_files(rng)
+    # over 65,535: values, declared and used bits
+    for N, L in ((2, 1), (3, 2), (5, 3)):
+        P, bits = encode(N, L, random_array(rng, N, 24, 'dense'), NO_BUDGET)
+        for declared in (len(bits), 65_535, 65_536, 99_999, NO_BUDGET):
+            if declared >= len(bits):
+                yield 'numbers', write_file(N, L, P, declared, bits)
+    # raster and linear order differ; planes that are not finished; bits that
+    # are declared and not there
+    for N, L in shapes(6):
+        A = [i + 1 if i % 3 else -i - 1 for i in range(4 ** N)]
+        P, bits = encode(N, L, A, NO_BUDGET)
+        yield 'order', write_file(N, L, P, len(bits), bits)
+        for _ in range(4):
+            count = rng.randrange(len(bits))
+            yield 'unfinished', write_file(N, L, P, count, bits[:count])
+            count = count // 8 * 8
+            declared = rng.randint(count + 8, 2 * len(bits))
+            yield 'declared', write_file(N, L, P, declared, bits[:count])
+
+
+def labelled_files():
+    """Letters, version and N, each right or not, in files of about the
+    header's length."""
+    letters = (b'TXP', b'UXP', b'TYP', b'TXQ')
+    for N in (5, 6, 7, 8, 9):
+        for letter in letters:
+            for version in (1, 0, 2, 256, 257):
+                data = write_file(N, 1, 0, 8, [0] * 8, version, letter)
+                for count in (11, 12, 13):
+                    yield 'label', data[:count]
+        yield 'label', write_file(N, 0, 99, 0, [1])
+
+
+def limit_files(rng):
+    """About as many bytes as txpshow takes."""
+    P, bits = encode(6, 3, random_array(rng, 6, 24, 'full'), NO_BUDGET)
+    whole = write_file(6, 3, P, len(bits), bits)
+    yield 'size', whole
+    for size in (second.SHOW_BYTES, second.SHOW_BYTES + 1):
+        yield 'size', b'x' * size
+        yield 'size', whole + bytes(size - len(whole))
+        more = 8 * (size - second.HEADER_BYTES) - len(bits)
+        for declared in (len(bits) + more, len(bits) + more + 1):
+            yield 'size', write_file(6, 3, P, declared, bits + [0] * more)
+        for N in (7, 9):
+            yield 'size', write_file(N, 1, 0, 0, [0] * (len(bits) + more))
+
+
+def coder_cases(seed, decodes):
+    """(kind, case) of the calls on files and bodies, on summaries and on
+    figures; decodes are the cases of decode_cases."""
+    rng = random.Random('%d body' % seed)
+    encoded = [(kind, encode_case(*rest))
+               for kind, *rest in encode_cases(seed)]
+    decoded = [(kind, decode_case(*rest)) for kind, *rest in decodes]
+    yield from encoded
+    yield from decoded
+    for kind, one in encoded[::9]:
+        offset = rng.choice((0, 0, 1, 12, 13, rng.randint(0, 99)))
+        if one.lent[3] + offset >= second.HEADER_BYTES:
+            yield kind, encode_body_case(one, offset)
+    for kind, one in decoded[::9]:
+        if not 0 < one.answer[0] < 12:
+            N, L, P = one.file[5:8]
+            body = one.file[second.HEADER_BYTES:]
+            declared = int.from_bytes(one.file[8:12], 'big')
+            lent = one.lent[4], one.lent[3], one.lent[2]
+            yield kind, decode_body_case(N, L, P, body, declared, lent)
+    yield from body_limits(rng)
+    for kind, one in encoded[4::9]:
+        if not one.answer[0]:
+            yield kind, summaries_case(one)
+            top = rng.choice((one.answer[ANSWER.index('planes')], 23))
+            yield kind, figures_case(one, rng.randint(0, top))
+    yield from table_refusals()
+
+
+def body_limits(rng):
+    """Usable bits that end before the body does, and refusals of the calls on
+    a body."""
+    for N, L in shapes(3):
+        I = 4 ** N
+        data, bits = whole_file(rng, N, L, 5)
+        body = data[second.HEADER_BYTES:]
+        for usable in list(range(0, len(bits), 5)) + [
+                len(bits) - 1, len(bits), len(bits) + 1, 8 * len(body),
+                NO_BUDGET]:
+            yield 'usable', decode_body_case(N, L, 5, body, usable, (I,) * 3)
+    for N, L, P, lent in ((1, 1, 25, 0), (9, 0, 25, 0), (2, 0, 25, 0),
+                          (2, 2, 25, 0), (2, 1, 25, 0), (2, 1, 24, 15),
+                          (3, 2, 24, 63), (2, 1, 2 ** 32 - 1, 16)):
+        yield 'refused', decode_body_case(N, L, P, b'\xff', 8, (lent,) * 3)
+    for offset, room in ((0, 5), (7, 11), (12, 16), (12, 3), (99, 12),
+                         (2 ** 32 - 1, 20)):
+        got = second.encode_file(2, 1, SAMPLE, 37,
+                                 (4, 1, 16, room - offset + 12))
+        if isinstance(got, Refused):
+            yield 'refused', case('B', (2, 1, offset, 37), answer(got), SAMPLE,
+                                  desc=(4, ()), grand=(1, ()),
+                                  marks=(16, ()), bytes=(room, ()))
+
+
+def table_refusals():
+    """Refusals of summaries and figures: "1 to 6 in that order", and 9 for a
+    plane that is none."""
+    over = [0] * 5 + [16_777_216] * 11
+    for N, L, A, desc, grand, plane, refused in (
+            (1, 0, over, 0, 0, 24, Refused(1, 0)),
+            (9, 1, over, 0, 0, 24, Refused(1, 0)),
+            (2, 2, over[1:], 0, 0, 24, Refused(2, 0)),
+            (2, 1, over[1:], 0, 0, 24, Refused(3, 0)),
+            (2, 1, over, 0, 0, 24, Refused(4, 5)),
+            (2, 1, SAMPLE, 3, 1, 24, Refused(5, 0)),
+            (2, 1, SAMPLE, 4, 0, 24, Refused(5, 0)),
+            (2, 1, SAMPLE, 4, 1, 24, Refused(9, 0)),
+            (2, 1, SAMPLE, 4, 1, 2 ** 32 - 1, Refused(9, 0))):
+        lent = {'desc': (desc, ()), 'grand': (grand, ())}
+        if refused.number != 9:
+            yield 'refused', case('S', (N, L), answer(refused), A, **lent)
+        yield 'refused', case('G', (N, L, plane), answer(refused), A, **lent)
 
 
 def worst_cases():
-    """(kind, line) of each worst body."""
+    """(kind, case) of each worst body."""
     for N, L in shapes(8):
         for P in range(25):
             bits = second.worst_body(N, L, P)
-            yield 'taken', line('W', (N, L, P, 0, 0, bits))
+            yield 'taken', case('W', (N, L, P), answer(bits=bits))
     # "1 to 6 in that order", and 9 for P as in decoding: 1, 2, 9
     for N, L, P in ((0, 1, 1), (1, 0, 25), (9, 1, 3), (2 ** 32 - 1, 1, 1),
                     (2, 0, 25), (2, 2, 3), (8, 8, 99), (3, 2 ** 32 - 1, 0),
                     (2, 1, 25), (8, 7, 25), (5, 2, 2 ** 32 - 1)):
         refused = second.check_sizes(N, L) or Refused(9, 0)
-        yield 'refused', line('W', (N, L, P) + refused + (0,))
+        yield 'refused', case('W', (N, L, P), answer(refused))
 
 
 def place_cases(seed):
-    """(kind, line) of each single place."""
+    """(kind, case) of each single place: I asks for the linear place of a
+    raster place, R for the raster place of a linear one."""
     rng = random.Random('%d place' % seed)
     for N in range(2, 9):
         I = 4 ** N
@@ -414,19 +576,23 @@ def place_cases(seed):
         chosen = range(I) if N == 2 else sorted(
             {0, 1, 2 ** N - 1, 2 ** N, I // 2, I - 2 ** N, I - 1}
             | {rng.randrange(I) for _ in range(20)})
-        for at in chosen:
-            yield 'N %d' % N, line('P', (N, at, 0, 0, raster[at], linear[at]))
-        for at in (I, I + 1, 2 ** 31, 2 ** 32 - 1):
-            yield 'refused3', line('P', (N, at, 3, 0, 0, 0))
+        for letter, places in (('I', raster), ('R', linear)):
+            for at in chosen:
+                yield 'N %d' % N, case(letter, (N, at),
+                                       answer(value=places[at]))
+            for at in (I, I + 1, 2 ** 31, 2 ** 32 - 1):
+                yield 'refused3', case(letter, (N, at), answer(Refused(3, 0)))
     for N in (0, 1, 9, 255, 2 ** 32 - 1):
         for at in (0, 2 ** 32 - 1):
-            yield 'refused1', line('P', (N, at, 1, 0, 0, 0))
+            for letter in 'IR':
+                yield 'refused1', case(letter, (N, at), answer(Refused(1, 0)))
 
 
 def order_cases(seed):
-    """(kind, line) of each whole array in the other order."""
+    """(kind, case) of each whole array in the other order: O to linear order,
+    Q to raster order."""
     rng = random.Random('%d order' % seed)
-    orders = (second.to_linear, second.to_raster)
+    orders = (('O', second.to_linear), ('Q', second.to_raster))
     for N in range(2, 9):
         I = 4 ** N
         arrays = [list(range(I))] if N <= 6 else []
@@ -434,58 +600,202 @@ def order_cases(seed):
                    if N < 7 else random_array(rng, N, 24, 'single')
                    for _ in range(3)]
         for A in arrays:
-            for way, order in enumerate(orders):
-                lent = I + rng.choice((0, 0, 1, 7))
-                yield 'N %d' % N, line('O', (way, N, lent, 0, 0), A,
-                                       order(N, A))
+            for letter, order in orders:
+                lent = I + rng.choice((0, 0, 1, 7)) if N < 8 else I
+                yield 'N %d' % N, case(letter, (N,), answer(), A,
+                                       values=(lent, order(N, A)))
     limits = [-2 ** 31, 2 ** 31 - 1, 16_777_216, 0] * 4
-    for way, order in enumerate(orders):
-        yield 'limits', line('O', (way, 2, 16, 0, 0), limits, order(2, limits))
+    for letter, order in orders:
+        yield 'limits', case(letter, (2,), answer(), limits,
+                             values=(16, order(2, limits)))
         for N, count, lent, number in (
                 (1, 4, 4, 1), (9, 16, 16, 1), (2 ** 32 - 1, 16, 0, 1),
                 (2, 15, 15, 3), (2, 17, 17, 3), (3, 16, 0, 3), (2, 0, 16, 3),
                 (2, 16, 15, 5), (3, 64, 63, 5), (4, 256, 0, 5)):
-            yield 'refused', line('O', (way, N, lent, number, 0),
-                                  list(range(count)), [])
+            yield 'refused', case(letter, (N,), answer(Refused(number, 0)),
+                                  range(count), values=(lent, ()))
 
 
-def float_cases(seed):
-    """(kind, line) of each coefficient handed out as a float."""
+def number_cases(seed):
+    """(kind, case) of the calls on one number, and on the planes of any
+    array."""
     rng = random.Random('%d float' % seed)
     limit = second.COEFFICIENT_LIMIT
-    taken = {1 << k for k in range(24)} | {(1 << k) - 1 for k in range(25)}
-    taken |= {limit - 1, limit - 2} | {rng.randint(0, limit)
+    sizes = {1 << k for k in range(24)} | {(1 << k) - 1 for k in range(25)}
+    sizes |= {limit - 1, limit - 2} | {rng.randint(0, limit)
                                        for _ in range(50)}
-    for size in sorted(taken):
-        for value in sorted({size, -size}):
-            pattern, = struct.unpack('>I', struct.pack('>f', value))
-            yield 'taken', line('F', (int(value < 0), size, 0, 0, pattern))
-    for size in (limit + 1, limit + 2, 2 ** 25, 2 ** 31 - 1, 2 ** 31):
-        for negative in (0, 1):
-            if size < 2 ** 31 or negative:
-                yield 'refused4', line('F', (negative, size, 4, 0, 0))
+    sizes |= {limit + 1, limit + 2, 2 ** 25, 2 ** 31 - 1, 2 ** 31}
+    for size in sorted(sizes):
+        for x in sorted({size, -size} - {2 ** 31}):
+            yield from one_number(x, size <= limit)
+        for negative in (0, 1, 2, 2 ** 32 - 1):
+            refused = Refused(4, 0) if size > limit else None
+            joined = () if refused else [-size if negative else size]
+            yield 'taken', case('J', (negative, size), answer(refused),
+                                values=(1, joined))
+    for A in ([], [0], [1], [-1, 0], [2 ** 31 - 1], [-2 ** 31, 5],
+              [7, -8, 3], SAMPLE):
+        P = second.plane_count(A) if A else 0
+        yield 'any', case('P', (), answer(planes=P), A)
+
+
+def one_number(x, taken):
+    """Sign, magnitude and both, and the float, of one number."""
+    yield 'any', case('N', (), answer(value=int(x < 0)), [x])
+    yield 'any', case('M', (), answer(value=abs(x)), [x])
+    # the float is at first a half
+    pattern, = struct.unpack('>I', struct.pack('>f', x if taken else 0.5))
+    refused = None if taken else Refused(4, 0)
+    kind = 'taken' if taken else 'refused4'
+    yield kind, case('T', (), answer(refused, negative=int(x < 0),
+                                     value=abs(x)), [x])
+    yield kind, case('F', (), answer(refused), [x], desc=(1, [pattern]))
+
+
+def small_cases():
+    """(kind, case) of sizes and of bits."""
+    for N in list(range(12)) + [255, 256, 2 ** 32 - 1]:
+        side = 2 <= N <= 8
+        yield 'any', case('K', (N,), answer(value=int(side)))
+        yield 'any', case('A', (N,), answer(value=4 ** N if side else 0))
+        for L in list(range(11)) + [256, 2 ** 32 - 1]:
+            levels = 1 <= L < N
+            both = side and levels
+            yield 'any', case('L', (N, L), answer(value=int(levels)))
+            yield 'any', case('Z', (N, L),
+                              answer(value=4 ** (N - L) if both else 0))
+    for x in (0, 1, 0x9e3779b9, 2 ** 32 - 1):
+        for b in list(range(34)) + [64, 256, 2 ** 32 - 1]:
+            yield 'any', case('X', (x, b), answer(value=x >> b & 1))
+    body = bytes((0xa5, 0x3c, 0xff, 0x00, 0x81))
+    bits = second.unpack(body)
+    for at in list(range(42)) + [2 ** 32 - 1]:
+        for end in (0, 7, 8, 23, 40, 41, 2 ** 32 - 1):
+            numbers = ({'bits': 1, 'value': bits[at]} if at < min(end, 40)
+                       else {})
+            yield 'any', case('V', (at, end), answer(**numbers), (), body)
+    for at in list(range(26)) + [2 ** 32 - 1]:
+        for x in (0, 1, 2, 2 ** 32 - 1):
+            after = [before(i) & 255 for i in range(3)]
+            if at < 24:
+                keep = after[at // 8] >> 8 - at % 8 << 8 - at % 8
+                after[at // 8] = keep | (x > 0) << 7 - at % 8
+            yield 'any', case('U', (at, x), answer(), bytes=(3, after))
+
+
+# Cases that must differ, and lines that are none.
+
+def damaged(one):
+    """(what, case) of a case with one thing wrong: each number of the answer;
+    of each table its first and last own entry, one entry fewer, and the
+    entries past its own, past the lent end and the last that is compared."""
+    for place, name in enumerate(ANSWER):
+        yield name, one._replace(answer=[
+            number ^ (place == k) for k, number in enumerate(one.answer)])
+    for name, lent in zip(TABLES, one.lent):
+        own = list(getattr(one, name))
+
+        def wrong(place):
+            """The table's entries up to a place, whose entry is wrong."""
+            held = [held_before(name, i) for i in range(place + 1)]
+            held[:len(own)] = own[:place + 1]
+            held[place] ^= 1
+            return held
+
+        if lent == 0:
+            continue
+        if own:
+            if own[-1] != held_before(name, len(own) - 1):
+                yield name + ' shorter', one._replace(**{name: own[:-1]})
+            for place in sorted({0, len(own) - 1}):
+                yield name + ' entry', one._replace(
+                    **{name: wrong(place) + own[place + 1:]})
+        for place in sorted({len(own), lent, lent + PAST - 1}):
+            yield name + ' past', one._replace(**{name: wrong(place)})
+
+
+def held_before(name, i):
+    """What entry i of a table holds before a call, as its lists have it."""
+    x = before(i)
+    if name in ('marks', 'bytes'):
+        return x & 255
+    return x - 2 ** 32 if name == 'values' else x
+
+
+def damaged_cases(cases):
+    """(kind, case) of cases that must differ: a taken and a refused case of
+    each letter, each with one thing wrong."""
+    over = list(SAMPLE)
+    over[7] = 16_777_216
+    lent = 6, 3, 18, 40
+    _, bits = encode(2, 1, SAMPLE, NO_BUDGET)
+    taken = encode_case(2, 1, 30, SAMPLE, lent)
+    chosen = [taken, encode_case(2, 1, 30, over, lent),
+              encode_body_case(taken, 5),
+              encode_body_case(encode_case(2, 1, 30, over, lent), 5),
+              summaries_case(taken), figures_case(taken, 1),
+              case('O', (2,), answer(), SAMPLE,
+                   values=(18, second.to_linear(2, SAMPLE))),
+              case('Q', (2,), answer(), SAMPLE,
+                   values=(18, second.to_raster(2, SAMPLE)))]
+    for data in (write_file(2, 1, 3, 50, bits[:24]),
+                 write_file(2, 1, 3, 39, bits + [1, 0]),
+                 write_file(2, 1, 3, 20, [0] * 20),
+                 b'TXP\0\2' + bytes(7)):
+        chosen.append(decode_case(data, (17, 18, 19)))
+        if data[4] == 1:
+            chosen.append(decode_body_case(
+                2, 1, 3, data[second.HEADER_BYTES:],
+                int.from_bytes(data[8:12], 'big'), (17, 18, 19)))
+    letters = {one.letter for one in chosen if not one.answer[0]}
+    refused = {one.letter for one in chosen if one.answer[0]}
+    for _, one in cases:
+        known = refused if one.answer[0] else letters
+        if one.letter not in known:
+            known.add(one.letter)
+            chosen.append(one)
+    for one in chosen:
+        for what, wrong in damaged(one):
+            yield 'damaged: ' + what, wrong
+
+
+# Lines that are no case.
+MALFORMED = (
+    '', ' ', 'Y', 'e 3 2 1 3', 'WW 3 2 1 3', 'W3 2 1 3', 'W  3 2 1 3',
+    'W 3 2 1', 'W 3 2 1 3 ', 'W 3 2 1 3 4', 'W 5 2 1 3 0 0', 'W 3 2 1 x',
+    'W 3 2 1 3x', 'W 3 2 1 4294967296', 'W 3 2 1 -2147483649', 'W 3 2 1 -0',
+    'W 3 2 1 -', 'W 3 2 1 +3', 'W 3 2 1 3*0', 'W 3 2 1*3', 'W 3 2 1*',
+    'W 3 2 1*-1', 'W -1', 'W 3 2 1 3 17 0*17', 'W 3 2 1 3 16 0*15',
+    'W 3 2 1 3 16 0*7 58 0*8 6 0*6', 'W 3 2 1 3 16 0*7 58 0*8 0 0 0 0 0 0 0 0 0')
 
 
 def remarked(cases):
-    """The lines of (kind, line) cases, each group of one kind after a remark,
-    and the number of remarks."""
-    lines, remarks, last = [], 0, None
-    for kind, text in cases:
-        if kind != last:
-            lines.append('# %s %s\n' % (text[0], kind))
-            remarks += 1
-            last = kind
-        lines.append(text)
-    return lines, remarks
+    """The lines of (kind, case) cases, each group of one kind after a
+    remark."""
+    lines, last = [], None
+    for kind, one in cases:
+        if (one.letter, kind) != last:
+            lines.append('# %s %s\n' % (one.letter, kind))
+            last = one.letter, kind
+        lines.append(line(one))
+    return lines
 
 
-def expected(lines, remarks):
-    """What the program prints if every case agrees."""
-    text = ''
-    for letter, name in KINDS:
-        count = sum(one[0] == letter for one in lines)
-        text += '%s %d agree %d\n' % (name, count, count)
-    return text + 'remarks %d\nmalformed 0\n' % remarks
+def expected(good, wrong, malformed):
+    """What the program prints for good lines, then lines that must differ,
+    then malformed ones."""
+    told, number = '', len(good)
+    for lines, what in ((wrong, 'differs'), (malformed, 'malformed')):
+        for one in lines:
+            number += 1
+            if one[0] != '#':
+                told += '%s line %d\n' % (what, number)
+    agree = Counter(one[0] for one in good)
+    differ = Counter(one[0] for one in wrong)
+    counts = ''.join('%s %d agree %d\n' % (letter, agree[letter]
+                                           + differ[letter], agree[letter])
+                     for letter in sorted(agree) if letter != '#')
+    return told, counts + 'malformed %d\n' % len(malformed)
 
 
 def write(directory, seed):
@@ -504,19 +814,20 @@ def write(directory, seed):
         with open(name + '.out', 'w') as file:
             file.write(second.show(data))
 
-    cases = [(kind, encode_line(*case)) for kind, *case in encode_cases(seed)]
     decodes = list(decode_cases(seed))
     for number, (kind, data, lent) in enumerate(decodes):
-        cases.append((kind, decode_line(data, lent)))
         if lent is None and number % (5 if len(data) < 250 else 40) == 0:
             write_show(number, kind, data)
-    for number, (kind, data) in enumerate(show_cases(), len(decodes)):
+    for number, (kind, data) in enumerate(show_cases(seed), len(decodes)):
         write_show(number, kind, data)
+    cases = list(coder_cases(seed, decodes))
     for more in (worst_cases(), place_cases(seed), order_cases(seed),
-                 float_cases(seed)):
+                 number_cases(seed), small_cases()):
         cases += more
-    lines, remarks = remarked(cases)
-    write_text('stdin', ''.join(lines))
-    write_text('stdout', expected(lines, remarks))
-    print(expected(lines, remarks), end='')
+    good, wrong = remarked(cases), remarked(damaged_cases(cases))
+    malformed = [text + '\n' for text in MALFORMED]
+    told, counts = expected(good, wrong, malformed)
+    write_text('stdin', ''.join(good + wrong + malformed))
+    write_text('stdout', told + counts)
+    print(counts, end='')
     print('files %d' % (len(os.listdir(files)) // 2))

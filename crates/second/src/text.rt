@@ -1,25 +1,24 @@
-// The text of a line: its fields and items. A place is where a byte stands in the line.
+// The text of a line: the lists of a case. A place is where a byte stands in the line.
 ghost use Prim.Native.Nat.{_≤_};
 ghost use lib.ListN.{length};
 
 // A place in no line. What is read there is found nowhere, and so is all that follows.
 pub const NOWHERE: usize = 18446744073709551615;
 
-// A number, and the place behind it.
+// A number of 32 bits, and the place behind it. One below 0 is the 32 bits of its complement.
 pub struct Number {
     pub value: u32,
     pub at: usize,
 }
 
-// An item of a list: a sign, a magnitude, how many times it stands, and the place behind it.
+// An item of a list: a number, how many times it stands, and the place behind it.
 pub struct Item {
-    pub negative: bool,
-    pub size: u32,
+    pub value: u32,
     pub times: usize,
     pub at: usize,
 }
 
-// The length of a list, and the place behind it.
+// How many numbers a list has, and the place behind it.
 pub struct Listed {
     pub count: usize,
     pub at: usize,
@@ -34,7 +33,7 @@ pub fn byte_at(line: &[u8], at: usize) -> u8 {
 }
 
 // The place behind this byte, where it stands at the place.
-pub fn behind(line: &[u8], at: usize, byte: u8) -> usize {
+fn behind(line: &[u8], at: usize, byte: u8) -> usize {
     if at < line.len() {
         if line[at] == byte {
             return at + 1;
@@ -65,7 +64,7 @@ fn read_to(value: u64, from: usize, to: usize) -> Number {
 }
 
 // The decimal number at a place.
-pub fn decimal(line: &[u8], at: usize) -> Number {
+fn decimal(line: &[u8], at: usize) -> Number {
     let mut value = 0u64;
     let mut i = at;
     while i < line.len() {
@@ -85,57 +84,51 @@ pub fn decimal(line: &[u8], at: usize) -> Number {
     read_to(value, at, i)
 }
 
-// A space, and a number.
-pub fn field(line: &[u8], at: usize) -> Number {
-    decimal(line, behind(line, at, 32))
-}
-
-// As many fields as there is room for.
-pub fn fields(line: &[u8], at: usize, to: &mut [u32]) -> usize {
-    let mut i = at;
-    let mut k = 0;
-    while k < to.len() {
-        let x = field(line, i);
-        to[k] = x.value;
-        i = x.at;
-        k += 1;
+// The number below 0 whose magnitude was read: 1 to 2^31.
+fn negative(size: Number) -> Number {
+    let x = size.value;
+    if x == 0 {
+        return no_number();
     }
-    i
+    if 2147483648 < x {
+        return no_number();
+    }
+    Number {
+        value: 4294967295 - x + 1,
+        at: size.at,
+    }
 }
 
-// The item at a place, behind its sign.
-fn unsigned_item(line: &[u8], at: usize, negative: bool) -> Item {
-    let size = decimal(line, at);
-    let star = behind(line, size.at, 42);
+// An item whose number was read: the times that it stands may follow.
+fn repeated(line: &[u8], x: Number) -> Item {
+    let star = behind(line, x.at, 42);
     if star == NOWHERE {
         return Item {
-            negative,
-            size: size.value,
+            value: x.value,
             times: 1,
-            at: size.at,
+            at: x.at,
         };
     }
     let times = decimal(line, star);
     Item {
-        negative,
-        size: size.value,
+        value: x.value,
         times: times.value as usize,
         at: times.at,
     }
 }
 
 // A space, and an item.
-pub fn item_at(line: &[u8], at: usize) -> Item {
+fn item_at(line: &[u8], at: usize) -> Item {
     let from = behind(line, at, 32);
     let signed = behind(line, from, 45);
     if signed == NOWHERE {
-        return unsigned_item(line, from, false);
+        return repeated(line, decimal(line, from));
     }
-    unsigned_item(line, signed, true)
+    repeated(line, negative(decimal(line, signed)))
 }
 
 // The times that an item may fill: none if it was not found or is more than what is left.
-pub fn times_of(x: Item, left: usize) -> usize
+fn times_of(x: Item, left: usize) -> usize
     ensures { λ r. ⌜ r ≤ left ⌝ }
 {
     if x.at == NOWHERE {
@@ -147,11 +140,24 @@ pub fn times_of(x: Item, left: usize) -> usize
     x.times
 }
 
-// The length of a list that has room, and the place behind it.
-pub fn length_of(line: &[u8], at: usize, room: usize) -> Listed
+// No list.
+fn none() -> Listed
+    ensures { λ r. ⌜ r .count ≤ 0 ⌝ }
+{
+    Listed {
+        count: 0,
+        at: NOWHERE,
+    }
+}
+
+// The length of a list that has room, and the place behind it. At the end of the line it is 0.
+fn length_of(line: &[u8], at: usize, room: usize) -> Listed
     ensures { λ r. ⌜ r .count ≤ room ⌝ }
 {
-    let count = field(line, at);
+    if at == line.len() {
+        return Listed { count: 0, at };
+    }
+    let count = decimal(line, behind(line, at, 32));
     if room < count.value as usize {
         return none();
     }
@@ -161,14 +167,33 @@ pub fn length_of(line: &[u8], at: usize, room: usize) -> Listed
     }
 }
 
-// No list.
-pub fn none() -> Listed
-    ensures { λ r. ⌜ r .count ≤ 0 ⌝ }
-{
-    Listed {
-        count: 0,
-        at: NOWHERE,
+// Gives all entries one value.
+fn store(table: &mut [u32], x: u32) {
+    let mut i = 0;
+    while i < table.len() {
+        table[i] = x;
+        i += 1;
     }
+}
+
+// A list, put into the first entries of a table.
+pub fn list(line: &[u8], at: usize, table: &mut [u32]) -> Listed {
+    let whole = length_of(line, at, table.len());
+    let count = whole.count;
+    let mut i = whole.at;
+    let mut done = 0usize;
+    while done < count {
+        let x = item_at(line, i);
+        let times = times_of(x, count - done);
+        if times == 0 {
+            return none();
+        }
+        let end = done + times;
+        store(&mut table[done..end], x.value);
+        done = end;
+        i = x.at;
+    }
+    Listed { count, at: i }
 }
 
 // The place of the first newline from a place on, or the end.
@@ -184,9 +209,4 @@ pub(crate) fn line_end(text: &[u8], at: usize) -> usize
         i += 1;
     }
     i
-}
-
-// A number as a length.
-pub fn wide(x: u32) -> usize {
-    x as usize
 }

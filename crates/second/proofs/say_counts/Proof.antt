@@ -1,0 +1,65 @@
+use Prim.Native.Nat.{_-_, _≤_}
+use borrow.Author.Needs.{needs}
+use Rattle.second.proofs.say_counts.Statement.{statement}
+use Rattle.second.proofs.say_counts.Tie as tie
+
+abbrev Inv-loop : tie.InvT-loop
+Inv-loop counts letter₀ t3 t4 letter = letter ≤ 91
+
+abbrev μ-loop : tie.MeasureT-loop
+μ-loop counts letter₀ t3 t4 letter = 91 - letter
+
+loop-holds : tie.Need-loop-holds Inv-loop μ-loop
+loop-holds c = search needs
+
+say-kind-requires : tie.Need-say-kind-requires Inv-loop μ-loop
+say-kind-requires c κs = search needs
+
+add-letter : tie.Need-add-letter Inv-loop μ-loop
+add-letter c = search needs
+
+loop-less : tie.Need-loop-less Inv-loop μ-loop
+loop-less c = search needs
+
+loop-again : tie.Need-loop-again Inv-loop μ-loop
+loop-again c = search needs
+
+slice-aggregate-say : tie.Need-slice-aggregate-say Inv-loop μ-loop
+slice-aggregate-say c = search needs
+
+say-requires : tie.Need-say-requires Inv-loop μ-loop
+say-requires c κs = search needs
+
+element-copy-out-say-number : tie.Need-element-copy-out-say-number Inv-loop μ-loop
+element-copy-out-say-number c = search needs
+
+say-number-requires : tie.Need-say-number-requires Inv-loop μ-loop
+say-number-requires c κs = search needs
+
+slice-aggregate-say-2 : tie.Need-slice-aggregate-say-2 Inv-loop μ-loop
+slice-aggregate-say-2 c = search needs
+
+say-requires-2 : tie.Need-say-requires-2 Inv-loop μ-loop
+say-requires-2 c κs = search needs
+
+returns : tie.Need-returns Inv-loop μ-loop
+returns c = search needs
+
+pub say-counts-spec : {M : Type 1} → statement M
+say-counts-spec =
+    tie.close
+    (tie.spec
+    Inv-loop
+    μ-loop
+    loop-holds
+    say-kind-requires
+    add-letter
+    loop-less
+    loop-again
+    slice-aggregate-say
+    say-requires
+    element-copy-out-say-number
+    say-number-requires
+    slice-aggregate-say-2
+    say-requires-2
+    returns)

@@ -1,0 +1,118 @@
+// The calls, each by the letter of its cases: tests/VECTORS.md has the table.
+
+// The result where a letter is not known: no refusal's number.
+pub const UNKNOWN: u32 = 99;
+
+// A case: its letter, the numbers that go in, the lengths of the arrays that go in and of the tables lent, and the place in the line behind them.
+pub struct Case {
+    pub letter: u8,
+    pub a: u32,
+    pub b: u32,
+    pub c: u32,
+    pub d: u32,
+    pub ints: usize,
+    pub file: usize,
+    pub desc: usize,
+    pub grand: usize,
+    pub marks: usize,
+    pub bytes: usize,
+    pub values: usize,
+    pub at: usize,
+}
+
+fn wide(x: u32) -> usize {
+    x as usize
+}
+
+// The first number, 0 where there is none.
+fn first(ints: &[i32]) -> i32 {
+    if 0 < ints.len() {
+        return ints[0];
+    }
+    0
+}
+
+// A float's bit pattern. A float that is not equal to itself has none here; the answer is then one that is not a number's.
+fn pattern_of(x: f32) -> u32 {
+    if x == x {
+        return f32::to_bits(x);
+    }
+    4294967295
+}
+
+// A coefficient as a float; the pattern of the float, at first a half, is put into `to`.
+fn float(x: i32, to: &mut [u32], answer: &mut [u32; 15]) -> u32 {
+    let mut value = 0.5f32;
+    let result = ctxp::txp_float(x, &mut value, answer);
+    if 0 < to.len() {
+        to[0] = pattern_of(value);
+    }
+    result
+}
+
+// The coefficient of a sign and a magnitude, put into `to`.
+fn join(negative: u32, magnitude: u32, to: &mut [i32], answer: &mut [u32; 15]) -> u32 {
+    let mut x = first(to);
+    let result = ctxp::txp_join(negative, magnitude, &mut x, answer);
+    if 0 < to.len() {
+        to[0] = x;
+    }
+    result
+}
+
+// The calls that are lent nothing but the answer.
+fn number(case: Case, ints: &[i32], file: &[u8], answer: &mut [u32; 15]) -> u32 {
+    let a = case.a;
+    let b = case.b;
+    let c = case.c;
+    let letter = case.letter;
+    match letter {
+        b'W' => ctxp::txp_worst_body(a, b, c, answer),
+        b'I' => ctxp::txp_linear_place(a, b, answer),
+        b'R' => ctxp::txp_raster_place(a, b, answer),
+        b'P' => ctxp::txp_planes(ints, answer),
+        b'N' => ctxp::txp_is_negative(first(ints), answer),
+        b'M' => ctxp::txp_magnitude(first(ints), answer),
+        b'T' => ctxp::txp_part(first(ints), answer),
+        b'X' => ctxp::txp_bit(a, b, answer),
+        b'V' => ctxp::txp_read_bit(file, wide(a), wide(b), answer),
+        b'K' => ctxp::txp_side_fits(a, answer),
+        b'L' => ctxp::txp_levels_fit(a, b, answer),
+        b'A' => ctxp::txp_all(a, answer),
+        b'Z' => ctxp::txp_coarsest(a, b, answer),
+        _ => UNKNOWN,
+    }
+}
+
+// The call of a case, on arrays and tables of its lengths.
+pub fn call(
+    case: Case,
+    ints: &[i32],
+    file: &[u8],
+    desc: &mut [u32],
+    grand: &mut [u32],
+    marks: &mut [u8],
+    bytes: &mut [u8],
+    values: &mut [i32],
+    answer: &mut [u32; 15],
+) -> u32 {
+    let a = case.a;
+    let b = case.b;
+    let c = case.c;
+    let d = case.d;
+    let letter = case.letter;
+    match letter {
+        b'E' => ctxp::txp_encode(a, b, ints, desc, grand, marks, bytes, c, answer),
+        b'B' => ctxp::txp_encode_body(a, b, ints, desc, grand, marks, bytes, wide(c), d, answer),
+        b'D' => ctxp::txp_decode(file, values, bytes, marks, answer),
+        b'C' => ctxp::txp_decode_body(a, b, c, file, d, values, bytes, marks, answer),
+        b'S' => ctxp::txp_summaries(a, b, ints, desc, grand, answer),
+        b'G' => ctxp::txp_figures(a, b, ints, c, desc, grand, answer),
+        b'O' => ctxp::txp_to_linear(a, ints, values, answer),
+        b'Q' => ctxp::txp_to_raster(a, ints, values, answer),
+        b'J' => join(a, b, values, answer),
+        b'F' => float(first(ints), desc, answer),
+        b'U' => ctxp::txp_put_bit(bytes, wide(a), b, answer),
+        _ => number(case, ints, file, answer),
+    }
+}
