@@ -166,6 +166,34 @@ typedef struct {
     } answered;
 } lent_case;
 
+/* Whether the figures of all planes at once are those of each plane by itself, and nothing past them is touched. */
+static bool all_figures_agree(const uint32_t *n, const int32_t *coefs, size_t coefs_len)
+{
+    static uint32_t desc[TXP_DESC(TXP_MOST_N)], grand[TXP_GRAND(TXP_MOST_N)];
+    uint32_t all[TXP_ALL_FIGURES + 1];
+    memset(all, 0xa5, sizeof all);
+    const uint32_t past = all[TXP_ALL_FIGURES];
+    txp_answer one, every;
+    uint32_t result = txp_figures_all(n[0], n[1], coefs, coefs_len, desc, TXP_DESC(TXP_MOST_N), grand, TXP_GRAND(TXP_MOST_N), all,
+                                      TXP_ALL_FIGURES, &every);
+    for (uint32_t b = 0; b < TXP_MOST_PLANES; b++) {
+        uint32_t *held = all + 4 * b;
+        if (txp_figures(n[0], n[1], coefs, coefs_len, b, desc, TXP_DESC(TXP_MOST_N), grand, TXP_GRAND(TXP_MOST_N), &one) != result) {
+            return false;
+        }
+        if (result == TXP_DONE
+            && (held[0] != one.parts || held[1] != one.splits || held[2] != one.bits || held[3] != one.found)) {
+            return false;
+        }
+        if (result != TXP_DONE && (held[0] != past || held[1] != past || held[2] != past || held[3] != past)) {
+            return false;
+        }
+    }
+    return all[TXP_ALL_FIGURES] == past
+        && txp_figures_all(n[0], n[1], coefs, coefs_len, desc, TXP_DESC(TXP_MOST_N), grand, TXP_GRAND(TXP_MOST_N), all,
+                           TXP_ALL_FIGURES - 1, &every) == (result == TXP_DONE ? TXP_REFUSED_LENT : result);
+}
+
 /* The result of the call, UINT32_MAX for a letter that is not known. */
 static uint32_t call(char letter, lent_case *c)
 {
@@ -197,6 +225,9 @@ static uint32_t call(char letter, lent_case *c)
     case 'S':
         return txp_summaries(n[0], n[1], coefs, coefs_len, desc, t[DESC].count, grand, t[GRAND].count, answer);
     case 'G':
+        if (!all_figures_agree(n, coefs, coefs_len)) {
+            return ~(uint32_t)0;
+        }
         return txp_figures(n[0], n[1], coefs, coefs_len, n[2], desc, t[DESC].count, grand, t[GRAND].count, answer);
     case 'O':
         return txp_to_linear(n[0], coefs, coefs_len, values, t[VALUES].count, answer);
@@ -240,6 +271,8 @@ static uint32_t call(char letter, lent_case *c)
         return txp_read_bit(file, file_len, n[0], n[1], answer);
     case 'K':
         return txp_side_fits(n[0], answer);
+    case 'H':
+        return txp_header(file, file_len, answer);
     case 'L':
         return txp_levels_fit(n[0], n[1], answer);
     case 'A':

@@ -16,7 +16,7 @@ from 0.
 
     python3 tests/second.py selftest [full]
     python3 tests/second.py show FILE
-    python3 tests/second.py encode N L BUDGET < numbers, in raster order
+    python3 tests/second.py encode N L BUDGET [FILE] < numbers, in raster order
     python3 tests/second.py vectors DIR SEED
 """
 
@@ -531,9 +531,9 @@ def check_sizes(N, L):
     return None
 
 
-def read_file(data):
-    """The header with the usable bits, or the first refusal in the order
-    "7, 8, 1, 2, 9, 10, 11"."""
+def read_header(data):
+    """N, L, P and the declared bits, or the first refusal in the order
+    "7, 8, 1, 2, 9"."""
     if len(data) < HEADER_BYTES or data[:3] != b'TXP':
         return Refused(7, 0)
     if int.from_bytes(data[3:5], 'big') != 1:
@@ -544,7 +544,16 @@ def read_file(data):
         return refused
     if P > PLANE_LIMIT:
         return Refused(9, 0)
-    declared = int.from_bytes(data[8:12], 'big')
+    return N, L, P, int.from_bytes(data[8:12], 'big')
+
+
+def read_file(data):
+    """The header with the usable bits, or the first refusal in the order
+    "7, 8, 1, 2, 9, 10, 11"."""
+    header = read_header(data)
+    if isinstance(header, Refused):
+        return header
+    N, L, P, declared = header
     body = data[HEADER_BYTES:]
     if len(body) > bytes_for(declared):
         return Refused(10, 0)
@@ -617,8 +626,8 @@ def main(arguments):
     elif command == 'show' and len(rest) == 1:
         with open(rest[0], 'rb') as file:
             sys.stdout.write(show(file.read()))
-    elif command == 'encode' and len(rest) == 3:
-        N, L, budget = map(int, rest)
+    elif command == 'encode' and len(rest) in (3, 4):
+        N, L, budget = map(int, rest[:3])
         numbers = [int(word) for word in sys.stdin.read().split()]
         if not check_sizes(N, L) and len(numbers) == 4 ** N:
             numbers = to_linear(N, numbers)
@@ -628,6 +637,9 @@ def main(arguments):
         else:
             print(answer.P, len(answer.bits))
             print(answer.file.hex())
+            if len(rest) == 4:
+                with open(rest[3], 'wb') as file:
+                    file.write(answer.file)
     elif command == 'vectors' and len(rest) == 2:
         import vectors
         vectors.write(rest[0], int(rest[1]))

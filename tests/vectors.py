@@ -16,7 +16,7 @@ import os
 import random
 import struct
 from collections import Counter, namedtuple
-from itertools import groupby
+from itertools import groupby, product
 
 import second
 from arrays import STYLES, random_array, random_bits
@@ -661,9 +661,10 @@ def small_cases():
         for L in list(range(11)) + [256, 2 ** 32 - 1]:
             levels = 1 <= L < N
             both = side and levels
-            yield 'any', case('L', (N, L), answer(value=int(levels)))
+            yield 'any', case('L', (N, L), answer(value=int(both)))
             yield 'any', case('Z', (N, L),
                               answer(value=4 ** (N - L) if both else 0))
+    yield from header_cases()
     for x in (0, 1, 0x9e3779b9, 2 ** 32 - 1):
         for b in list(range(34)) + [64, 256, 2 ** 32 - 1]:
             yield 'any', case('X', (x, b), answer(value=x >> b & 1))
@@ -681,6 +682,30 @@ def small_cases():
                 keep = after[at // 8] >> 8 - at % 8 << 8 - at % 8
                 after[at // 8] = keep | (x > 0) << 7 - at % 8
             yield 'any', case('U', (at, x), answer(), bytes=(3, after))
+
+
+def header_cases():
+    """(kind, case) of headers by themselves: each field at and past its limits,
+    the body whole, short or too long, and files cut inside the header."""
+    for N, L, P, declared in product((0, 1, 2, 3, 7, 8, 9, 255), (0, 1, 2, 8),
+                                     (0, 24, 25, 255), (0, 37, 2 ** 32 - 1)):
+        for body in ([], [1] * 16, [1] * 80):
+            yield header_case(second.write_file(N, L, P, declared, body))
+    whole = second.write_file(2, 1, 3, 37, [0] * 37)
+    for bytes_left in range(len(whole)):
+        yield header_case(whole[:bytes_left])
+    for place in range(5):
+        for byte in (0, 1, 2, 0x54, 0x58, 0x50, 255):
+            yield header_case(whole[:place] + bytes((byte,))
+                              + whole[place + 1:])
+
+
+def header_case(data):
+    header = second.read_header(data)
+    if isinstance(header, Refused):
+        return 'refused', case('H', (), answer(header), (), data)
+    numbers = dict(zip(('n', 'l', 'planes', 'declared'), header))
+    return 'taken', case('H', (), answer(**numbers), (), data)
 
 
 # Cases that must differ, and lines that are none.

@@ -76,6 +76,7 @@ fn number(case: Case, ints: &[i32], file: &[u8], answer: &mut [u32; 15]) -> u32 
         b'T' => ctxp::txp_part(first(ints), answer),
         b'X' => ctxp::txp_bit(a, b, answer),
         b'V' => ctxp::txp_read_bit(file, wide(a), wide(b), answer),
+        b'H' => ctxp::txp_header(file, answer),
         b'K' => ctxp::txp_side_fits(a, answer),
         b'L' => ctxp::txp_levels_fit(a, b, answer),
         b'A' => ctxp::txp_all(a, answer),
