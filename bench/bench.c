@@ -2,6 +2,7 @@
 // change between the two orders of such an array, in plain C and in the proved library.
 //   bench count 12|20 plain|fast|txp   encodes and decodes once: what callgrind counts (bench.sh)
 //   bench order plain|txp              both changes of order once: the same
+//   bench figures                      the figures of one plane and of all once: the same
 //   bench time REPS                    the best time of each coder, in ns for each coded bit
 #define _GNU_SOURCE
 #include "../include/txp.h"
@@ -62,9 +63,28 @@ static int order(const char *name) {
     return 0;
 }
 
+uint32_t txp_bench_one(unsigned plane, txp_answer *a) {
+    return txp_figures(N, L, coef, I, plane, desc, I / 4, grand, I / 16, a);
+}
+
+uint32_t txp_bench_all(uint32_t *out, txp_answer *a) {
+    return txp_figures_all(N, L, coef, I, desc, I / 4, grand, I / 16, out, TXP_ALL_FIGURES, a);
+}
+
 static void data(int planes) {
     gen_laplace(coef, N, L, 4, 3, 4095);
     if (planes == 20) gen_laplace(coef, N, L, 500, 3.5, 1048575);
+}
+
+// The figures of plane 0, by themselves and among those of all planes.
+static int figures(void) {
+    uint32_t all[TXP_ALL_FIGURES];
+    txp_answer one, every;
+    data(20);
+    if (txp_bench_one(0, &one) || txp_bench_all(all, &every) || all[0] != one.parts || all[1] != one.splits || all[2] != one.bits
+        || all[3] != one.found)
+        return printf("figures: wrong\n"), 1;
+    return 0;
 }
 
 static double now(void) {
@@ -105,6 +125,7 @@ int main(int argc, char **argv) {
             }
     }
     if (argc == 3 && !strcmp(argv[1], "order")) return order(argv[2]);
+    if (argc == 2 && !strcmp(argv[1], "figures")) return figures();
     if (argc == 3 && !strcmp(argv[1], "time") && atoi(argv[2]) > 1) {
         for (int planes = 12; planes <= 20; planes += 8) {
             gen_state = 0x9e3779b97f4a7c15u;
@@ -116,5 +137,5 @@ int main(int argc, char **argv) {
         }
         return 0;
     }
-    return fprintf(stderr, "usage: bench count 12|20 plain|fast|txp, bench order plain|txp, or bench time REPS\n"), 2;
+    return fprintf(stderr, "usage: bench count 12|20 plain|fast|txp, bench order plain|txp, bench figures, or bench time REPS\n"), 2;
 }

@@ -1,7 +1,7 @@
 #!/bin/sh
 # Counts the instructions that encode and decode execute on a whole stream, in plain C, in C written for speed, and in
-# the proved library through its C interface, and those of the change between the two orders of a whole array, in plain C
-# and in the library; then the coders' times on this machine.
+# the proved library through its C interface; those of the change between the two orders of a whole array, in plain C and
+# in the library; those of the figures of one plane and of all; then the coders' times on this machine.
 #   sh bench/bench.sh [REPS]
 # Needs gcc, valgrind and an x86-64 machine. The counts repeat exactly; the times don't.
 set -eu
@@ -32,4 +32,8 @@ for code in plain txp; do
     if [ $code = plain ]; then x0=$x y0=$y; fi
     printf '%-8s %-6s %9s %14d %7s %14d %7s\n' '' $code '' "$x" "$(ratio "$x" "$x0")" "$y" "$(ratio "$y" "$y0")"
 done
+valgrind --quiet --tool=callgrind --callgrind-out-file="$room/out" "$room/bench" figures
+callgrind_annotate --inclusive=yes "$room/out" >"$room/text"
+x=$(count txp_bench_one) y=$(count txp_bench_all)
+printf 'figures of one plane %d insns, of all planes %d insns, ratio %s\n' "$x" "$y" "$(ratio "$y" "$x")"
 "$room/bench" time "${1:-20}"
