@@ -2,7 +2,7 @@
 // change between the two orders of such an array, in plain C and in the proved library.
 //   bench count 12|20 plain|fast|txp   encodes and decodes once: what callgrind counts (bench.sh)
 //   bench order plain|txp              both changes of order once: the same
-//   bench figures                      the figures of one plane and of all once: the same
+//   bench figures                      the figures of each plane by itself, and of all at once: the same
 //   bench time REPS                    the best time of each coder, in ns for each coded bit
 #define _GNU_SOURCE
 #include "../include/txp.h"
@@ -63,11 +63,11 @@ static int order(const char *name) {
     return 0;
 }
 
-uint32_t txp_bench_one(unsigned plane, txp_answer *a) {
+__attribute__((noinline)) uint32_t txp_bench_one(unsigned plane, txp_answer *a) {
     return txp_figures(N, L, coef, I, plane, desc, I / 4, grand, I / 16, a);
 }
 
-uint32_t txp_bench_all(uint32_t *out, txp_answer *a) {
+__attribute__((noinline)) uint32_t txp_bench_all(uint32_t *out, txp_answer *a) {
     return txp_figures_all(N, L, coef, I, desc, I / 4, grand, I / 16, out, TXP_ALL_FIGURES, a);
 }
 
@@ -76,14 +76,17 @@ static void data(int planes) {
     if (planes == 20) gen_laplace(coef, N, L, 500, 3.5, 1048575);
 }
 
-// The figures of plane 0, by themselves and among those of all planes.
+// The figures of all planes at once, and of each by itself.
 static int figures(void) {
     uint32_t all[TXP_ALL_FIGURES];
     txp_answer one, every;
     data(20);
-    if (txp_bench_one(0, &one) || txp_bench_all(all, &every) || all[0] != one.parts || all[1] != one.splits || all[2] != one.bits
-        || all[3] != one.found)
-        return printf("figures: wrong\n"), 1;
+    uint32_t wrong = txp_bench_all(all, &every);
+    for (unsigned b = 0; b < TXP_MOST_PLANES; b++) {
+        const uint32_t *f = all + 4 * b;
+        wrong |= txp_bench_one(b, &one) || f[0] != one.parts || f[1] != one.splits || f[2] != one.bits || f[3] != one.found;
+    }
+    if (wrong) return printf("figures: wrong\n"), 1;
     return 0;
 }
 

@@ -34,6 +34,6 @@ for code in plain txp; do
 done
 valgrind --quiet --tool=callgrind --callgrind-out-file="$room/out" "$room/bench" figures
 callgrind_annotate --inclusive=yes "$room/out" >"$room/text"
-x=$(count txp_bench_one) y=$(count txp_bench_all)
-printf 'figures of one plane %d insns, of all planes %d insns, ratio %s\n' "$x" "$y" "$(ratio "$y" "$x")"
+x=$(($(count txp_bench_one) / 24)) y=$(count txp_bench_all)
+printf 'figures of one plane, on average, %d insns, of all 24 at once %d insns, ratio %s\n' "$x" "$y" "$(ratio "$y" "$x")"
 "$room/bench" time "${1:-20}"

@@ -1,6 +1,6 @@
 -- The order of the checks in numbers (document 01, "Numbers for no").
 use mathlib.Core.Path.{_≡_, refl}
-use mathlib.Core.List.{List, [], _∷_}
+use mathlib.Core.List.{[], _∷_}
 use Prim.Native.Nat.{ℕ}
 use Rattle.refusals.proofs.Laws.{numbersOf}
 use Rattle.places.specs.Answers.{placeChecks, reorderChecks}
