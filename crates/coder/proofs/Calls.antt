@@ -29,7 +29,7 @@ use Rattle.room.specs.Room.{readChecks, bodyBits}
 use Rattle.room.specs.Ready.{EncodeReady}
 use Rattle.room.proofs.Laws.{encode-ready, decode-well}
 use Rattle.encoder.specs.Body.{sentBits, writeAnswer, sentMarks, outputAfter, Loan, writeOutcome, Writes}
-use Rattle.decoder.specs.Body.{readAnswer, Tables, tables, ownTables, over, BodyRead, ReadsTo}
+use Rattle.decoder.specs.Body.{readAnswer, Tables, tables, ownTables, over, BodyRead, ReadsTo, Reads}
 use Rattle.encoder.specs.declared.body.Written.{Written}
 use Rattle.encoder.specs.declared.body.WriteAnswer.{WriteAnswer}
 use Rattle.encoder.specs.declared.body.WriteAnswer.the-variants as encode
@@ -134,7 +134,7 @@ module _ (N L : ℕ) (A : List ℤ) (offset budget : ℕ) (held left : Loan) (wr
       rw (bits, there, most) (bitsOf-append (length u) (packed u) rest (omega (arith, packed-length u)) ∙ bitsOf-packed u)
 
   module _ (given after : Tables) (read : ReadAnswer) (hv : allOf N ≤ length (given .values)) (hp : allOf N ≤ length (given .precisions)) (hm : allOf N ≤ length (given .marks))
-      (decoded : ReadsTo (firstOf (readChecks N L (w .planes) (length (given .values)) (length (given .precisions)) (length (given .marks)))) N L (w .planes) (bodyBits (w .bits) (drop offset (left .out))) given read after) where
+      (decoded : Reads N L (w .planes) (w .bits) (drop offset (left .out)) given read after) where
     so : BodyRead N L P u given read after
     so =
         let planes : w .planes ≡ P = ap (λ (x : Written). x .planes) (checked .1) in
@@ -143,7 +143,7 @@ module _ (N L : ℕ) (A : List ℤ) (offset budget : ℕ) (held left : Loan) (wr
         sym (decode-well N L P (length (given .values)) (length (given .precisions)) (length (given .marks)) (ready .0 .side) (ready .0 .levels) few hv hp hm) in
         subst (λ (o : Outcome). ReadsTo o N L P u given read after) well
         (subst (λ (b : List Bool). ReadsTo (firstOf (readChecks N L P (length (given .values)) (length (given .precisions)) (length (given .marks)))) N L P b given read after) same-bits
-        (subst (λ (p : ℕ). ReadsTo (firstOf (readChecks N L p (length (given .values)) (length (given .precisions)) (length (given .marks)))) N L p (bodyBits (w .bits) (drop offset (left .out))) given read after) planes decoded))
+        (subst (λ (p : ℕ). Reads N L p (w .bits) (drop offset (left .out)) given read after) planes decoded))
 
     -- IN STEP: what was written is taken, whatever the budget, and the decoder's marks are the encoder's
     pub back : (read ≡ decode.Done (record { used = length (sentBits N L A budget); finished = planesFinished N L (planesOf A) (sentBits N L A budget); error = worstError N L (planesOf A) (sentBits N L A budget) }))

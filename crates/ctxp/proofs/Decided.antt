@@ -1,30 +1,17 @@
 -- The contract of each exported function decides its outcome: the result, and what is lent to be written, the answer among it.
 -- The lent answer is the last parameter of each.
 use mathlib.Core.Path.{_≡_, refl, sym, ap, _∙_}
-use mathlib.Core.Bool.{Bool}
 use mathlib.Core.List.{List}
 use Prim.Native.Nat.{ℕ}
 use lib.IntN.{ℤ}
 use lib.Ieee.{Float}
-use lib.ListN.{length, getD}
+use lib.ListN.{getD}
 use denote.Ref.{now}
-use Rattle.refusals.specs.Checks.{firstOf}
-use Rattle.refusals.specs.declared.Outcome.{Outcome}
-use Rattle.refusals.specs.declared.Outcome.the-variants.{Done, Refused}
 use Rattle.refusals.proofs.Decided.{OneOutcome}
-use Rattle.sizes.specs.Sizes.{Sized}
-use Rattle.nls.specs.Judging.{Verdict}
-use Rattle.nls.proofs.Verdicts.{judged-only}
-use Rattle.room.specs.Room.{bodyBits}
 use Rattle.encoder.specs.Body.{Loan, loan}
 use Rattle.decoder.specs.Body.{Tables, tables}
-use Rattle.decoder.proofs.Decided.{decodes-one}
-use Rattle.txp.specs.declared.Header.{Header}
-use Rattle.txp.specs.declared.DecodeAnswer.{DecodeAnswer}
-use Rattle.txp.specs.Header.{headerOf}
-use Rattle.txp.specs.File as file
-use Rattle.txp.specs.Calls.{decodeChecks, decodeAnswer, DecodedFile, DecodesTo}
-use Rattle.txp.proofs.CallLaws.{in-range}
+use Rattle.decoder.proofs.Decided.{reads-one}
+use Rattle.txp.proofs.Decided.{decodes-one}
 use Rattle.ctxp.specs.Answers.{Answers, ofEncoded, ofDecoded, ofWritten, ofRead}
 use Rattle.ctxp.specs.Lent.{FileDecoded, BodyDecoded}
 use Rattle.ctxp.proofs.txp_decode.Reads as decode
@@ -173,30 +160,18 @@ all-decided k args r r' s s' p q = one-answer refl p q
 pub coarsest-decided : OneOutcome {Lent = List ℕ} coarsest.Learnt (λ k s. now (s .1 .1 .0))
 coarsest-decided k args r r' s s' p q = one-answer refl p q
 
--- decoding: there is one verdict on the usable bits
-module _ (h : Header) (u : List Bool) (held : Tables) (r r' : DecodeAnswer) (left left' : Tables) where
-  one-verdict : Sized (h .n) (h .l) → DecodedFile h u held r left → DecodedFile h u held r' left' → (r ≡ r') × (left ≡ left')
-  one-verdict z p q =
-      let v : p .verdict ≡ q .verdict = judged-only (h .n) (h .l) z (h .p) u (p .verdict) (q .verdict) (p .judged) (q .judged) in
-      (p .answered ∙ ap (λ (x : Verdict). decodeAnswer h u x) v ∙ sym (q .answered), p .filled ∙ rw v (sym (q .filled)))
-
-  one-outcome : (o : Outcome) → (o ≡ Done → Sized (h .n) (h .l)) → DecodesTo o h u held r left → DecodesTo o h u held r' left' → (r ≡ r') × (left ≡ left')
-  one-outcome Done z p q = one-verdict (z refl) p q
-  one-outcome (Refused why) z p q = (p .0 ∙ sym (q .0), p .1 ∙ sym (q .1))
-
+-- decoding: two outcomes of reading one file, or one body, are equal
 file-one : (bytes : List ℕ) (held : Tables) (r r' : ℕ) (a a' : List ℕ) (left left' : Tables) → FileDecoded bytes held r a left → FileDecoded bytes held r' a' left'
     → (r ≡ r') × (a ≡ a') × (left ≡ left')
 file-one bytes held r r' a a' left left' p q =
-    let one = one-outcome (headerOf bytes) (file.usableBits bytes) held (p .said) (q .said) left left'
-    (firstOf (decodeChecks bytes (length (held .values)) (length (held .precisions)) (length (held .marks))))
-    (in-range bytes (length (held .values)) (length (held .precisions)) (length (held .marks))) (p .decodes) (q .decodes) in
+    let one = decodes-one bytes held (p .said) (q .said) left left' (p .decodes) (q .decodes) in
     let said = one-answer (ap ofDecoded (one .0)) (p .answers) (q .answers) in
     (said .0, said .1, one .1)
 
 body-one : (N L P usable : ℕ) (bytes : List ℕ) (held : Tables) (r r' : ℕ) (a a' : List ℕ) (left left' : Tables)
     → BodyDecoded N L P usable bytes held r a left → BodyDecoded N L P usable bytes held r' a' left' → (r ≡ r') × (a ≡ a') × (left ≡ left')
 body-one N L P usable bytes held r r' a a' left left' p q =
-    let one = decodes-one N L P (length (held .values)) (length (held .precisions)) (length (held .marks)) (bodyBits usable bytes) held (p .said) (q .said) left left' (p .decodes) (q .decodes) in
+    let one = reads-one N L P usable bytes held (p .said) (q .said) left left' (p .decodes) (q .decodes) in
     let said = one-answer (ap ofRead (one .0)) (p .answers) (q .answers) in
     (said .0, said .1, one .1)
 

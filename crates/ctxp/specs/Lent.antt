@@ -1,15 +1,13 @@
 -- What else a call from C is lent: numbers that stand for a truth, a coefficient, a float, and the coders' tables.
 use Prim.Native.Nat.{ℕ}
 use mathlib.Core.{Bool.Bool, Bool.not, List.List}
-use lib.{Dec.eqb, IntN.ℤ, ListN.length}
+use lib.{Dec.eqb, IntN.ℤ}
 use lib.Ieee as ieee
-use Rattle.refusals.specs.Checks.{firstOf}
 use Rattle.coef.specs.declared.{Signed.Signed, Joined.Joined, Float.Float}
 use Rattle.coef.specs.declared.Joined.the-variants as joineds
 use Rattle.coef.specs.declared.Float.the-variants as floats
-use Rattle.room.specs.Room.{readChecks, bodyBits}
 use Rattle.encoder.specs.{Body.Loan, Body.Writes, declared.body.WriteAnswer.WriteAnswer}
-use Rattle.decoder.specs.{Body.Tables, Body.ReadsTo, declared.body.ReadAnswer.ReadAnswer}
+use Rattle.decoder.specs.{Body.Tables, Body.Reads, declared.body.ReadAnswer.ReadAnswer}
 use Rattle.txp.specs.{declared.EncodeAnswer.EncodeAnswer, declared.DecodeAnswer.DecodeAnswer, Calls.Encodes, Calls.Decodes}
 use Rattle.ctxp.specs.Answers.{ofEncoded, ofDecoded, ofWritten, ofRead, Answers}
 
@@ -48,5 +46,5 @@ pub record BodyEncoded (N L : ℕ) (A : List ℤ) (offset budget : ℕ) (held : 
 
 pub record BodyDecoded (N L P usable : ℕ) (bytes : List ℕ) (held : Tables) (r : ℕ) (answer : List ℕ) (left : Tables) : Type 0 where
   pub said : ReadAnswer
-  pub decodes : ReadsTo (firstOf (readChecks N L P (length (held .values)) (length (held .precisions)) (length (held .marks)))) N L P (bodyBits usable bytes) held said left
+  pub decodes : Reads N L P usable bytes held said left
   pub answers : Answers r answer (ofRead said)

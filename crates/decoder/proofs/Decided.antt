@@ -15,7 +15,7 @@ use Rattle.nls.specs.Judging.{Verdict}
 use Rattle.nls.proofs.Verdicts.{judged-only}
 use Rattle.room.specs.Room.{readChecks, bodyBits}
 use Rattle.room.proofs.Laws.{decode-ready}
-use Rattle.decoder.specs.Body.{readAnswer, Tables, tables, ownTables, over, BodyRead, ReadsTo}
+use Rattle.decoder.specs.Body.{readAnswer, Tables, tables, ownTables, over, BodyRead, ReadsTo, Reads}
 use Rattle.decoder.specs.declared.body.ReadAnswer.{ReadAnswer}
 use Rattle.decoder.proofs.body.decode.Reads as decode
 
@@ -27,22 +27,22 @@ decoded-one N L P u held z r r' t t' p q =
       p .filled ∙ ap (λ (v : Verdict). over (allOf N) (ownTables N L P u v) held) same ∙ sym (q .filled),
     )
 
-pub decodes-one : (N L P values precisions marks : ℕ) (u : List Bool) (held : Tables) (r r' : ReadAnswer) (t t' : Tables)
-    → ReadsTo (firstOf (readChecks N L P values precisions marks)) N L P u held r t
-    → ReadsTo (firstOf (readChecks N L P values precisions marks)) N L P u held r' t'
-    → (r ≡ r') × (t ≡ t')
-decodes-one N L P values precisions marks u held r r' t t' = go (firstOf (readChecks N L P values precisions marks)) refl
+pub reads-one : (N L P usable : ℕ) (body : List ℕ) (held : Tables) (r r' : ReadAnswer) (t t' : Tables) → Reads N L P usable body held r t → Reads N L P usable body held r' t' → (r ≡ r') × (t ≡ t')
+reads-one N L P usable body held r r' t t' = go checks refl
   where
-    go : (o : Outcome) → firstOf (readChecks N L P values precisions marks) ≡ o → ReadsTo o N L P u held r t → ReadsTo o N L P u held r' t' → (r ≡ r') × (t ≡ t')
-    go outcome.Done e p q = decoded-one N L P u held (sized N L (decode-ready N L P values precisions marks (sym e) .levels)) r r' t t' p q
+    checks : Outcome
+    checks = firstOf (readChecks N L P (length (held .values)) (length (held .precisions)) (length (held .marks)))
+
+    u : List Bool
+    u = bodyBits usable body
+
+    go : (o : Outcome) → checks ≡ o → ReadsTo o N L P u held r t → ReadsTo o N L P u held r' t' → (r ≡ r') × (t ≡ t')
+    go outcome.Done e p q = decoded-one N L P u held (sized N L (decode-ready N L P (length (held .values)) (length (held .precisions)) (length (held .marks)) (sym e) .levels)) r r' t t' p q
     go (outcome.Refused why) e p q = (p .0 ∙ sym (q .0), p .1 ∙ sym (q .1))
 
 -- the sixth to the eighth parameter are the values, the precisions and the marks
 pub decode-decided : OneOutcome {Lent = Tables} decode.Learnt (λ k s. tables (now (s .1 .1 .1 .1 .1 .0)) (now (s .1 .1 .1 .1 .1 .1 .0)) (now (s .1 .1 .1 .1 .1 .1 .1 .0)))
 decode-decided k args r r' s s' p q =
-    let v = now (args .1 .1 .1 .1 .1 .0) in
-    let w = now (args .1 .1 .1 .1 .1 .1 .0) in
-    let m = now (args .1 .1 .1 .1 .1 .1 .1 .0) in
-    decodes-one (args .0) (args .1 .0) (args .1 .1 .0) (length v) (length w) (length m) (bodyBits (args .1 .1 .1 .1 .0) (now (args .1 .1 .1 .0))) (tables v w m) r r'
+    reads-one (args .0) (args .1 .0) (args .1 .1 .0) (args .1 .1 .1 .1 .0) (now (args .1 .1 .1 .0)) (tables (now (args .1 .1 .1 .1 .1 .0)) (now (args .1 .1 .1 .1 .1 .1 .0)) (now (args .1 .1 .1 .1 .1 .1 .1 .0))) r r'
     (tables (now (s .1 .1 .1 .1 .1 .0)) (now (s .1 .1 .1 .1 .1 .1 .0)) (now (s .1 .1 .1 .1 .1 .1 .1 .0)))
     (tables (now (s' .1 .1 .1 .1 .1 .0)) (now (s' .1 .1 .1 .1 .1 .1 .0)) (now (s' .1 .1 .1 .1 .1 .1 .1 .0))) p q

@@ -2,10 +2,11 @@
 use Prim.Native.Nat.{ℕ, _+_}
 use mathlib.Core.{Path._≡_, Bool.Bool, List.List, List._++_}
 use lib.{IntN.ℤ, IntN.pos, ListN.length, ListN.drop, ListN.replicate}
-use Rattle.refusals.specs.{declared.Refusal.the-variants.Contradiction, declared.Refusal.the-variants.Beyond, declared.Outcome.Outcome}
+use Rattle.refusals.specs.{Checks.firstOf, declared.Refusal.the-variants.Contradiction, declared.Refusal.the-variants.Beyond, declared.Outcome.Outcome}
 use Rattle.refusals.specs.declared.Outcome.the-variants as outcome
 use Rattle.sizes.specs.Sizes.{allOf}
 use Rattle.nls.specs.{Stream.after, Reading.midpoint, Reading.valuesBy, Reading.precisions, Reading.planesFinished, Reading.worstError, Judging.Verdict, Judging.taken, Judging.contradiction, Judging.beyond, Judging.Judged}
+use Rattle.room.specs.Room.{readChecks, bodyBits}
 use Rattle.decoder.specs.declared.body.ReadAnswer.{ReadAnswer}
 use Rattle.decoder.specs.declared.body.ReadAnswer.the-variants as decode
 
@@ -44,7 +45,11 @@ pub record BodyRead (N L P : ℕ) (u : List Bool) (held : Tables) (answer : Read
   pub answered : answer ≡ readAnswer N L P u verdict
   pub filled : left ≡ over (allOf N) (ownTables N L P u verdict) held
 
--- any call; "Numbers 1 to 11 touch no lent byte"
+-- any call, by the outcome of the checks; "Numbers 1 to 11 touch no lent byte"
 abbrev pub ReadsTo : Outcome → ℕ → ℕ → ℕ → List Bool → Tables → ReadAnswer → Tables → Type 0
 ReadsTo outcome.Done N L P u held answer left = BodyRead N L P u held answer left
 ReadsTo (outcome.Refused why) N L P u held answer left = (answer ≡ decode.Refused why) × (left ≡ held)
+
+abbrev pub Reads : ℕ → ℕ → ℕ → ℕ → List ℕ → Tables → ReadAnswer → Tables → Type 0
+Reads N L P usable body held answer left =
+    ReadsTo (firstOf (readChecks N L P (length (held .values)) (length (held .precisions)) (length (held .marks)))) N L P (bodyBits usable body) held answer left

@@ -5,10 +5,8 @@ ghost use mathlib.Core.Path.{_≡_};
 ghost use Prim.Native.Nat.{_*_, _≤_};
 ghost use lib.IntN.{pos};
 ghost use lib.ListN.{length, replicate};
-ghost use Rattle.refusals.specs.Checks.{firstOf};
 ghost use Rattle.bits.specs.Bits.{bitsOf};
-ghost use Rattle.room.specs.Room.{readChecks, bodyBits};
-ghost use Rattle.decoder.specs.Body.{tables, BodyRead, ReadsTo};
+ghost use Rattle.decoder.specs.Body.{tables, BodyRead, Reads};
 ghost use Rattle.decoder.specs.Calls.{ReadReady};
 
 // The bits used, the planes finished and the worst error.
@@ -93,7 +91,7 @@ pub fn decode(
     precisions: &mut [u8],
     marks: &mut [u8],
 ) -> ReadAnswer
-    ensures { λ r. ⌜ ReadsTo (firstOf (readChecks n l p (length (now (values .entry))) (length (now (precisions .entry))) (length (now (marks .entry))))) n l p (bodyBits usable (now (body .entry))) (tables (now (values .entry)) (now (precisions .entry)) (now (marks .entry))) r (tables (now (values .exit)) (now (precisions .exit)) (now (marks .exit))) ⌝ }
+    ensures { λ r. ⌜ Reads n l p usable (now (body .entry)) (tables (now (values .entry)) (now (precisions .entry)) (now (marks .entry))) r (tables (now (values .exit)) (now (precisions .exit)) (now (marks .exit))) ⌝ }
 {
     match room::check_decode(n, l, p, values.len(), precisions.len(), marks.len()) {
         Outcome::Done => {

@@ -7,7 +7,7 @@ use mathlib.Core.List.{List, [], _∷_}
 use mathlib.Core.Logic.{⊎-elim}
 use native.Mathlib.Nat.{le-refl, pow-succ'}
 use native.Mathlib.Omega.{arith}
-use borrow.Author.Tests.{leb-true, le-leb, lt-leb, ne-eqb}
+use borrow.Author.Tests.{leb-true, le-leb, lt-leb}
 use lib.IntN.{ℤ, pos}
 use lib.ListN.{length, replicate, length-append, length-replicate, getD-replicate, List·getD-eq-default}
 use lib.Pow.{pow-lt, pow-mono, pow-pos}
@@ -29,6 +29,7 @@ use Rattle.nls.proofs.Counting.Bound.{all-is}
 use Rattle.nls.proofs.Counting.Tiles.{pow4-pos}
 use Rattle.nls.proofs.Joined.Whole as joined
 use Rattle.nls.proofs.Joined.Whole.{whole, whole-is-body, plane-bits, plane-by-plane}
+use Rattle.nls.proofs.Worst.{worst-none, worst-some}
 use Rattle.nls.proofs.Lists.{arrOf, stream-same}
 use Rattle.nls.proofs.Sets.{sum-to, sizeOf, mags, parts-is, sizes-is, splits-is, founds-is, nonzeros-is}
 
@@ -170,15 +171,8 @@ module _ (N L P : ℕ) (s : Sized N L) (A : List ℤ) where
 
   -- they number no more than the worst body of at least one plane
   pub bound : 1 ≤ P → sumTo P (λ b. parts N L A b) + splits N L A 0 + nonzeros N L A ≤ worstBody N L P
-  unfolding worstBody
   bound h =
-      rw (ne-eqb P 0 (λ e. omega (arith, e, h)))
-      (omega (arith, counted-is, counted.counted-bound (sizeOf N L s) (mags A) P, counted.worst-is N L P (s .least) (s .most)))
-
--- the worst body of at least one plane
-pub worst-some : (N L P : ℕ) → 1 ≤ P → worstBody N L P ≡ allOf N * (P + 1) + (allOf N - coarsestOf N L) / 4 + (allOf N - 4 * coarsestOf N L) / 16
-unfolding worstBody
-worst-some N L P h = rw (ne-eqb P 0 (λ e. omega (arith, e, h)))
+      rw (worst-some N L P h) (omega (arith, counted-is, counted.counted-bound (sizeOf N L s) (mags A) P, counted.worst-is N L P (s .least) (s .most)))
 
 module _ (N L P : ℕ) (s : Sized N L) where
   module _ (A : List ℤ) (planes : IsPlanes A P) where
@@ -249,7 +243,7 @@ pub no-planes : (N L : ℕ) (A : List ℤ) → IsPlanes A 0
     → (stream N L 0 A ≡ []) × (worstBody N L 0 ≡ 0) × (splits N L A 0 ≡ 0) × (nonzeros N L A ≡ 0)
 no-planes N L A planes = (
   empty N L A,
-  unfold worstBody in refl,
+  worst-none N L 0 refl,
   splits-none N L 0 A planes,
   sym (founds-all N L A) ∙ founds-none N L 0 A planes,
 )

@@ -21,6 +21,7 @@ use Rattle.nls.proofs.Streams as streams
 use Rattle.nls.proofs.Waiting as waiting
 use Rattle.nls.proofs.Verdicts as verdicts
 use Rattle.nls.proofs.Values as values
+use Rattle.nls.proofs.Worst.{worst-some}
 use Rattle.nls.proofs.Counts as counts
 use Rattle.nls.proofs.Finished as finished
 use Rattle.nls.proofs.Precise as precise
@@ -89,7 +90,7 @@ module _ (N L P : ℕ) (sized : Sized N L) where
     -- "it has the stated bound": I(P+1) + (I-D)/4 + (I-4D)/16 for P of at least 1
     pub bound : 1 ≤ P → sumTo P (λ b. parts N L A b) + splits N L A 0 + nonzeros N L A
         ≤ allOf N * (P + 1) + (allOf N - coarsestOf N L) / 4 + (allOf N - 4 * coarsestOf N L) / 16
-    bound h = omega (arith, counts.bound N L P sized A h, counts.worst-some N L P h)
+    bound h = omega (arith, counts.bound N L P sized A h, worst-some N L P h)
 
     -- and no number of answers is longer than the worst body
     pub no-more : (n : ℕ) → length (answers N L A n (begin N L P)) ≤ worstBody N L P

@@ -16,7 +16,7 @@ use Rattle.sizes.proofs.Tables.{table-at, table-length}
 use Rattle.coef.specs.Coef.{at, magAt, magnitude, negative, signed}
 use Rattle.coef.proofs.Laws.{magnitude-signed}
 use Rattle.tree.specs.Tree.{desc, grand, anyIn}
-use Rattle.nls.specs.Scan.{State, Look, over, silent, asks, Pass, pixels, sets, refining, look, tell, tellAt, tellSets, passesLeft, movesLeft, next}
+use Rattle.nls.specs.Scan.{State, Look, over, silent, asks, Pass, pixels, sets, refining, look, tell, passesLeft, movesLeft, next}
 use Rattle.nls.specs.Stream.{begin, after, stream, during}
 use Rattle.nls.specs.Parts as spec
 use Rattle.nls.specs.Parts.{countTo, found, descSplit, grandSplit, standsAlone, descStands, grandStands, parts, splits, founds, splitsIn, foundIn}
@@ -24,7 +24,7 @@ use Rattle.nls.specs.Reading.{valueBy, highBits, lastPlane, precisionAt,
 use Rattle.nls.specs.Judging.{Begins}
 use Rattle.nls.proofs.Booleans.{same-bool}
 use Rattle.nls.proofs.Counting.Sums.{order}
-use Rattle.nls.proofs.Machine.Run.{Falls, falls}
+use Rattle.nls.proofs.Machine.Run.{Falls, falls, tell-left}
 use Rattle.nls.proofs.Joined.Planes.{during-append}
 use Rattle.nls.proofs.Kept.{AfterMove, settle-keeps}
 use Rattle.nls.proofs.HighBits.{high-magnitude}
@@ -107,21 +107,6 @@ module _ (N L : ℕ) (A B : List ℤ) (b : ℕ) (same : (i : ℕ) → found N L 
   founds-same = count-same (allOf N) _ _ same
 
 -- ---- planes that are left never grow in number, so a finished plane takes no more bits
-tell-left : (I l : ℕ) (p : Pass) (i : ℕ) (w : Bool) (m : List ℕ) (a : Bool) → (tellAt I l p i w m a) .left ≡ l
-tell-left I l p i true m a = refl
-tell-left I l pixels i false m true = refl
-tell-left I l pixels i false m false = refl
-tell-left I l refining i false m a = refl
-tell-left I l sets i false m a = on a (eqb (getD m i 0) 5) (eqb (getD m i 0) 6)
-  where
-    on : (a d g : Bool) → (tellSets I l i m a d g) .left ≡ l
-    on true true g = refl
-    on false true g = refl
-    on true false true = refl
-    on false false true = refl
-    on true false false = refl
-    on false false false = refl
-
 passes-few : (I : ℕ) (p : Pass) → passesLeft I p ≤ 2
 passes-few I pixels = omega arith
 passes-few I sets = omega arith

@@ -23,7 +23,7 @@ use Rattle.nls.specs.Scan.{State, Look, over, silent, asks, Pass, pixels
 use Rattle.nls.specs.Stream.{begin, after}
 use Rattle.nls.specs.Reading.{Known, nothing, noted, learn, learnAt, learned, known, lastPlane, precisionAt}
 use Rattle.nls.proofs.Counting.Sums.{order}
-use Rattle.nls.proofs.Machine.Run.{Settled, start-settled, next-settled}
+use Rattle.nls.proofs.Machine.Run.{Settled, start-settled, next-settled, tell-left}
 use Rattle.nls.proofs.Kept.{ones, AfterMove, settle-keeps}
 
 -- A split writes no mark from 1 to 3.
@@ -341,21 +341,6 @@ module _ (I P : ℕ) where
   answered-refining b i m a k true false true ex es h = tt
   answered-refining b i m a k true false false ex es h = tt
 
-  tell-left : (l : ℕ) (p : Pass) (i : ℕ) (w : Bool) (m : List ℕ) (a : Bool) → (tellAt I l p i w m a) .left ≡ l
-  tell-left l p i true m a = refl
-  tell-left l pixels i false m true = refl
-  tell-left l pixels i false m false = refl
-  tell-left l refining i false m a = refl
-  tell-left l sets i false m a = on a (eqb (getD m i 0) 5) (eqb (getD m i 0) 6)
-    where
-      on : (a d g : Bool) → (tellSets I l i m a d g) .left ≡ l
-      on true true g = refl
-      on false true g = refl
-      on true false true = refl
-      on false false true = refl
-      on true false false = refl
-      on false false false = refl
-
   answered-in : (b : ℕ) (p : Pass) (i : ℕ) (w : Bool) (m : List ℕ) (a : Bool) (k : Known) → Sound I P (record { left = suc b; pass = p; place = i; pending = w; marks = m }) k
       → Answered b p a k (tellAt I (suc b) p i w m a) (lookAt I (suc b) p i w m)
   answered-in b pixels i true m a k h = sign-sound b i pixels true a m h (h .inside refl (omega arith))
@@ -367,7 +352,7 @@ module _ (I P : ℕ) where
 
   answered : (l : ℕ) (p : Pass) (i : ℕ) (w : Bool) (m : List ℕ) (a : Bool) (k : Known) → Sound I P (record { left = l; pass = p; place = i; pending = w; marks = m }) k
       → Answered (l - 1) p a k (tellAt I l p i w m a) (lookAt I l p i w m)
-  answered zero p i w m a k h = ended h (tell-left zero p i w m a)
+  answered zero p i w m a k h = ended h (tell-left I zero p i w m a)
   answered (suc b) p i w m a k h =
       let e : b ≡ suc b - 1 = omega arith in
       subst (λ (c : ℕ). Answered c p a k (tellAt I (suc b) p i w m a) (lookAt I (suc b) p i w m)) e (answered-in b p i w m a k h)

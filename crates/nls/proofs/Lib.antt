@@ -10,6 +10,7 @@ pub mod Joined
 pub mod Sets
 pub mod Kept
 pub mod Lists
+pub mod Worst
 pub mod Counts
 pub mod Streams
 pub mod Signs

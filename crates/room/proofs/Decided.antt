@@ -6,6 +6,7 @@ use Rattle.room.proofs.most_bits.Reads as most-bits
 use Rattle.room.proofs.usable_of.Reads as usable-of
 use Rattle.room.proofs.check_worst.Reads as check-worst
 use Rattle.room.proofs.check_encode.Reads as check-encode
+use Rattle.room.proofs.check_tables.Reads as check-tables
 use Rattle.room.proofs.check_decode.Reads as check-decode
 
 pub worst-body-decided : OneAnswer worst-body.Learnt
@@ -22,6 +23,9 @@ check-worst-decided k args r r' s s' p q = p ∙ sym q
 
 pub check-encode-decided : OneAnswer check-encode.Learnt
 check-encode-decided k args r r' s s' p q = p ∙ sym q
+
+pub check-tables-decided : OneAnswer check-tables.Learnt
+check-tables-decided k args r r' s s' p q = p ∙ sym q
 
 pub check-decode-decided : OneAnswer check-decode.Learnt
 check-decode-decided k args r r' s s' p q = p ∙ sym q

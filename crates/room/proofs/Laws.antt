@@ -23,7 +23,7 @@ use Rattle.coef.specs.Coef.{firstOver, planesOf}
 use Rattle.nls.specs.Stream.{worstBody}
 use Rattle.room.specs.Ready.{EncodeReady}
 use Rattle.tree.specs.Summaries.{summaryChecks}
-use Rattle.room.specs.Room.{worstChecks, worstAnswer, mostBits, roomChecks, writeChecks, readChecks}
+use Rattle.room.specs.Room.{worstChecks, worstAnswer, mostBits, roomChecks, writeChecks, roomIn, readChecks}
 
 -- ---- the worst body
 
@@ -69,7 +69,7 @@ module _ (first more : List Check) {r : Outcome} (is : r ≡ firstOf first) wher
 module _ (N L P values precisions marks : ℕ) where
   pub decode-well : sideFits N ≡ true → levelsFit N L ≡ true → P ≤ mostPlanes → allOf N ≤ values → allOf N ≤ precisions → allOf N ≤ marks
       → Done ≡ firstOf (readChecks N L P values precisions marks)
-  unfolding firstOf
+  unfolding firstOf roomIn
   decode-well s l p v k m = rw (s, l, le-leb P mostPlanes p, le-leb (allOf N) values v, le-leb (allOf N) precisions k, le-leb (allOf N) marks m)
 
   -- the sizes, and room in all three tables
@@ -82,7 +82,7 @@ module _ (N L P values precisions marks : ℕ) where
     pub marksRoom : allOf N ≤ marks
 
   pub decode-ready : Done ≡ firstOf (readChecks N L P values precisions marks) → DecodeReady
-  unfolding AllHold
+  unfolding AllHold roomIn
   decode-ready is =
       let all = passed (readChecks N L P values precisions marks) (sym is) in
       let rooms = all .1 .1 .1 .0 in
@@ -159,14 +159,6 @@ sizes-near N L all coarsest ea ec s l =
 
 -- the parts of the worst body, which the largest N bounds
 module _ (N L P : ℕ) where
-  pub worst-none : P ≡ 0 → 0 ≡ worstBody N L P
-  unfolding worstBody
-  worst-none e = rw (eq-eqb P 0 e)
-
-  pub worst-some : (P ≡ 0 → ⊥) → allOf N * (P + 1) + (allOf N - coarsestOf N L) / 4 + (allOf N - 4 * coarsestOf N L) / 16 ≡ worstBody N L P
-  unfolding worstBody
-  worst-some e = rw (ne-eqb P 0 e)
-
   pub parts-near : (all coarsest : ℕ) → all ≡ allOf N → coarsest ≡ coarsestOf N L → sideFits N ≡ true → levelsFit N L ≡ true → P ≤ mostPlanes
       → (all ≤ allOf mostN) × (4 * coarsest ≤ all) × (all * (P + 1) ≤ allOf mostN * (mostPlanes + 1))
   parts-near all coarsest ea ec s l p =

@@ -39,10 +39,16 @@ writeChecks N L A descs grands marks out offset budget = summaryChecks N L A des
 
 -- ---- decoding
 
--- of decoding's checks those of a body: 1, 2, 9, 5, by the lengths of what is lent
+-- the three lent tables have room for `all` entries, by their lengths
+unfoldable pub roomIn : ℕ → ℕ → ℕ → ℕ → Bool
+roomIn all values precisions marks = leb all values && (leb all precisions && leb all marks)
+
+abbrev pub tableChecks : ℕ → ℕ → ℕ → ℕ → List Check
+tableChecks all values precisions marks = need (roomIn all values precisions marks) Lent ∷ []
+
+-- of decoding's checks those of a body: 1, 2, 9, 5
 abbrev pub readChecks : ℕ → ℕ → ℕ → ℕ → ℕ → ℕ → List Check
-readChecks N L P values precisions marks =
-    worstChecks N L P ++ (need (leb (allOf N) values && (leb (allOf N) precisions && leb (allOf N) marks)) Lent ∷ [])
+readChecks N L P values precisions marks = worstChecks N L P ++ tableChecks (allOf N) values precisions marks
 
 -- "usable bits are the smaller of declared and 8 times the bytes present"
 abbrev pub bodyBits : ℕ → List ℕ → List Bool

@@ -2,18 +2,16 @@
 use refusals::Outcome;
 use refusals::Refusal;
 ghost use mathlib.Core.Path.{_≡_};
-ghost use mathlib.Core.Bool.{true, _&&_};
-ghost use mathlib.Core.List.{[], _∷_};
+ghost use mathlib.Core.Bool.{true};
 ghost use Prim.Native.Nat.{_+_, _*_, _≤_, min};
 ghost use lib.Dec.{leb};
 ghost use lib.ListN.{length};
-ghost use Rattle.refusals.specs.Checks.{need, firstOf};
-ghost use Rattle.refusals.specs.declared.Refusal.the-variants.{Lent};
+ghost use Rattle.refusals.specs.Checks.{firstOf};
 ghost use Rattle.sizes.specs.Sizes.{sideFits, levelsFit, mostPlanes};
 ghost use Rattle.bits.specs.Bits.{bytesFor};
 ghost use Rattle.nls.specs.Stream.{worstBody};
 ghost use Rattle.coef.specs.Coef.{firstOver};
-ghost use Rattle.room.specs.Room.{worstChecks, worstAnswer, mostBits, roomChecks, writeChecks, readChecks};
+ghost use Rattle.room.specs.Room.{worstChecks, worstAnswer, mostBits, roomChecks, writeChecks, tableChecks, readChecks};
 
 // What `worst_body` answers.
 pub enum WorstAnswer {
@@ -137,9 +135,9 @@ pub fn check_encode(
     }
 }
 
-// The refusal of tables that are too short for the values, the precisions and the marks.
-fn check_tables(all: usize, values: usize, precisions: usize, marks: usize) -> Outcome
-    ensures { λ r. ⌜ r ≡ firstOf (need (leb all values && (leb all precisions && leb all marks)) Lent ∷ []) ⌝ }
+// Refusal 5 where one of the three tables is too short for this many values, precisions and marks.
+pub fn check_tables(all: usize, values: usize, precisions: usize, marks: usize) -> Outcome
+    ensures { λ r. ⌜ r ≡ firstOf (tableChecks all values precisions marks) ⌝ }
 {
     if values < all {
         return Outcome::Refused(Refusal::Lent);

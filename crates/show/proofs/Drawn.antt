@@ -33,7 +33,8 @@ use Rattle.txp.specs.declared.Decoded.{Decoded}
 use Rattle.txp.specs.declared.DecodeAnswer.the-variants as decode
 use Rattle.txp.specs.Header.{headerOf}
 use Rattle.txp.specs.File.{usableBits}
-use Rattle.txp.specs.Calls.{roomIn, decodeChecks, decodeAnswer, DecodesTo, Decodes}
+use Rattle.room.specs.Room.{roomIn}
+use Rattle.txp.specs.Calls.{decodeChecks, decodeAnswer, DecodesTo, Decodes}
 use Rattle.show.specs.Text.{mostShownN}
 use Rattle.show.specs.Putting.{Drawn}
 

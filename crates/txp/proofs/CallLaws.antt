@@ -19,6 +19,7 @@ use Rattle.coef.specs.Coef.{planesOf}
 use Rattle.coef.proofs.Laws.{planes-of, planes-most, first-all}
 use Rattle.nls.specs.Judging.{Verdict, taken, contradiction, beyond}
 use Rattle.room.specs.Room as room
+use Rattle.room.specs.Room.{roomIn}
 use Rattle.room.specs.Ready.{EncodeReady}
 use Rattle.room.proofs.Laws.{encode-ready}
 use Rattle.encoder.specs.Body as body
@@ -34,7 +35,7 @@ use Rattle.txp.specs.declared.EncodeAnswer.the-variants as encode
 use Rattle.txp.specs.declared.DecodeAnswer.the-variants as decode
 use Rattle.txp.specs.Header.{headerSize, headerBytes, headerOf, bodyOf}
 use Rattle.txp.specs.File.{headerFor, fileOf, usableBits}
-use Rattle.txp.specs.Calls.{encodeAnswer, encodeOutcome, Encodes, roomIn, headerChecks, decodeChecks, decodeAnswer, DecodesTo}
+use Rattle.txp.specs.Calls.{encodeAnswer, encodeOutcome, Encodes, headerChecks, decodeChecks, decodeAnswer, DecodesTo}
 use Rattle.txp.specs.Under.{withHeader}
 use Rattle.txp.proofs.Headers.{header-length, letters-room}
 

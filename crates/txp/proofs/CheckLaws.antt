@@ -1,4 +1,4 @@
--- The answer of the checks behind those of the header, for each check that may fail first and for none.
+-- The answer of the checks behind those of the header: the first that fails, or that of the tables.
 use mathlib.Core.Path.{_≡_}
 use mathlib.Core.Bool.{true, false}
 use mathlib.Core.List.{List}
@@ -6,12 +6,13 @@ use Prim.Native.Nat.{ℕ, _≤_, _<_}
 use borrow.Author.Tests.{le-leb, lt-leb}
 use lib.ListN.{length}
 use Rattle.refusals.specs.Checks.{firstOf}
-use Rattle.refusals.specs.declared.Refusal.the-variants.{Lent, Surplus, Padding}
-use Rattle.refusals.specs.declared.Outcome.the-variants.{Done, Refused}
+use Rattle.refusals.specs.declared.Refusal.the-variants.{Surplus, Padding}
+use Rattle.refusals.specs.declared.Outcome.the-variants.{Refused}
 use Rattle.sizes.specs.Sizes.{allOf}
 use Rattle.bits.specs.Bits.{bytesFor}
+use Rattle.room.specs.Room.{tableChecks}
 use Rattle.txp.specs.declared.Header.{Header}
-use Rattle.txp.specs.Calls.{paddingFits, roomIn, bodyChecks}
+use Rattle.txp.specs.Calls.{paddingFits, bodyChecks}
 
 module _ (h : Header) (body : List ℕ) (values precisions marks : ℕ) where
   pub surplus : bytesFor (h .declared) < length body → Refused Surplus ≡ firstOf (bodyChecks h body values precisions marks)
@@ -24,10 +25,6 @@ module _ (h : Header) (body : List ℕ) (values precisions marks : ℕ) where
     no-padding f = rw (le-leb (length body) (bytesFor (h .declared)) b, f)
 
     module _ (f : paddingFits (h .declared) body ≡ true) where
-      pub no-room : roomIn (allOf (h .n)) values precisions marks ≡ false → Refused Lent ≡ firstOf (bodyChecks h body values precisions marks)
+      pub then-tables : firstOf (tableChecks (allOf (h .n)) values precisions marks) ≡ firstOf (bodyChecks h body values precisions marks)
       unfolding firstOf
-      no-room r = rw (le-leb (length body) (bytesFor (h .declared)) b, f, r)
-
-      pub all-well : roomIn (allOf (h .n)) values precisions marks ≡ true → Done ≡ firstOf (bodyChecks h body values precisions marks)
-      unfolding firstOf
-      all-well r = rw (le-leb (length body) (bytesFor (h .declared)) b, f, r)
+      then-tables = rw (le-leb (length body) (bytesFor (h .declared)) b, f)

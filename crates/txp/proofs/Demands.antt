@@ -30,6 +30,7 @@ use Rattle.nls.specs.Judging.{Begins, Fits, Verdict, taken, contradiction, beyo
 use Rattle.nls.proofs.Demands as scan
 use Rattle.nls.proofs.Counts.{stream-bound}
 use Rattle.nls.proofs.Streams.{marks-length}
+use Rattle.room.specs.Room.{roomIn}
 use Rattle.room.specs.Ready.{EncodeReady}
 use Rattle.room.proofs.Laws.{encode-ready}
 use Rattle.encoder.specs.Body.{sentBits, sentMarks, outputAfter, Loan}
@@ -42,7 +43,7 @@ use Rattle.txp.specs.declared.DecodeAnswer.{DecodeAnswer}
 use Rattle.txp.specs.declared.DecodeAnswer.the-variants as decode
 use Rattle.txp.specs.Header.{headerSize, headerBytes, headerOf, lettersFit}
 use Rattle.txp.specs.File.{headerFor, fileOf, usableBits}
-use Rattle.txp.specs.Calls.{encodeAnswer, encodeOutcome, Encodes, paddingFits, roomIn, decodeChecks, decodeAnswer, DecodedFile, DecodesTo, Decodes}
+use Rattle.txp.specs.Calls.{encodeAnswer, encodeOutcome, Encodes, paddingFits, decodeChecks, decodeAnswer, DecodedFile, DecodesTo, Decodes}
 use Rattle.txp.proofs.Headers as headers
 use Rattle.txp.proofs.Headers.{header-length, letters-read, version-read, header-read, body-read}
 use Rattle.txp.proofs.Files.{cut-file, cut-bits, all-bits, no-surplus, padding-zero, padding-refused, refused-padding}

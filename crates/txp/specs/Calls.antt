@@ -1,6 +1,6 @@
 -- The calls on a file: what they check, what they answer, and what is lent to them holds afterwards (document 01, "Numbers for no").
 use Prim.Native.Nat.{ℕ, _+_, _-_, _/_, _%_, _^_}
-use mathlib.Core.{Path._≡_, Bool.Bool, Bool.true, Bool._&&_, Bool.cond, List.List, List.[], List._∷_, List._++_}
+use mathlib.Core.{Path._≡_, Bool.Bool, Bool.true, Bool.cond, List.List, List._∷_, List._++_}
 use lib.{Dec.leb, Dec.eqb, IntN.ℤ, ListN.length, ListN.getD}
 use Rattle.refusals.specs.declared.Refusal.the-variants as refusal
 use Rattle.refusals.specs.{declared.Outcome.Outcome, Checks.Check, Checks.need, Checks.firstOf}
@@ -9,7 +9,7 @@ use Rattle.sizes.specs.Sizes.{allOf}
 use Rattle.bits.specs.Bits.{bytesFor}
 use Rattle.coef.specs.Coef.{planesOf}
 use Rattle.nls.specs.{Reading.planesFinished, Reading.worstError, Judging.Verdict, Judging.taken, Judging.contradiction, Judging.beyond, Judging.Judged}
-use Rattle.room.specs.Room.{worstChecks}
+use Rattle.room.specs.Room.{worstChecks, tableChecks}
 use Rattle.encoder.specs.Body.{sentBits, Loan, writeOutcome, lentTo}
 use Rattle.decoder.specs.Body.{Tables, ownTables, over}
 use Rattle.txp.specs.{declared.Header.Header, declared.HeaderAnswer.HeaderAnswer, declared.EncodeAnswer.EncodeAnswer, declared.DecodeAnswer.DecodeAnswer, Header.headerSize, Header.lettersFit, Header.versionFits, Header.headerOf, Header.bodyOf, File.fileOf, File.usableBits}
@@ -40,10 +40,6 @@ unfoldable pub paddingFits : ℕ → List ℕ → Bool
 paddingFits declared body =
     cond (eqb (length body) (bytesFor declared)) (eqb (getD body (declared / 8) 0 % 2 ^ (8 - declared % 8)) 0) true
 
--- the three lent tables have room for `all` entries
-unfoldable pub roomIn : ℕ → ℕ → ℕ → ℕ → Bool
-roomIn all values precisions marks = leb all values && (leb all precisions && leb all marks)
-
 -- those that the header decides: 7, 8, 1, 2, 9
 abbrev pub headerChecks : List ℕ → List Check
 headerChecks file =
@@ -55,8 +51,7 @@ abbrev pub bodyChecks : Header → List ℕ → ℕ → ℕ → ℕ → List Che
 bodyChecks h body values precisions marks =
     need (leb (length body) (bytesFor (h .declared))) refusal.Surplus
     ∷ need (paddingFits (h .declared) body) refusal.Padding
-    ∷ need (roomIn (allOf (h .n)) values precisions marks) refusal.Lent
-    ∷ []
+    ∷ tableChecks (allOf (h .n)) values precisions marks
 
 abbrev pub decodeChecks : List ℕ → ℕ → ℕ → ℕ → List Check
 decodeChecks file values precisions marks = headerChecks file ++ bodyChecks (headerOf file) (bodyOf file) values precisions marks

@@ -12,7 +12,7 @@ ghost use Rattle.sizes.specs.Sizes.{sideFits};
 ghost use Rattle.bits.specs.Bits.{bytesFor};
 ghost use Rattle.encoder.specs.Body.{loan};
 ghost use Rattle.decoder.specs.Body.{tables};
-ghost use Rattle.txp.specs.Calls.{Encodes, paddingFits, roomIn, headerChecks, bodyChecks, headerAnswer, decodeChecks, Decodes};
+ghost use Rattle.txp.specs.Calls.{Encodes, paddingFits, headerChecks, bodyChecks, headerAnswer, decodeChecks, Decodes};
 ghost use Rattle.txp.specs.Under.{withHeader};
 ghost use Rattle.txp.specs.Header.{bodyOf, headerSize, headerBytes, twoAt, twoBytes, lettersFit, versionFits, headerOf};
 
@@ -178,19 +178,6 @@ fn padding_fits(file: &[u8], declared: u32) -> bool
     true
 }
 
-// Whether three lent tables have room for this many entries.
-fn room_in(all: usize, values: usize, precisions: usize, marks: usize) -> bool
-    ensures { λ r. ⌜ r ≡ roomIn all values precisions marks ⌝ }
-{
-    if values < all {
-        return false;
-    }
-    if precisions < all {
-        return false;
-    }
-    all <= marks
-}
-
 // The checks that the header decides, in their order: 7, 8, 1, 2, 9.
 fn check_header(file: &[u8]) -> Outcome
     ensures { λ r. ⌜ r ≡ firstOf (headerChecks (now (file .entry))) ⌝ }
@@ -227,10 +214,7 @@ fn check_body(h: Header, file: &[u8], values: usize, precisions: usize, marks: u
     if !padding_fits(file, h.declared) {
         return Outcome::Refused(Refusal::Padding);
     }
-    if !room_in(sizes::all_of(h.n), values, precisions, marks) {
-        return Outcome::Refused(Refusal::Lent);
-    }
-    Outcome::Done
+    room::check_tables(sizes::all_of(h.n), values, precisions, marks)
 }
 
 // The checks of decoding but for 12 and 13, in their order.

@@ -10,8 +10,24 @@ use lib.ListN.{length, getD, take}
 use lib.Dec.{ltb, eqb, lit<, lit≤}
 use borrow.Author.Tests.{ltb-true}
 use Rattle.nls.specs.Marks.{skip, setSkip, startMarks}
-use Rattle.nls.specs.Scan.{State, Look, over, silent, asks, Question, Pass, pixels, sets, refining, stateAt, look, lookAt, lookPixels, lookSets, lookRefining, tell, movesLeft, silently, settle, ask, next, reach, start, asked}
+use Rattle.nls.specs.Scan.{State, Look, over, silent, asks, Question, Pass, pixels, sets, refining, stateAt, look, lookAt, lookPixels, lookSets, lookRefining, tell, tellAt, tellSets, movesLeft, silently, settle, ask, next, reach, start, asked}
 use Rattle.nls.proofs.Arrays.{answersOf, Bits, ans, told, Fit}
+
+-- an answer ends no plane
+pub tell-left : (I l : ℕ) (p : Pass) (i : ℕ) (w : Bool) (m : List ℕ) (a : Bool) → (tellAt I l p i w m a) .left ≡ l
+tell-left I l p i true m a = refl
+tell-left I l pixels i false m true = refl
+tell-left I l pixels i false m false = refl
+tell-left I l refining i false m a = refl
+tell-left I l sets i false m a = on a (eqb (getD m i 0) 5) (eqb (getD m i 0) 6)
+  where
+    on : (a d g : Bool) → (tellSets I l i m a d g) .left ≡ l
+    on true true g = refl
+    on false true g = refl
+    on true false true = refl
+    on false false true = refl
+    on true false false = refl
+    on false false false = refl
 
 pub skip-pos : (m : ℕ) → 1 ≤ skip m
 unfolding skip

@@ -1,13 +1,9 @@
 use mathlib.Core.Path.{_≡_, sym, ap, _∙_}
-use mathlib.Core.Bool.{_&&_}
-use mathlib.Core.List.{[], _∷_}
 use Prim.Native.Nat.{ℕ}
 use borrow.Author.Needs.{needs}
-use lib.Dec.{leb}
-use Rattle.refusals.specs.declared.Refusal.the-variants.{Lent}
-use Rattle.refusals.specs.Checks.{need, firstOf}
+use Rattle.refusals.specs.Checks.{firstOf}
 use Rattle.sizes.specs.Sizes.{allOf}
-use Rattle.room.specs.Room.{worstChecks}
+use Rattle.room.specs.Room.{worstChecks, tableChecks}
 use Rattle.room.proofs.Laws.{refused-first, then-more, worst-ready}
 use Rattle.room.proofs.check_decode.Statement.{statement}
 use Rattle.room.proofs.check_decode.Tie as tie
@@ -34,7 +30,7 @@ returns c =
     let first = c .before .before .before .before .check-worst .ensures in
     let all : c .before .all-of .result ≡ allOf (a .n) = c .before .all-of .ensures ∙ rw (worst-ready (a .n) (a .l) (a .p) (sym done ∙ first) .0) in
     then-more (worstChecks (a .n) (a .l) (a .p)) _ first done
-    (c .check-tables .ensures ∙ ap (λ (x : ℕ). firstOf (need (leb x (a .values) && (leb x (a .precisions) && leb x (a .marks))) Lent ∷ [])) all)
+    (c .check-tables .ensures ∙ ap (λ (x : ℕ). firstOf (tableChecks x (a .values) (a .precisions) (a .marks))) all)
 
 returns-2 : tie.Need-returns-2
 returns-2 c =

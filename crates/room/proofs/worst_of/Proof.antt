@@ -1,9 +1,10 @@
-use mathlib.Core.Path.{_≡_, refl, _∙_}
+use mathlib.Core.Path.{_≡_, refl, sym, _∙_}
 use Prim.Native.Nat.{_+_, _*_, _≤_}
 use native.Mathlib.Omega.{arith}
 use borrow.Author.Needs.{needs}
 use Rattle.sizes.specs.Sizes.{mostN, allOf, coarsestOf, mostPlanes}
-use Rattle.room.proofs.Laws.{worst-none, worst-some, parts-near}
+use Rattle.nls.proofs.Worst.{worst-none, worst-some}
+use Rattle.room.proofs.Laws.{parts-near}
 use Rattle.room.proofs.worst_of.Statement.{statement}
 use Rattle.room.proofs.worst_of.Tie as tie
 
@@ -21,7 +22,7 @@ near c =
     parts-near (a .n) (a .l) (a .p) (c .before .all-of .result) (c .coarsest-of .result) (all-so (c .before)) (coarsest-so c) (p .0) (p .1) (p .2)
 
 returns : tie.Need-returns
-returns c = worst-none (c .before .args .n) (c .before .args .l) (c .before .args .p) (c .if1 .taken)
+returns c = sym (worst-none (c .before .args .n) (c .before .args .l) (c .before .args .p) (c .if1 .taken))
 
 all-of-requires : tie.Need-all-of-requires
 all-of-requires c κs = search needs
@@ -62,7 +63,7 @@ add-result-3 c = record { fits = omega (arith, near c .0, near c .2) }
 returns-2 : tie.Need-returns-2
 returns-2 c =
     let a = c .before .before .before .args in
-    rw (all-so (c .before), coarsest-so c) (worst-some (a .n) (a .l) (a .p) (c .before .before .if1 .left))
+    rw (all-so (c .before), coarsest-so c) (sym (worst-some (a .n) (a .l) (a .p) (omega (arith, c .before .before .if1 .left))))
 
 pub worst-of-spec : {M : Type 1} → statement M
 worst-of-spec =

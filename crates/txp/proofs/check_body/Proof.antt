@@ -5,11 +5,12 @@ use native.Mathlib.Omega.{arith}
 use borrow.Author.Needs.{needs}
 use borrow.Author.Tests.{not-true, not-false}
 use lib.ListN.{length, length-drop}
-use Rattle.sizes.specs.Sizes.{allOf}
+use Rattle.refusals.specs.Checks.{firstOf}
 use Rattle.bits.specs.Bits.{bytesFor}
+use Rattle.room.specs.Room.{tableChecks}
 use Rattle.txp.specs.Header.{headerSize, bodyOf}
-use Rattle.txp.specs.Calls.{paddingFits, roomIn}
-use Rattle.txp.proofs.CheckLaws.{surplus, no-padding, no-room, all-well}
+use Rattle.txp.specs.Calls.{paddingFits}
+use Rattle.txp.proofs.CheckLaws.{surplus, no-padding, then-tables}
 use Rattle.txp.proofs.check_body.Statement.{statement}
 use Rattle.txp.proofs.check_body.Tie as tie
 
@@ -19,13 +20,6 @@ bytes-so c = omega (arith, c .if1 .left, c .before .bytes-for .ensures, length-d
 
 padding-so : (c : tie.Else2) → paddingFits (c .before .before .before .before .before .args .h .declared) (bodyOf (c .before .before .before .before .before .args .file .now)) ≡ true
 padding-so c = sym (c .before .padding-fits .ensures) ∙ not-false (c .before .padding-fits .result) (c .if2 .left)
-
--- the room is asked for the entries of a side in range
-room-so : (c : tie.After-room-in) → let a = c .before .before .before .before .before .before .before .args in c .room-in .result ≡ roomIn (allOf (a .h .n)) (a .values) (a .precisions) (a .marks)
-room-so c =
-    let b = c .before .before .before .before .before .before .before in
-    let a = b .args in
-    c .room-in .ensures ∙ ap (λ (all : ℕ). roomIn all (a .values) (a .precisions) (a .marks)) (c .before .all-of .ensures ∙ rw (b .pre .1))
 
 bytes-for-requires : tie.Need-bytes-for-requires
 bytes-for-requires c κs = search needs
@@ -51,20 +45,17 @@ returns-2 c =
 all-of-requires : tie.Need-all-of-requires
 all-of-requires c κs = search needs
 
-room-in-requires : tie.Need-room-in-requires
-room-in-requires c κs = search needs
+check-tables-requires : tie.Need-check-tables-requires
+check-tables-requires c κs = search needs
 
+-- the room is asked for the entries of a side in range
 returns-3 : tie.Need-returns-3
 returns-3 c =
-    let a = c .before .before .before .before .before .before .before .before .args in
-    no-room (a .h) (bodyOf (a .file .now)) (a .values) (a .precisions) (a .marks) (bytes-so (c .before .before .before .before .before)) (padding-so (c .before .before .before))
-    (sym (room-so (c .before)) ∙ not-true (c .before .room-in .result) (c .if3 .taken))
-
-returns-4 : tie.Need-returns-4
-returns-4 c =
-    let a = c .before .before .before .before .before .before .before .before .args in
-    all-well (a .h) (bodyOf (a .file .now)) (a .values) (a .precisions) (a .marks) (bytes-so (c .before .before .before .before .before)) (padding-so (c .before .before .before))
-    (sym (room-so (c .before)) ∙ not-false (c .before .room-in .result) (c .if3 .left))
+    let b = c .before .before .before .before .before .before .before in
+    let a = b .args in
+    c .check-tables .ensures
+    ∙ ap (λ (all : ℕ). firstOf (tableChecks all (a .values) (a .precisions) (a .marks))) (c .before .all-of .ensures ∙ rw (b .pre .1))
+    ∙ then-tables (a .h) (bodyOf (a .file .now)) (a .values) (a .precisions) (a .marks) (bytes-so (c .before .before .before .before)) (padding-so (c .before .before))
 
 pub check-body-spec : {M : Type 1} → statement M
 check-body-spec =
@@ -76,6 +67,5 @@ check-body-spec =
     padding-fits-requires
     returns-2
     all-of-requires
-    room-in-requires
-    returns-3
-    returns-4)
+    check-tables-requires
+    returns-3)
