@@ -6,8 +6,7 @@ use Prim.Native.Nat.{ℕ, suc, _*_, _/_, _^_, _≤_, _<_}
 use native.Mathlib.Decide.{decLt}
 use native.Mathlib.Nat.{pow-succ', pow-le-pow-right, one-le-pow}
 use native.Mathlib.Omega.{arith}
-use borrow.Author.Tests.{leb-true, le-leb, lt-ltb, eq-eqb}
-use lib.Dec.{leb}
+use borrow.Author.Tests.{le-leb, lt-ltb, eq-eqb}
 use lib.IntN.{ℤ, pos}
 use lib.ListN.{length, take, drop, length-append, length-replicate, List·getD-eq-default}
 use lib.Pow.{pow-add, pow-mono}
@@ -15,9 +14,9 @@ use lib.Seq.{take-at}
 use Rattle.refusals.specs.declared.Outcome.{Outcome}
 use Rattle.refusals.specs.declared.Outcome.the-variants as outcome
 use Rattle.refusals.specs.Checks.{firstOf, lentAfter}
-use Rattle.refusals.proofs.Laws.{AllHold, passed, all-pass}
+use Rattle.refusals.proofs.Laws.{AllHold, all-pass}
 use Rattle.sizes.specs.Sizes.{allOf, limit, mostPlanes}
-use Rattle.sizes.proofs.Laws.{both, both-left, four}
+use Rattle.sizes.proofs.Laws.{both, four}
 use Rattle.sizes.proofs.Tables.{table-length, table-at}
 use Rattle.places.specs.Order.{rasterly}
 use Rattle.places.specs.Answers.{reorderChecks}
@@ -33,8 +32,8 @@ use Rattle.txp.specs.declared.Decoded.{Decoded}
 use Rattle.txp.specs.declared.DecodeAnswer.the-variants as decode
 use Rattle.txp.specs.Header.{headerOf}
 use Rattle.txp.specs.File.{usableBits}
-use Rattle.room.specs.Room.{roomIn}
 use Rattle.txp.specs.Calls.{decodeChecks, decodeAnswer, DecodesTo, Decodes}
+use Rattle.txp.proofs.CallLaws.{decode-passed}
 use Rattle.show.specs.Text.{mostShownN}
 use Rattle.show.specs.Putting.{Drawn}
 
@@ -78,23 +77,22 @@ module _ (file : List ℕ) (held left : Tables) (d : Decoded) (most : length (he
   Can x =
       Drawn (x .n) (x .l) (take (allOf (x .n)) (left .values)) × (x .p ≤ mostPlanes) × (x .finished ≤ x .p) × (allOf (x .n) ≤ length (held .values))
 
-  by-verdict : AllHold (decodeChecks file (length (held .values)) (length (held .precisions)) (length (held .marks)))
-      → (v : Verdict) → decode.Done d ≡ decodeAnswer h u v → left ≡ over (allOf (h .n)) (ownTables (h .n) (h .l) (h .p) u v) held → Can d
-  unfolding AllHold roomIn
-  by-verdict all taken answered filled =
+  by-verdict : checks ≡ outcome.Done → (v : Verdict) → decode.Done d ≡ decodeAnswer h u v → left ≡ over (allOf (h .n)) (ownTables (h .n) (h .l) (h .p) u v) held → Can d
+  by-verdict e taken answered filled =
+      let ready = decode-passed file (length (held .values)) (length (held .precisions)) (length (held .marks)) e in
       let told : decode.Done d ≡ decode.Done (record { n = h .n; l = h .l; p = h .p; declared = h .declared; used = length u; finished = planesFinished (h .n) (h .l) (h .p) u; error = worstError (h .n) (h .l) (h .p) u }) = answered in
       let is : d ≡ record { n = h .n; l = h .l; p = h .p; declared = h .declared; used = length u; finished = planesFinished (h .n) (h .l) (h .p) u; error = worstError (h .n) (h .l) (h .p) u } = cc in
       let own = valuesBy (h .n) (h .l) (h .p) u midpoint in
-      let few : h .p ≤ mostPlanes = leb-true (h .p) mostPlanes (all .1 .1 .1 .1 .0) in
-      let room : allOf (h .n) ≤ length (held .values) = leb-true (allOf (h .n)) (length (held .values)) (both-left (leb (allOf (h .n)) (length (held .values))) _ (all .1 .1 .1 .1 .1 .1 .1 .0)) in
+      let few : h .p ≤ mostPlanes = ready .planes in
+      let room : allOf (h .n) ≤ length (held .values) = ready .valuesRoom in
       let size : length own ≡ allOf (h .n) = table-length (allOf (h .n)) _ in
       let first : take (allOf (h .n)) (left .values) ≡ own =
       ap (λ (t : Tables). take (allOf (h .n)) (t .values)) filled ∙ take-at own (drop (allOf (h .n)) (held .values)) (allOf (h .n)) size in
       subst (λ (x : Decoded). Can x) (sym is) (
         rw first
             (record {
-              side = all .1 .1 .0;
-              levels = all .1 .1 .1 .0;
+              side = ready .side;
+              levels = ready .levels;
               small = four-le (h .n) mostShownN (omega (arith, room, most));
               whole = size;
               limited = values-limited (h .n) (h .l) (h .p) u few;
@@ -103,11 +101,11 @@ module _ (file : List ℕ) (held left : Tables) (d : Decoded) (most : length (he
         omega arith,
         room,
       )
-  by-verdict all (contradiction bit) answered filled = let z : _≡_ {A = ℕ} 0 1 = cc in absurd (omega arith)
-  by-verdict all (beyond bit) answered filled = let z : _≡_ {A = ℕ} 0 1 = cc in absurd (omega arith)
+  by-verdict e (contradiction bit) answered filled = let z : _≡_ {A = ℕ} 0 1 = cc in absurd (omega arith)
+  by-verdict e (beyond bit) answered filled = let z : _≡_ {A = ℕ} 0 1 = cc in absurd (omega arith)
 
   by-outcome : (o : Outcome) → checks ≡ o → DecodesTo o h u held (decode.Done d) left → Can d
-  by-outcome outcome.Done e q = by-verdict (passed _ e) (q .verdict) (q .answered) (q .filled)
+  by-outcome outcome.Done e q = by-verdict e (q .verdict) (q .answered) (q .filled)
   by-outcome (outcome.Refused why) e q = let f = q .0 in let z : _≡_ {A = ℕ} 0 1 = cc in absurd (omega arith)
 
   pub drawn : Decodes file held (decode.Done d) left → Can d

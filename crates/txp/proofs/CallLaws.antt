@@ -21,7 +21,7 @@ use Rattle.nls.specs.Judging.{Verdict, taken, contradiction, beyond}
 use Rattle.room.specs.Room as room
 use Rattle.room.specs.Room.{roomIn}
 use Rattle.room.specs.Ready.{EncodeReady}
-use Rattle.room.proofs.Laws.{encode-ready}
+use Rattle.room.proofs.Laws.{encode-ready, DecodeReady, decode-ready}
 use Rattle.encoder.specs.Body as body
 use Rattle.decoder.specs.Body as cutBody
 use Rattle.encoder.specs.Body.{sentBits, outputAfter, Loan, loan, lentTo, Writes}
@@ -117,11 +117,6 @@ pub header-passed : (file : List ℕ) → firstOf (headerChecks file) ≡ Done �
 unfolding AllHold
 header-passed file e = let p = passed (headerChecks file) e in (letters-room file (p .0), p .1 .1 .0)
 
--- where the checks of decoding hold, the sizes are in range
-pub in-range : (file : List ℕ) (values precisions marks : ℕ) → firstOf (decodeChecks file values precisions marks) ≡ Done → Sized (headerOf file .n) (headerOf file .l)
-unfolding AllHold
-in-range file values precisions marks e = sized (headerOf file .n) (headerOf file .l) (passed (decodeChecks file values precisions marks) e .1 .1 .1 .0)
-
 module _ (file : List ℕ) (values precisions marks : ℕ) (r : Outcome) (is : r ≡ firstOf (decodeChecks file values precisions marks)) where
   pub refused-file : (why : Refusal) (held : Tables) → r ≡ Refused why
       → DecodesTo (firstOf (decodeChecks file values precisions marks)) (headerOf file) (usableBits file) held (decode.Refused why) held
@@ -154,3 +149,12 @@ module _ (file : List ℕ) (values precisions marks : ℕ) (r : Outcome) (is : r
         ap (λ (x : Header). withHeader x b) eh ∙ ap (λ (x : answer.ReadAnswer). withHeader (headerOf file) x) (got .answered) ∙ with-verdict (headerOf file) (usableBits file) (got .verdict) in
         subst (λ (o : Outcome). DecodesTo o (headerOf file) (usableBits file) held (withHeader h b) left) (sym done ∙ is)
         (record { verdict = got .verdict; judged = got .judged; answered = answered; filled = got .filled })
+
+-- where the checks of decoding hold, sizes and planes are in range, and each table has room
+pub decode-passed : (file : List ℕ) (values precisions marks : ℕ) → firstOf (decodeChecks file values precisions marks) ≡ Done
+    → DecodeReady (headerOf file .n) (headerOf file .l) (headerOf file .p) values precisions marks
+decode-passed file values precisions marks e =
+    decode-ready (headerOf file .n) (headerOf file .l) (headerOf file .p) values precisions marks (sym (body-passes file values precisions marks Done (sym e) refl))
+
+pub in-range : (file : List ℕ) (values precisions marks : ℕ) → firstOf (decodeChecks file values precisions marks) ≡ Done → Sized (headerOf file .n) (headerOf file .l)
+in-range file values precisions marks e = sized (headerOf file .n) (headerOf file .l) (decode-passed file values precisions marks e .levels)
