@@ -85,6 +85,33 @@ fn number(case: Case, ints: &[i32], file: &[u8], answer: &mut [u32; 15]) -> u32 
     }
 }
 
+// The calls on whole arrays and on bits, which are lent no marks.
+fn array(
+    case: Case,
+    ints: &[i32],
+    file: &[u8],
+    desc: &mut [u32],
+    grand: &mut [u32],
+    bytes: &mut [u8],
+    values: &mut [i32],
+    answer: &mut [u32; 15],
+) -> u32 {
+    let a = case.a;
+    let b = case.b;
+    let c = case.c;
+    let letter = case.letter;
+    match letter {
+        b'S' => ctxp::txp_summaries(a, b, ints, desc, grand, answer),
+        b'G' => ctxp::txp_figures(a, b, ints, c, desc, grand, answer),
+        b'O' => ctxp::txp_to_linear(a, ints, values, answer),
+        b'Q' => ctxp::txp_to_raster(a, ints, values, answer),
+        b'J' => join(a, b, values, answer),
+        b'F' => float(first(ints), desc, answer),
+        b'U' => ctxp::txp_put_bit(bytes, wide(a), b, answer),
+        _ => number(case, ints, file, answer),
+    }
+}
+
 // The call of a case, on arrays and tables of its lengths.
 pub fn call(
     case: Case,
@@ -107,13 +134,6 @@ pub fn call(
         b'B' => ctxp::txp_encode_body(a, b, ints, desc, grand, marks, bytes, wide(c), d, answer),
         b'D' => ctxp::txp_decode(file, values, bytes, marks, answer),
         b'C' => ctxp::txp_decode_body(a, b, c, file, d, values, bytes, marks, answer),
-        b'S' => ctxp::txp_summaries(a, b, ints, desc, grand, answer),
-        b'G' => ctxp::txp_figures(a, b, ints, c, desc, grand, answer),
-        b'O' => ctxp::txp_to_linear(a, ints, values, answer),
-        b'Q' => ctxp::txp_to_raster(a, ints, values, answer),
-        b'J' => join(a, b, values, answer),
-        b'F' => float(first(ints), desc, answer),
-        b'U' => ctxp::txp_put_bit(bytes, wide(a), b, answer),
-        _ => number(case, ints, file, answer),
+        _ => array(case, ints, file, desc, grand, bytes, values, answer),
     }
 }
