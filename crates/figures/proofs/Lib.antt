@@ -1,8 +1,7 @@
 pub mod Sums
 pub mod Levels
-pub mod Standing
+pub mod Members
 pub mod Splitting
-pub mod Counted
 pub mod Reached
 pub mod Checks
 pub mod All

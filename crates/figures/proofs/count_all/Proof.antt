@@ -1,18 +1,16 @@
 use mathlib.Core.Path.{_≡_, refl, sym, _∙_, ap}
 use mathlib.Core.List.{_++_}
-use Prim.Native.Nat.{ℕ, suc, _*_, _-_, _/_, _^_, _≤_}
+use Prim.Native.Nat.{ℕ, _+_, _*_, _-_, _^_, _≤_}
 use native.Mathlib.Nat.{pow-succ'}
 use native.Mathlib.Numerals.{add-one}
 use native.Mathlib.Omega.{arith}
 use borrow.Author.Needs.{needs}
 use lib.ListN.{length, drop}
 use lib.Pow.{pow-mono}
-use Rattle.sizes.specs.Sizes.{coarsestOf, mostPlanes}
-use Rattle.sizes.proofs.Laws.{sized, side-most, all-most, coarsest-all}
+use Rattle.sizes.specs.Sizes.{mostPlanes}
 use Rattle.figures.specs.Figures.{figuresOf, figuresBelow}
 use Rattle.figures.specs.Tables.{reachOf}
-use Rattle.figures.proofs.Counted.{all-size, desc-size}
-use Rattle.figures.proofs.Reached.{grand-within, reached, between}
+use Rattle.figures.proofs.Reached.{sizes-fit, reached, between}
 use Rattle.figures.proofs.All.{below-length, below-none, next-plane}
 use Rattle.figures.proofs.count_all.Statement.{statement}
 use Rattle.figures.proofs.count_all.Tie as tie
@@ -23,33 +21,13 @@ Inv-loop n l values desc grand out₀ least here₀ plane₀ out here plane = (p
 abbrev μ-loop : tie.MeasureT-loop
 μ-loop n l values desc grand out₀ least here₀ plane₀ out here plane = mostPlanes - plane
 
-coarsest-of-requires : tie.Need-coarsest-of-requires Inv-loop μ-loop
-coarsest-of-requires c κs = search needs
-
--- D, and how small it is
-coarsest : (c : tie.After-coarsest-of Inv-loop μ-loop) → let a = c .before .before .before .before .args in c .coarsest-of .result ≡ coarsestOf (a .n) (a .l)
-coarsest c =
-    let f = c .before .before .before .before .pre .0 0 (omega arith) in
-    c .coarsest-of .ensures ∙ rw (f .side, f .levels)
-
-few : (c : tie.After-coarsest-of Inv-loop μ-loop) → c .coarsest-of .result ≤ 65536
-few c =
-    let a = c .before .before .before .before .args in
-    let f = c .before .before .before .before .pre .0 0 (omega arith) in
-    omega (arith, coarsest c, coarsest-all (a .n) (a .l) (sized (a .n) (a .l) (f .levels)), all-most (a .n) (side-most (a .n) (f .side)))
-
-mul-least : tie.Need-mul-least Inv-loop μ-loop
-mul-least c = omega (arith, few c)
-
-cast-least : tie.Need-cast-least Inv-loop μ-loop
-cast-least c = omega (arith, few c)
+least-parts-requires : tie.Need-least-parts-requires Inv-loop μ-loop
+least-parts-requires c κs = (c .before .before .before .pre .0 .side, c .before .before .before .pre .0 .levels)
 
 reach-of-requires : tie.Need-reach-of-requires Inv-loop μ-loop
 reach-of-requires c κs =
     let s = c .before .before .before .before in
-    let a = s .args in
-    let f = s .pre .0 0 (omega arith) in
-    (all-size (a .n) (a .l) (a .values .now) 0 (a .desc .now) (a .grand .now) f, desc-size (a .n) (a .l) (a .values .now) 0 (a .desc .now) (a .grand .now) f, grand-within (a .n) (a .l) (a .values .now) 0 (a .desc .now) (a .grand .now) f)
+    sizes-fit (s .args .n) (s .args .l) (s .args .values .now) (s .args .desc .now) (s .args .grand .now) (s .pre .0)
 
 loop-holds : tie.Need-loop-holds Inv-loop μ-loop
 loop-holds c =
@@ -67,21 +45,14 @@ mul-reach-of c =
 reach-of-requires-2 : tie.Need-reach-of-requires-2 Inv-loop μ-loop
 reach-of-requires-2 c κs =
     let s = c .before .before .before .before .before .before .before .before in
-    let a = s .args in
-    let f = s .pre .0 0 (omega arith) in
-    (all-size (a .n) (a .l) (a .values .now) 0 (a .desc .now) (a .grand .now) f, desc-size (a .n) (a .l) (a .values .now) 0 (a .desc .now) (a .grand .now) f, grand-within (a .n) (a .l) (a .values .now) 0 (a .desc .now) (a .grand .now) f)
-
--- the level of the plane above
-twice : (c : tie.After-level-of Inv-loop μ-loop) → 2 * c .level-of .result ≡ 2 ^ suc (c .before .before .loop .plane)
-twice c = ap (λ (x : ℕ). 2 * x) (c .level-of .ensures) ∙ sym (pow-succ' 2 (c .before .before .loop .plane))
+    sizes-fit (s .args .n) (s .args .l) (s .args .values .now) (s .args .desc .now) (s .args .grand .now) (s .pre .0)
 
 figures-between-requires : tie.Need-figures-between-requires Inv-loop μ-loop
 figures-between-requires c κs =
     let s = c .before .before .before .before .before .before .before .before .before in
-    let a = s .args in
     let l = c .before .before .before .loop in
-    rw (l .inv .2, c .reach-of2 .ensures)
-    (between (a .n) (a .l) (a .values .now) (l .plane) (a .desc .now) (a .grand .now) (s .pre .0 (l .plane) (c .before .before .loop-test .taken)) (ap (λ (x : ℕ). x / 4 * 7) (coarsest (c .before .before .before .before .before))) refl (twice (c .before)))
+    rw (l .inv .2, c .reach-of2 .ensures, c .before .level-of .ensures, c .before .before .before .before .before .least-parts .ensures)
+    (between (s .args .n) (s .args .l) (s .args .values .now) (s .args .desc .now) (s .args .grand .now) (s .pre .0) (l .plane))
 
 mul-put-numbers : tie.Need-mul-put-numbers Inv-loop μ-loop
 mul-put-numbers c = omega arith
@@ -106,11 +77,13 @@ loop-again c =
     let d = c .before .before .before .before in
     let own : d .figures-between .result ≡ figuresOf (a .n) (a .l) (a .values .now) (l .plane) =
     d .figures-between .ensures
-    ∙ rw (l .inv .2, d .before .reach-of2 .ensures)
-    (reached (a .n) (a .l) (a .values .now) (l .plane) (a .desc .now) (a .grand .now) (s .pre .0 (l .plane) (c .before .before .before .before .before .before .before .loop-test .taken)) (ap (λ (x : ℕ). x / 4 * 7) (coarsest (c .before .before .before .before .before .before .before .before .before .before))) refl (twice (d .before .before))) in (
+    ∙ rw (l .inv .2, d .before .reach-of2 .ensures, d .before .before .level-of .ensures, d .before .before .before .before .before .before .least-parts .ensures)
+    (reached (a .n) (a .l) (a .values .now) (a .desc .now) (a .grand .now) (s .pre .0) (l .plane)) in
+    let next : 2 * d .before .before .level-of .result ≡ 2 ^ (l .plane + 1) =
+    ap (λ (x : ℕ). 2 * x) (d .before .before .level-of .ensures) ∙ sym (rw (add-one (l .plane)) (pow-succ' 2 (l .plane))) in (
       omega arith,
       omega (arith, c .before .out .given),
-      d .before .reach-of2 .ensures ∙ ap (λ (x : ℕ). reachOf x (a .values .now) (a .desc .now) (a .grand .now)) (twice (d .before .before) ∙ ap (λ (x : ℕ). 2 ^ x) (sym (add-one (l .plane)))),
+      d .before .reach-of2 .ensures ∙ ap (λ (x : ℕ). reachOf x (a .values .now) (a .desc .now) (a .grand .now)) next,
       c .before .before .put-numbers .ensures
           ∙ next-plane (a .n) (a .l) (a .values .now) (l .plane) (a .out .now) (l .out) (d .figures-between .result) own (l .inv .3) (omega (arith, s .pre .1)),
     )
@@ -132,9 +105,7 @@ count-all-spec =
     (tie.spec
     Inv-loop
     μ-loop
-    coarsest-of-requires
-    mul-least
-    cast-least
+    least-parts-requires
     reach-of-requires
     loop-holds
     level-of-requires
