@@ -2,7 +2,7 @@
 use mathlib.Core.Path.{_≡_, refl, sym, ap, _∙_}
 use mathlib.Core.Bool.{Bool, true, false, _||_}
 use mathlib.Core.List.{List, [], _∷_, map}
-use Prim.Native.Nat.{ℕ, zero, suc, _*_, _/_, _^_, _≤_, _<_}
+use Prim.Native.Nat.{ℕ, _/_, _^_, _≤_, _<_}
 use native.Mathlib.Decide.{decLt}
 use native.Mathlib.Omega.{arith}
 use borrow.Author.Tests.{leb-true, leb-false, le-leb, lt-leb}
@@ -13,12 +13,11 @@ use lib.ListN.{getD, List·getD-eq-default}
 use lib.Pow.{pow-pos}
 use Rattle.sizes.specs.Sizes.{allOf, Sized}
 use Rattle.sizes.proofs.Tables.{table-length, table-at}
-use Rattle.bits.specs.Bits.{digit}
 use Rattle.coef.specs.Coef.{magAt}
 use Rattle.tree.specs.Tree.{desc, grand, anyIn}
 use Rattle.tree.specs.Summaries.{orAll, descOr, grandOr, descTable, grandTable}
 use Rattle.tree.proofs.Laws.{desc-high, grand-high}
-use Rattle.nls.specs.Parts.{sumTo, countTo, found, descSplit, grandSplit}
+use Rattle.nls.specs.Parts.{found, descSplit, grandSplit}
 
 or-reaches : (b x y : ℕ) → leb (2 ^ b) (bitOr x y) ≡ (leb (2 ^ b) x || leb (2 ^ b) y)
 or-reaches b x y = tell (leb (2 ^ b) x) (leb (2 ^ b) y) refl refl
@@ -74,15 +73,3 @@ module _ (N L : ℕ) (A : List ℤ) where
       tell (no p) =
           List·getD-eq-default (grandTable N L A) 0 {n = i} (omega (arith, table-length (allOf N / 16) (λ k. grandOr N L A k)))
           ∙ sym (grand-past z i (omega arith))
-
--- no more reach twice a level than reach it
-pub fewer : (n level : ℕ) (x : ℕ → ℕ) → countTo n (λ i. leb (2 * level) (x i)) ≤ countTo n (λ i. leb level (x i))
-unfolding sumTo
-fewer zero level x = omega arith
-fewer (suc n) level x = omega (arith, fewer n level x, one (leb level (x n)) (leb (2 * level) (x n)) refl refl)
-  where
-    one : (s t : Bool) → leb level (x n) ≡ s → leb (2 * level) (x n) ≡ t → digit t ≤ digit s
-    one true true e f = omega arith
-    one true false e f = omega arith
-    one false true e f = absurd (omega (arith, leb-false level (x n) e, leb-true (2 * level) (x n) f))
-    one false false e f = omega arith

@@ -1,5 +1,6 @@
 pub mod Sums
 pub mod Levels
+pub mod Tallies
 pub mod Members
 pub mod Splitting
 pub mod Reached

@@ -19,7 +19,8 @@ use Rattle.nls.specs.Parts.{countTo, found, descSplit, grandSplit, splits, foun
 use Rattle.figures.specs.Figures.{figuresOf}
 use Rattle.figures.specs.Tables.{Filled, reachOf, figuresBetween, Between}
 use Rattle.figures.proofs.Sums.{sum-same, sum-short, count-most}
-use Rattle.figures.proofs.Levels.{desc-reaches, grand-reaches, desc-held, grand-held, fewer}
+use Rattle.figures.proofs.Levels.{desc-reaches, grand-reaches, desc-held, grand-held}
+use Rattle.figures.proofs.Tallies.{plane-next, next-count}
 use Rattle.figures.proofs.Splitting.{parts-split}
 
 -- the entries that reach 2^k are the sets that are split after plane k
@@ -104,6 +105,10 @@ module _ (N L : ℕ) (A : List ℤ) (desc grand : List ℕ) (f : Filled N L A de
         omega (arith, large-at b, large-at (suc b)) in
         rw (twice, p, s, k)
 
+    -- no more reach the second level
+    fewer : (n : ℕ) (x : ℕ → ℕ) → countTo n (λ i. leb (2 * 2 ^ b) (x i)) ≤ countTo n (λ i. leb (2 ^ b) (x i))
+    fewer n x = omega (arith, next-count (2 ^ b) (2 * 2 ^ b) (suc b) (plane-next b) n x)
+
     pub between : Between (coarsestOf N L / 4 * 7) (reachOf (2 ^ b) A desc grand) (reachOf (2 * 2 ^ b) A desc grand)
     between =
         record {
@@ -112,6 +117,6 @@ module _ (N L : ℕ) (A : List ℤ) (desc grand : List ℕ) (f : Filled N L A de
           inner-most = omega (arith, count-most (length grand) (λ i. leb (2 ^ b) (getD desc i 0)), desc-size, grand-within);
           grands-most = omega (arith, count-most (length grand) (λ i. leb (2 ^ b) (getD grand i 0)), desc-size, grand-within);
           large-most = omega (arith, count-most (length A) (λ i. leb (2 ^ b) (magAt A i)), all-size);
-          fewer-sets = omega (arith, fewer (length desc) (2 ^ b) (λ i. getD desc i 0), fewer (length grand) (2 ^ b) (λ i. getD grand i 0));
-          fewer-large = omega (arith, fewer (length A) (2 ^ b) (λ i. magAt A i));
+          fewer-sets = omega (arith, fewer (length desc) (λ i. getD desc i 0), fewer (length grand) (λ i. getD grand i 0));
+          fewer-large = omega (arith, fewer (length A) (λ i. magAt A i));
         }

@@ -5,7 +5,6 @@ use Prim.Native.Nat.{ℕ, zero, suc, _+_, _≤_}
 use native.Mathlib.Omega.{arith}
 use borrow.Author.Tests.{leb-true, leb-false}
 use lib.Dec.{leb}
-use Rattle.bits.specs.Bits.{digit}
 use Rattle.bits.proofs.Laws.{digit-le}
 use Rattle.nls.specs.Parts.{sumTo, countTo}
 

@@ -1,12 +1,13 @@
--- What the inner functions count, over the two tables alone; no public contract names it.
-use Prim.Native.Nat.{ℕ, _+_, _*_, _-_, _≤_}
+-- What the inner functions count; no public contract names it.
+use Prim.Native.Nat.{ℕ, _+_, _*_, _-_, _^_, _≤_}
 use mathlib.Core.Path.{_≡_}
-use mathlib.Core.Bool.{true}
+use mathlib.Core.Bool.{Bool, true, _&&_}
 use mathlib.Core.List.{List}
-use lib.Dec.{leb}
+use lib.Dec.{leb, ltb}
 use lib.IntN.{ℤ}
 use lib.ListN.{length, getD}
 use Rattle.sizes.specs.Sizes.{allOf, mostN, sideFits, levelsFit}
+use Rattle.sizes.specs.Tables.{table}
 use Rattle.coef.specs.Coef.{magAt}
 use Rattle.tree.specs.Summaries.{descTable, grandTable}
 use Rattle.nls.specs.Parts.{countTo}
@@ -49,3 +50,28 @@ pub record Between (least : ℕ) (here above : Reach) : Type 0 where
   pub large-most : here .large ≤ allOf mostN
   pub fewer-sets : above .descs + above .grands ≤ here .descs + here .grands
   pub fewer-large : above .large ≤ here .large
+
+-- x has k digits in binary: it is below 2^k, and below no smaller power
+unfoldable pub hasLength : ℕ → ℕ → Bool
+hasLength k x = ltb x (2 ^ k) && leb (2 ^ k) (2 * x + 1)
+
+-- how many of n numbers have 32, 31, .. 0 digits: what stands at z counts those with z leading zeros among 32
+unfoldable pub tallyOf : ℕ → (ℕ → ℕ) → List ℕ
+tallyOf n x = table 33 (λ z. countTo n (λ i. hasLength (32 - z) (x i)))
+
+-- four counts without those that four tallies have at z, where they have no more
+abbrev pub reachLess : Reach → ℕ → List ℕ → List ℕ → List ℕ → List ℕ → Reach
+reachLess here z descs inner grands large =
+    record {
+      descs = here .descs - getD descs z 0;
+      inner = here .inner - getD inner z 0;
+      grands = here .grands - getD grands z 0;
+      large = here .large - getD large z 0;
+    }
+
+pub record Within (here : Reach) (z : ℕ) (descs inner grands large : List ℕ) : Type 0 where
+  pub zeros : z ≤ 32
+  pub descs-less : getD descs z 0 ≤ here .descs
+  pub inner-less : getD inner z 0 ≤ here .inner
+  pub grands-less : getD grands z 0 ≤ here .grands
+  pub large-less : getD large z 0 ≤ here .large

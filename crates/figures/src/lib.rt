@@ -6,6 +6,7 @@ ghost use Prim.Native.Nat.{_+_, _*_, _/_, _<_, _≤_, _^_};
 ghost use mathlib.Core.Path.{_≡_};
 ghost use mathlib.Core.Bool.{true};
 ghost use mathlib.Core.List.{[], _∷_, _++_};
+ghost use lib.Count.{leadingZeros};
 ghost use lib.Dec.{leb};
 ghost use lib.ListN.{length, getD, set};
 ghost use Rattle.refusals.specs.Checks.{need, firstOf, lentAfter};
@@ -16,7 +17,7 @@ ghost use Rattle.coef.specs.Coef.{magAt};
 ghost use Rattle.tree.specs.Summaries.{descTable, grandTable, summaryChecks};
 ghost use Rattle.nls.specs.Parts.{countTo};
 ghost use Rattle.figures.specs.Figures.{figuresOf, figuresChecks, answered, outcomeOf, allFigures, allFiguresChecks};
-ghost use Rattle.figures.specs.Tables.{Filled, reachOf, Between, figuresBetween};
+ghost use Rattle.figures.specs.Tables.{Filled, reachOf, Between, figuresBetween, tallyOf, Within, reachLess};
 
 // Four numbers for each plane.
 const ALL_FIGURES: usize = 96;
@@ -122,7 +123,7 @@ fn figures_between(least: u32, here: Reach, above: Reach) -> Figures
     }
 }
 
-// The fewest parts that stand.
+// The parts that stand where no set is split: D coefficients, and three sets for four of them.
 fn least_parts(n: u32, l: u32) -> u32
     requires { ⌜ (sideFits n ≡ true) × (levelsFit n l ≡ true) ⌝ }
     ensures { λ r. ⌜ r ≡ coarsestOf n l / 4 * 7 ⌝ }
@@ -215,16 +216,100 @@ fn put_numbers(out: &mut [u32], first: usize, figures: Figures)
     out[first + 3] = found;
 }
 
+// How many numbers have each length in binary: a count for each number of leading zeros, 0 to 32.
+type Tally = [u32; 33];
+
+// One number more in a tally.
+fn tally_one(counts: &mut Tally, x: u32)
+    requires { ⌜ getD (now counts) (leadingZeros 32 x) 0 < allOf mostN ⌝ }
+    ensures { λ r. ⌜ now (counts .exit) ≡ set (now (counts .entry)) (leadingZeros 32 x) (getD (now (counts .entry)) (leadingZeros 32 x) 0 + 1) ⌝ }
+{
+    let zeros = u32::leading_zeros(x) as usize;
+    counts[zeros] += 1;
+}
+
+// The tally of the first entries of a table, from one of none.
+fn tally(held: &[u32], upto: usize, counts: &mut Tally)
+    requires { ⌜ (upto ≤ length (now held)) × (upto ≤ allOf mostN) × (now counts ≡ tallyOf 0 (λ i. getD (now held) i 0)) ⌝ }
+    ensures { λ r. ⌜ now (counts .exit) ≡ tallyOf upto (λ i. getD (now (held .entry)) i 0) ⌝ }
+{
+    let mut i = 0;
+    while i < upto {
+        let x = held[i];
+        tally_one(counts, x);
+        i += 1;
+    }
+}
+
+// The tally of the magnitudes, likewise.
+fn tally_large(values: &[i32], counts: &mut Tally)
+    requires { ⌜ (length (now values) ≤ allOf mostN) × (now counts ≡ tallyOf 0 (λ i. magAt (now values) i)) ⌝ }
+    ensures { λ r. ⌜ now (counts .exit) ≡ tallyOf (length (now (values .entry))) (λ i. magAt (now (values .entry)) i) ⌝ }
+{
+    let mut i = 0;
+    while i < values.len() {
+        let x = values[i];
+        tally_one(counts, coef::magnitude(x));
+        i += 1;
+    }
+}
+
+// Everything reaches 0.
+fn reach_all(values: &[i32], desc: &[u32], grand: &[u32]) -> Reach
+    requires { ⌜ (length (now values) ≤ allOf mostN) × (length (now desc) ≤ allOf mostN) × (length (now grand) ≤ length (now desc)) ⌝ }
+    ensures { λ r. ⌜ r ≡ reachOf 0 (now (values .entry)) (now (desc .entry)) (now (grand .entry)) ⌝ }
+{
+    let descs = desc.len() as u32;
+    let grands = grand.len() as u32;
+    let large = values.len() as u32;
+    Reach {
+        descs,
+        inner: grands,
+        grands,
+        large,
+    }
+}
+
+// Four counts, less what four tallies have at one number of leading zeros.
+fn reach_less(
+    here: Reach,
+    zeros: usize,
+    descs: &Tally,
+    inner: &Tally,
+    grands: &Tally,
+    large: &Tally,
+) -> Reach
+    requires { ⌜ Within here zeros (now descs) (now inner) (now grands) (now large) ⌝ }
+    ensures { λ r. ⌜ r ≡ reachLess here zeros (now (descs .entry)) (now (inner .entry)) (now (grands .entry)) (now (large .entry)) ⌝ }
+{
+    Reach {
+        descs: here.descs - descs[zeros],
+        inner: here.inner - inner[zeros],
+        grands: here.grands - grands[zeros],
+        large: here.large - large[zeros],
+    }
+}
+
 // The figures of all planes, from tables that are filled.
 fn count_all(n: u32, l: u32, values: &[i32], desc: &[u32], grand: &[u32], out: &mut [u32])
     requires { ⌜ Filled n l (now values) (now desc) (now grand) × (4 * mostPlanes ≤ length (now out)) ⌝ }
     ensures { λ r. ⌜ now (out .exit) ≡ lentAfter outcome.Done (allFigures n l (now (values .entry))) (now (out .entry)) ⌝ }
 {
     let least = least_parts(n, l);
-    let mut here = reach_of(1, values, desc, grand);
+    let mut descs = [0u32; 33];
+    let mut inner = [0u32; 33];
+    let mut grands = [0u32; 33];
+    let mut large = [0u32; 33];
+    tally(desc, desc.len(), &mut descs);
+    tally(desc, grand.len(), &mut inner);
+    tally(grand, grand.len(), &mut grands);
+    tally_large(values, &mut large);
+    let all = reach_all(values, desc, grand);
+    let mut here = reach_less(all, 32, &descs, &inner, &grands, &large);
     let mut plane = 0u32;
     while plane < MOST_PLANES {
-        let above = reach_of(2 * level_of(plane), values, desc, grand);
+        let zeros = (31 - plane) as usize;
+        let above = reach_less(here, zeros, &descs, &inner, &grands, &large);
         let figures = figures_between(least, here, above);
         put_numbers(out, (4 * plane) as usize, figures);
         here = above;

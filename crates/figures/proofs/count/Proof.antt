@@ -1,6 +1,5 @@
-use mathlib.Core.Path.{_≡_, _∙_}
+use mathlib.Core.Path.{_∙_}
 use native.Mathlib.Omega.{arith}
-use borrow.Author.Needs.{needs}
 use lib.Pow.{pow-lt}
 use Rattle.figures.proofs.Reached.{sizes-fit, reached, between}
 use Rattle.figures.proofs.count.Statement.{statement}

@@ -2,7 +2,7 @@ use mathlib.Core.Path.{_≡_, ap, _∙_}
 use Prim.Native.Nat.{ℕ, _*_, _/_, _≤_}
 use native.Mathlib.Omega.{arith}
 use borrow.Author.Needs.{needs}
-use Rattle.sizes.specs.Sizes.{coarsestOf}
+use Rattle.sizes.specs.Sizes.{allOf, coarsestOf, mostN}
 use Rattle.sizes.proofs.Laws.{sized, side-most, all-most, coarsest-all}
 use Rattle.figures.proofs.least_parts.Statement.{statement}
 use Rattle.figures.proofs.least_parts.Tie as tie
@@ -14,7 +14,7 @@ coarsest-of-requires c κs = search needs
 coarsest : (c : tie.After-coarsest-of) → c .coarsest-of .result ≡ coarsestOf (c .before .args .n) (c .before .args .l)
 coarsest c = c .coarsest-of .ensures ∙ rw (c .before .pre .0, c .before .pre .1)
 
-few : (c : tie.After-coarsest-of) → c .coarsest-of .result ≤ 65536
+few : (c : tie.After-coarsest-of) → c .coarsest-of .result ≤ allOf mostN
 few c =
     let a = c .before .args in
     let p = c .before .pre in
