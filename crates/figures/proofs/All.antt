@@ -1,56 +1,14 @@
--- The figures of all planes: the output filled plane after plane, and the checks of that call, one way at a time.
+-- The figures of all planes: the output filled plane after plane.
 use mathlib.Core.Path.{_≡_, refl, sym, ap, _∙_}
 use mathlib.Core.List.{List, [], _∷_, _++_, append-assoc}
-use Prim.Native.Nat.{ℕ, zero, suc, _+_, _*_, _≤_, _<_}
+use Prim.Native.Nat.{ℕ, zero, suc, _+_, _*_, _<_}
 use native.Mathlib.Numerals.{add-one}
 use native.Mathlib.Omega.{arith}
-use borrow.Author.Tests.{leb-true, le-leb, lt-leb}
-use lib.Dec.{leb}
 use lib.IntN.{ℤ}
 use lib.ListN.{length, getD, drop, set, length-append}
 use lib.Seq.{drop-cons, set-at}
-use Rattle.refusals.specs.declared.Refusal.the-variants.{Lent}
-use Rattle.refusals.specs.declared.Refusal.{Refusal}
-use Rattle.refusals.specs.declared.Outcome.{Outcome}
-use Rattle.refusals.specs.declared.Outcome.the-variants.{Done, Refused}
-use Rattle.refusals.specs.Checks.{need, firstOf}
-use Rattle.refusals.proofs.Laws.{first-holds, first-fails, first-none, first-then-done, first-then-refused, AllHold, passed, all-pass}
-use Rattle.sizes.specs.Sizes.{mostPlanes}
-use Rattle.tree.specs.Summaries.{summaryChecks}
 use Rattle.figures.specs.declared.Figures.{Figures}
-use Rattle.figures.specs.Figures.{figuresOf, figuresChecks, fourNumbers, figuresBelow, allFiguresChecks}
-use Rattle.figures.proofs.Checks.{all-met}
-
--- the room is checked after the summaries' checks
-module _ (N L : ℕ) (A : List ℤ) (descs grands outs : ℕ) {r : Outcome} (first : r ≡ firstOf (summaryChecks N L A descs grands)) where
-  pub no-tables : (why : Refusal) → r ≡ Refused why → Refused why ≡ firstOf (allFiguresChecks N L A descs grands outs)
-  no-tables why e =
-      sym (first-then-refused (summaryChecks N L A descs grands) (need (leb (4 * mostPlanes) outs) Lent ∷ []) why (sym first ∙ e))
-
-  module _ (done : r ≡ Done) where
-    then : firstOf (allFiguresChecks N L A descs grands outs) ≡ firstOf (need (leb (4 * mostPlanes) outs) Lent ∷ [])
-    then = first-then-done (summaryChecks N L A descs grands) (need (leb (4 * mostPlanes) outs) Lent ∷ []) (sym first ∙ done)
-
-    pub no-room : outs < 4 * mostPlanes → Refused Lent ≡ firstOf (allFiguresChecks N L A descs grands outs)
-    no-room h = sym (then ∙ first-fails (leb (4 * mostPlanes) outs) Lent [] (lt-leb (4 * mostPlanes) outs h))
-
-    pub some-room : 4 * mostPlanes ≤ outs → Done ≡ firstOf (allFiguresChecks N L A descs grands outs)
-    some-room h = sym (then ∙ first-holds (leb (4 * mostPlanes) outs) Lent [] (le-leb (4 * mostPlanes) outs h) ∙ first-none)
-
--- where all are met there is room, and the checks of one plane are met for each plane
-module _ (N L : ℕ) (A : List ℤ) (descs grands outs : ℕ) (met : firstOf (allFiguresChecks N L A descs grands outs) ≡ Done) where
-  pub out-room : 4 * mostPlanes ≤ outs
-  unfolding AllHold
-  out-room = leb-true (4 * mostPlanes) outs (passed (allFiguresChecks N L A descs grands outs) met .1 .1 .1 .1 .1 .0)
-
-  tables-met : firstOf (summaryChecks N L A descs grands) ≡ Done
-  unfolding AllHold
-  tables-met =
-      let h = passed (allFiguresChecks N L A descs grands outs) met in
-      all-pass (summaryChecks N L A descs grands) (h .0, (h .1 .0, (h .1 .1 .0, (h .1 .1 .1 .0, (h .1 .1 .1 .1 .0, tt)))))
-
-  pub plane-met : (b : ℕ) → b < mostPlanes → Done ≡ firstOf (figuresChecks N L A descs grands b)
-  plane-met b h = all-met N L A descs grands b {r = Done} (sym tables-met) refl h
+use Rattle.figures.specs.Figures.{figuresOf, fourNumbers, figuresBelow}
 
 -- one number more, and four
 put-one : (X held : List ℕ) (q v : ℕ) → length X ≡ q → q < length held

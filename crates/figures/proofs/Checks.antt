@@ -1,39 +1,50 @@
--- The checks of `figures_of`, one way at a time; and what holds where all are met.
+-- The checks of a call, one way at a time; and what holds where all are met.
 use mathlib.Core.Path.{_≡_, sym, ap, _∙_}
-use mathlib.Core.List.{List, [], _∷_}
-use Prim.Native.Nat.{ℕ, _/_, _≤_, _<_}
+use mathlib.Core.Bool.{Bool, true, false}
+use mathlib.Core.List.{List, [], _∷_, _++_}
+use Prim.Native.Nat.{ℕ, _/_, _≤_}
 use native.Mathlib.Omega.{arith}
-use borrow.Author.Tests.{eqb-true, ltb-true, le-ltb, lt-ltb}
-use lib.Dec.{ltb}
+use borrow.Author.Tests.{eqb-true}
 use lib.IntN.{ℤ}
 use lib.ListN.{length, take, drop, length-append}
 use lib.Seq.{take-at}
-use Rattle.refusals.specs.declared.Refusal.the-variants.{Planes}
 use Rattle.refusals.specs.declared.Refusal.{Refusal}
 use Rattle.refusals.specs.declared.Outcome.{Outcome}
 use Rattle.refusals.specs.declared.Outcome.the-variants.{Done, Refused}
-use Rattle.refusals.specs.Checks.{need, firstOf, lentAfter}
+use Rattle.refusals.specs.Checks.{Check, need, firstOf, lentAfter}
 use Rattle.refusals.proofs.Laws.{first-holds, first-fails, first-none, first-then-done, first-then-refused, AllHold, passed, all-pass, lent-done}
-use Rattle.sizes.specs.Sizes.{allOf, mostPlanes}
+use Rattle.sizes.specs.Sizes.{allOf}
 use Rattle.sizes.proofs.Tables.{table-length}
 use Rattle.tree.specs.Summaries.{descOr, grandOr, descTable, grandTable, summaryChecks}
-use Rattle.figures.specs.Figures.{figuresChecks}
 use Rattle.figures.specs.Tables.{Filled}
 
--- the plane is checked after the summaries' checks
-module _ (N L : ℕ) (A : List ℤ) (descs grands b : ℕ) {r : Outcome} (first : r ≡ firstOf (summaryChecks N L A descs grands)) where
-  pub no-summaries : (why : Refusal) → r ≡ Refused why → Refused why ≡ firstOf (figuresChecks N L A descs grands b)
-  no-summaries why e = sym (first-then-refused (summaryChecks N L A descs grands) (need (ltb b mostPlanes) Planes ∷ []) why (sym first ∙ e))
+-- a list of checks and one more: what the first come to, and then the other
+module _ (checks : List Check) (t : Bool) (why : Refusal) {r : Outcome} (first : r ≡ firstOf checks) where
+  pub more-refused : (other : Refusal) → r ≡ Refused other → r ≡ firstOf (checks ++ (need t why ∷ []))
+  more-refused other e = e ∙ sym (first-then-refused checks (need t why ∷ []) other (sym first ∙ e))
 
   module _ (done : r ≡ Done) where
-    then : firstOf (figuresChecks N L A descs grands b) ≡ firstOf (need (ltb b mostPlanes) Planes ∷ [])
-    then = first-then-done (summaryChecks N L A descs grands) (need (ltb b mostPlanes) Planes ∷ []) (sym first ∙ done)
+    then : firstOf (checks ++ (need t why ∷ [])) ≡ firstOf (need t why ∷ [])
+    then = first-then-done checks (need t why ∷ []) (sym first ∙ done)
 
-    pub no-plane : mostPlanes ≤ b → Refused Planes ≡ firstOf (figuresChecks N L A descs grands b)
-    no-plane h = sym (then ∙ first-fails (ltb b mostPlanes) Planes [] (le-ltb b mostPlanes h))
+    pub more-holds : t ≡ true → r ≡ firstOf (checks ++ (need t why ∷ []))
+    more-holds h = done ∙ sym (then ∙ first-holds t why [] h ∙ first-none)
 
-    pub all-met : b < mostPlanes → Done ≡ firstOf (figuresChecks N L A descs grands b)
-    all-met h = sym (then ∙ first-holds (ltb b mostPlanes) Planes [] (lt-ltb b mostPlanes h) ∙ first-none)
+    pub more-fails : t ≡ false → Refused why ≡ firstOf (checks ++ (need t why ∷ []))
+    more-fails h = sym (then ∙ first-fails t why [] h)
+
+-- all of them are met
+split : (checks : List Check) (more : Check) → AllHold (checks ++ (more ∷ [])) → AllHold checks × (more .holds ≡ true)
+unfolding AllHold
+split [] more h = (tt, h .0)
+split (check ∷ rest) more h =
+    let k = split rest more (h .1) in
+    ((h .0, k .0), k .1)
+
+pub both-met : (checks : List Check) (more : Check) {r : Outcome} → r ≡ firstOf (checks ++ (more ∷ [])) → r ≡ Done → (firstOf checks ≡ Done) × (more .holds ≡ true)
+both-met checks more is done =
+    let h = split checks more (passed (checks ++ (more ∷ [])) (sym is ∙ done)) in
+    (all-pass checks (h .0), h .1)
 
 -- a table of which a call that is done holds its own entries
 module _ (own held now : List ℕ) (r : Outcome) (done : r ≡ Done) (is : now ≡ lentAfter r own held) where
@@ -46,19 +57,16 @@ module _ (own held now : List ℕ) (r : Outcome) (done : r ≡ Done) (is : now �
   own-room : length own ≤ length now
   own-room = rw now-is (omega (arith, length-append own (drop (length own) held)))
 
--- the checks are met, and both tables are filled
-module _ (N L : ℕ) (A : List ℤ) (b : ℕ) (desc₀ grand₀ : List ℕ) {desc grand : List ℕ} {r s : Outcome}
-    (checked : r ≡ firstOf (figuresChecks N L A (length desc₀) (length grand₀) b)) (done : r ≡ Done)
-    (filling : s ≡ firstOf (summaryChecks N L A (length desc₀) (length grand₀)))
-    (descs : desc ≡ lentAfter s (descTable N L A) desc₀) (grands : grand ≡ lentAfter s (grandTable N L A) grand₀) where
-  all-hold : AllHold (figuresChecks N L A (length desc₀) (length grand₀) b)
-  all-hold = passed (figuresChecks N L A (length desc₀) (length grand₀) b) (sym checked ∙ done)
+-- the checks of the summaries are met, and both tables are filled
+module _ (N L : ℕ) (A : List ℤ) (desc₀ grand₀ : List ℕ) {desc grand : List ℕ} {r : Outcome}
+    (met : firstOf (summaryChecks N L A (length desc₀) (length grand₀)) ≡ Done)
+    (filling : r ≡ firstOf (summaryChecks N L A (length desc₀) (length grand₀)))
+    (descs : desc ≡ lentAfter r (descTable N L A) desc₀) (grands : grand ≡ lentAfter r (grandTable N L A) grand₀) where
+  all-hold : AllHold (summaryChecks N L A (length desc₀) (length grand₀))
+  all-hold = passed (summaryChecks N L A (length desc₀) (length grand₀)) met
 
-  filled-done : s ≡ Done
-  unfolding AllHold
-  filled-done =
-      let h = all-hold in
-      filling ∙ all-pass (summaryChecks N L A (length desc₀) (length grand₀)) (h .0, (h .1 .0, (h .1 .1 .0, (h .1 .1 .1 .0, (h .1 .1 .1 .1 .0, tt)))))
+  filled-done : r ≡ Done
+  filled-done = filling ∙ met
 
   whole : length A ≡ allOf N
   unfolding AllHold
@@ -71,25 +79,24 @@ module _ (N L : ℕ) (A : List ℤ) (b : ℕ) (desc₀ grand₀ : List ℕ) {des
   grands-length = ap (λ (x : ℕ). x / 16) whole ∙ sym (table-length (allOf N / 16) (λ i. grandOr N L A i))
 
   pub desc-is : desc ≡ lentAfter Done (descTable N L A) desc₀
-  desc-is = now-is (descTable N L A) desc₀ desc s filled-done descs
+  desc-is = now-is (descTable N L A) desc₀ desc r filled-done descs
 
   pub grand-is : grand ≡ lentAfter Done (grandTable N L A) grand₀
-  grand-is = now-is (grandTable N L A) grand₀ grand s filled-done grands
+  grand-is = now-is (grandTable N L A) grand₀ grand r filled-done grands
 
   pub desc-room : length A / 4 ≤ length desc
-  desc-room = rw descs-length (own-room (descTable N L A) desc₀ desc s filled-done descs)
+  desc-room = rw descs-length (own-room (descTable N L A) desc₀ desc r filled-done descs)
 
   pub grand-room : length A / 16 ≤ length grand
-  grand-room = rw grands-length (own-room (grandTable N L A) grand₀ grand s filled-done grands)
+  grand-room = rw grands-length (own-room (grandTable N L A) grand₀ grand r filled-done grands)
 
-  pub filled : Filled N L A b (take (length A / 4) desc) (take (length A / 16) grand)
+  pub filled : Filled N L A (take (length A / 4) desc) (take (length A / 16) grand)
   unfolding AllHold
   filled =
       record {
         side = all-hold .0;
         levels = all-hold .1 .0;
         whole = whole;
-        plane = ltb-true b mostPlanes (all-hold .1 .1 .1 .1 .1 .0);
-        descs = own-first (descTable N L A) desc₀ desc s filled-done descs (length A / 4) descs-length;
-        grands = own-first (grandTable N L A) grand₀ grand s filled-done grands (length A / 16) grands-length;
+        descs = own-first (descTable N L A) desc₀ desc r filled-done descs (length A / 4) descs-length;
+        grands = own-first (grandTable N L A) grand₀ grand r filled-done grands (length A / 16) grands-length;
       }

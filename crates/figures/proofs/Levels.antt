@@ -1,27 +1,23 @@
 -- What the summaries say of a level: an OR is at least 2^b exactly if some member is.
 use mathlib.Core.Path.{_≡_, refl, sym, ap, _∙_}
-use mathlib.Core.Bool.{Bool, true, false, not, _&&_, _||_}
+use mathlib.Core.Bool.{Bool, true, false, _||_}
 use mathlib.Core.List.{List, [], _∷_, map}
-use Prim.Native.Nat.{ℕ, suc, _+_, _*_, _/_, _^_, _≤_, _<_}
+use Prim.Native.Nat.{ℕ, _/_, _^_, _≤_, _<_}
 use native.Mathlib.Decide.{decLt}
-use native.Mathlib.Nat.{pow-succ'}
 use native.Mathlib.Omega.{arith}
 use borrow.Author.Tests.{leb-true, leb-false, le-leb, lt-leb}
 use lib.Bits.{bitOr, or-lt, or-add-and, and-le-l, and-le-r}
 use lib.Dec.{leb}
 use lib.IntN.{ℤ}
-use lib.ListN.{length, getD, List·getD-eq-default}
+use lib.ListN.{getD, List·getD-eq-default}
 use lib.Pow.{pow-pos}
 use Rattle.sizes.specs.Sizes.{allOf, Sized}
 use Rattle.sizes.proofs.Tables.{table-length, table-at}
-use Rattle.bits.specs.Bits.{digit}
 use Rattle.coef.specs.Coef.{magAt}
 use Rattle.tree.specs.Tree.{desc, grand, anyIn}
 use Rattle.tree.specs.Summaries.{orAll, descOr, grandOr, descTable, grandTable}
 use Rattle.tree.proofs.Laws.{desc-high, grand-high}
-use Rattle.nls.specs.Parts.{countTo, found, descSplit, grandSplit, splits, founds, splitsIn, foundIn}
-use Rattle.figures.specs.Tables.{atLevel}
-use Rattle.figures.proofs.Sums.{sum-same, sum-add, sum-short}
+use Rattle.nls.specs.Parts.{found, descSplit, grandSplit}
 
 or-reaches : (b x y : ℕ) → leb (2 ^ b) (bitOr x y) ≡ (leb (2 ^ b) x || leb (2 ^ b) y)
 or-reaches b x y = tell (leb (2 ^ b) x) (leb (2 ^ b) y) refl refl
@@ -77,67 +73,3 @@ module _ (N L : ℕ) (A : List ℤ) where
       tell (no p) =
           List·getD-eq-default (grandTable N L A) 0 {n = i} (omega (arith, table-length (allOf N / 16) (λ k. grandOr N L A k)))
           ∙ sym (grand-past z i (omega arith))
-
--- at least 2^b: at least 2^(b+1), or in between
-at-least : (b x : ℕ) → digit (leb (2 ^ b) x) ≡ digit (leb (2 ^ suc b) x) + digit (atLevel (2 ^ b) x)
-unfolding atLevel
-at-least b x = rw (pow-succ' 2 b) (tell (leb (2 ^ b) x) (leb (2 * 2 ^ b) x) refl refl)
-  where
-    tell : (s t : Bool) → leb (2 ^ b) x ≡ s → leb (2 * 2 ^ b) x ≡ t → digit s ≡ digit t + digit (s && not t)
-    tell true true e f = refl
-    tell true false e f = refl
-    tell false true e f = absurd (omega (arith, leb-false (2 ^ b) x e, leb-true (2 * 2 ^ b) x f))
-    tell false false e f = refl
-
--- what plane b adds to those that are at least its level
-pub level-count : (n b : ℕ) (x : ℕ → ℕ)
-    → countTo n (λ i. leb (2 ^ b) (x i)) ≡ countTo n (λ i. leb (2 ^ suc b) (x i)) + countTo n (λ i. atLevel (2 ^ b) (x i))
-level-count n b x =
-    sum-same n (λ i. digit (leb (2 ^ b) (x i))) (λ i. digit (leb (2 ^ suc b) (x i)) + digit (atLevel (2 ^ b) (x i))) (λ i. at-least b (x i))
-    ∙ sum-add n (λ i. digit (leb (2 ^ suc b) (x i))) (λ i. digit (atLevel (2 ^ b) (x i)))
-
-none-at : (b : ℕ) → atLevel (2 ^ b) 0 ≡ false
-unfolding atLevel
-none-at b = rw (zero-below b)
-
--- nothing counts past the end of a table
-held-count : (n m b : ℕ) (x : ℕ → ℕ) (held : List ℕ) → length held ≡ m → m ≤ n → ((i : ℕ) → m ≤ i → x i ≡ 0) → ((i : ℕ) → getD held i 0 ≡ x i)
-    → countTo n (λ i. atLevel (2 ^ b) (x i)) ≡ countTo (length held) (λ i. atLevel (2 ^ b) (getD held i 0))
-held-count n m b x held e h none same =
-    sum-short n m (λ i. digit (atLevel (2 ^ b) (x i))) h (λ i p. rw (none i p, none-at b))
-    ∙ sum-same m (λ i. digit (atLevel (2 ^ b) (x i))) (λ i. digit (atLevel (2 ^ b) (getD held i 0))) (λ i. rw (same i))
-    ∙ ap (λ (k : ℕ). countTo k (λ i. atLevel (2 ^ b) (getD held i 0))) (sym e)
-
--- WHAT PLANE b FINDS AND SPLITS
-module _ (N L : ℕ) (A : List ℤ) (b : ℕ) where
-  pub found-by : foundIn N L A b ≡ countTo (allOf N) (λ i. atLevel (2 ^ b) (magAt A i))
-  unfolding founds found
-  found-by = omega (arith, level-count (allOf N) b (λ i. magAt A i))
-
-  desc-count : (k : ℕ) → countTo (allOf N) (λ i. descSplit N L A k i) ≡ countTo (allOf N) (λ i. leb (2 ^ k) (descOr N L A i))
-  desc-count k =
-      sum-same (allOf N) (λ i. digit (descSplit N L A k i)) (λ i. digit (leb (2 ^ k) (descOr N L A i))) (λ i. ap digit (desc-reaches N L A k i))
-
-  grand-count : (k : ℕ) → countTo (allOf N) (λ i. grandSplit N L A k i) ≡ countTo (allOf N) (λ i. leb (2 ^ k) (grandOr N L A i))
-  grand-count k =
-      sum-same (allOf N) (λ i. digit (grandSplit N L A k i)) (λ i. digit (leb (2 ^ k) (grandOr N L A i))) (λ i. ap digit (grand-reaches N L A k i))
-
-  pub splits-by : Sized N L
-      → splitsIn N L A b
-      ≡ countTo (length (descTable N L A)) (λ i. atLevel (2 ^ b) (getD (descTable N L A) i 0))
-      + countTo (length (grandTable N L A)) (λ i. atLevel (2 ^ b) (getD (grandTable N L A) i 0))
-  unfolding splits
-  splits-by z =
-      omega (
-        arith,
-        desc-count b,
-        desc-count (suc b),
-        level-count (allOf N) b (λ i. descOr N L A i),
-        held-count (allOf N) (allOf N / 4) b (λ i. descOr N L A i) (descTable N L A) (table-length (allOf N / 4) (λ i. descOr N L A i))
-            (omega arith) (λ i p. desc-past N L A i p) (λ i. desc-held N L A i),
-        grand-count b,
-        grand-count (suc b),
-        level-count (allOf N) b (λ i. grandOr N L A i),
-        held-count (allOf N) (allOf N / 16) b (λ i. grandOr N L A i) (grandTable N L A) (table-length (allOf N / 16) (λ i. grandOr N L A i))
-            (omega arith) (λ i p. grand-past N L A z i p) (λ i. grand-held N L A z i),
-      )

@@ -1,8 +1,8 @@
 pub mod Sums
 pub mod Levels
-pub mod Standing
+pub mod Tallies
+pub mod Members
 pub mod Splitting
-pub mod Counted
 pub mod Reached
 pub mod Checks
 pub mod All

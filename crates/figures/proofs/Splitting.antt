@@ -17,7 +17,7 @@ use Rattle.tree.proofs.Lists.{any-append, any-flat, any-four, or-right}
 use Rattle.tree.proofs.Laws.{children-some, desc-is, desc-low, desc-high, grand-low, grand-high}
 use Rattle.nls.specs.Parts.{sumTo, countTo, found, descSplit, grandSplit, standsAlone, descStands, grandStands, parts}
 use Rattle.figures.proofs.Sums.{sum-add, sum-short}
-use Rattle.figures.proofs.Standing.{desc-range, grand-range}
+use Rattle.figures.proofs.Members.{desc-range, grand-range}
 
 -- sums whose terms agree below n
 sum-within : (n : ℕ) (f g : ℕ → ℕ) → ((i : ℕ) → i < n → f i ≡ g i) → sumTo n f ≡ sumTo n g

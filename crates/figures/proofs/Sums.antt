@@ -1,11 +1,10 @@
 -- Sums over the places below n.
 use mathlib.Core.Path.{_≡_, refl}
 use mathlib.Core.Bool.{Bool, true, false}
-use Prim.Native.Nat.{ℕ, zero, suc, _+_, _*_, _≤_}
+use Prim.Native.Nat.{ℕ, zero, suc, _+_, _≤_}
 use native.Mathlib.Omega.{arith}
 use borrow.Author.Tests.{leb-true, leb-false}
 use lib.Dec.{leb}
-use Rattle.bits.specs.Bits.{digit}
 use Rattle.bits.proofs.Laws.{digit-le}
 use Rattle.nls.specs.Parts.{sumTo, countTo}
 
@@ -27,12 +26,6 @@ unfolding sumTo
 sum-add zero f g = refl
 sum-add (suc n) f g = omega (arith, sum-add n f g)
 
--- at most 3 a place
-pub sum-most : (n : ℕ) (f : ℕ → ℕ) → ((i : ℕ) → f i ≤ 3) → sumTo n f ≤ 3 * n
-unfolding sumTo
-sum-most zero f h = omega arith
-sum-most (suc n) f h = omega (arith, sum-most n f h, h n)
-
 -- where there is nothing from m on
 pub sum-short : (n m : ℕ) (f : ℕ → ℕ) → m ≤ n → ((i : ℕ) → m ≤ i → f i ≡ 0) → sumTo n f ≡ sumTo m f
 unfolding sumTo
@@ -43,5 +36,7 @@ sum-short (suc n) m f h none = tell (leb m n) refl (λ k. sum-short n m f k none
     tell true e ih = omega (arith, ih (leb-true m n e), none n (leb-true m n e))
     tell false e ih = let k : m ≡ suc n = omega (arith, leb-false m n e) in rw k
 
-pub count-most : (n : ℕ) (p : ℕ → Bool) → countTo n p ≤ 3 * n
-count-most n p = sum-most n (λ i. digit (p i)) (λ i. omega (arith, digit-le (p i)))
+pub count-most : (n : ℕ) (p : ℕ → Bool) → countTo n p ≤ n
+unfolding sumTo
+count-most zero p = omega arith
+count-most (suc n) p = omega (arith, count-most n p, digit-le (p n))

@@ -1,49 +1,24 @@
--- What the inner functions count, over the two tables alone; no public contract names it.
-use Prim.Native.Nat.{ℕ, _+_, _*_, _-_, _/_, _<_, _≤_}
+-- What the inner functions count; no public contract names it.
+use Prim.Native.Nat.{ℕ, _+_, _*_, _-_, _^_, _≤_}
 use mathlib.Core.Path.{_≡_}
-use mathlib.Core.Bool.{Bool, true, not, _&&_, _||_}
+use mathlib.Core.Bool.{Bool, true, _&&_}
 use mathlib.Core.List.{List}
-use lib.Dec.{ltb, leb}
+use lib.Dec.{leb, ltb}
 use lib.IntN.{ℤ}
 use lib.ListN.{length, getD}
-use Rattle.sizes.specs.Sizes.{allOf, mostN, mostPlanes, sideFits, levelsFit}
-use Rattle.bits.specs.Bits.{digit}
+use Rattle.sizes.specs.Sizes.{allOf, mostN, sideFits, levelsFit}
+use Rattle.sizes.specs.Tables.{table}
 use Rattle.coef.specs.Coef.{magAt}
 use Rattle.tree.specs.Summaries.{descTable, grandTable}
 use Rattle.nls.specs.Parts.{countTo}
 use Rattle.figures.specs.declared.Figures.{Figures}
 use Rattle.figures.specs.declared.Reach.{Reach}
 
--- x is at least `level` and below twice that
-unfoldable pub atLevel : ℕ → ℕ → Bool
-atLevel level x = leb level x && not (leb (2 * level) x)
-
--- by D, the level 2^b and the entries of a table: i is below D or the entry of its parent reaches the level
-unfoldable pub openBy : ℕ → ℕ → List ℕ → ℕ → Bool
-openBy D level held i = ltb i D || leb level (getD held (i / 4) 0)
-
--- the set of place i is not empty
-unfoldable pub membersBy : ℕ → List ℕ → ℕ → Bool
-membersBy D held i = leb (D / 4) i && ltb i (length held)
-
--- DESC(i) stands, GRAND(i) stands
-module _ (D level : ℕ) (desc grand : List ℕ) where
-  unfoldable pub descBy : ℕ → Bool
-  descBy i = membersBy D desc i && (not (leb level (getD desc i 0)) && openBy D level grand i)
-
-  unfoldable pub grandBy : ℕ → Bool
-  grandBy i = membersBy D grand i && (leb level (getD desc i 0) && not (leb level (getD grand i 0)))
-
-  -- how many of the coefficient at i, its DESC and its GRAND stand
-  unfoldable pub partsBy : ℕ → ℕ
-  partsBy i = digit (openBy D level desc i) + digit (descBy i) + digit (grandBy i)
-
--- sizes in range, a value for each place, a plane that an array can have, and both tables filled
-pub record Filled (N L : ℕ) (A : List ℤ) (b : ℕ) (desc grand : List ℕ) : Type 0 where
+-- sizes in range, a value for each place, and both tables filled
+pub record Filled (N L : ℕ) (A : List ℤ) (desc grand : List ℕ) : Type 0 where
   pub side : sideFits N ≡ true
   pub levels : levelsFit N L ≡ true
   pub whole : length A ≡ allOf N
-  pub plane : b < mostPlanes
   pub descs : desc ≡ descTable N L A
   pub grands : grand ≡ grandTable N L A
 
@@ -69,9 +44,34 @@ figuresBetween least here above =
 
 pub record Between (least : ℕ) (here above : Reach) : Type 0 where
   pub least-most : least ≤ 2 * allOf mostN
-  pub descs-most : here .descs ≤ 3 * allOf mostN
-  pub inner-most : here .inner ≤ 3 * allOf mostN
-  pub grands-most : here .grands ≤ 3 * allOf mostN
-  pub large-most : here .large ≤ 3 * allOf mostN
+  pub descs-most : here .descs ≤ allOf mostN
+  pub inner-most : here .inner ≤ allOf mostN
+  pub grands-most : here .grands ≤ allOf mostN
+  pub large-most : here .large ≤ allOf mostN
   pub fewer-sets : above .descs + above .grands ≤ here .descs + here .grands
   pub fewer-large : above .large ≤ here .large
+
+-- x has k digits in binary: it is below 2^k, and below no smaller power
+unfoldable pub hasLength : ℕ → ℕ → Bool
+hasLength k x = ltb x (2 ^ k) && leb (2 ^ k) (2 * x + 1)
+
+-- how many of n numbers have 32, 31, .. 0 digits: what stands at z counts those with z leading zeros among 32
+unfoldable pub tallyOf : ℕ → (ℕ → ℕ) → List ℕ
+tallyOf n x = table 33 (λ z. countTo n (λ i. hasLength (32 - z) (x i)))
+
+-- four counts without those that four tallies have at z, where they have no more
+abbrev pub reachLess : Reach → ℕ → List ℕ → List ℕ → List ℕ → List ℕ → Reach
+reachLess here z descs inner grands large =
+    record {
+      descs = here .descs - getD descs z 0;
+      inner = here .inner - getD inner z 0;
+      grands = here .grands - getD grands z 0;
+      large = here .large - getD large z 0;
+    }
+
+pub record Within (here : Reach) (z : ℕ) (descs inner grands large : List ℕ) : Type 0 where
+  pub zeros : z ≤ 32
+  pub descs-less : getD descs z 0 ≤ here .descs
+  pub inner-less : getD inner z 0 ≤ here .inner
+  pub grands-less : getD grands z 0 ≤ here .grands
+  pub large-less : getD large z 0 ≤ here .large

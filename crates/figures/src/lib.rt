@@ -2,19 +2,22 @@
 use refusals::Outcome;
 use refusals::Refusal;
 use sizes::MOST_PLANES;
-ghost use Prim.Native.Nat.{ℕ, _+_, _*_, _/_, _<_, _≤_, _^_};
+ghost use Prim.Native.Nat.{_+_, _*_, _/_, _<_, _≤_, _^_};
 ghost use mathlib.Core.Path.{_≡_};
+ghost use mathlib.Core.Bool.{true};
+ghost use mathlib.Core.List.{[], _∷_, _++_};
+ghost use lib.Count.{leadingZeros};
 ghost use lib.Dec.{leb};
 ghost use lib.ListN.{length, getD, set};
-ghost use Rattle.refusals.specs.Checks.{firstOf, lentAfter};
+ghost use Rattle.refusals.specs.Checks.{need, firstOf, lentAfter};
 ghost use Rattle.refusals.specs.declared.Outcome.the-variants as outcome;
-ghost use Rattle.sizes.specs.Sizes.{allOf, mostN, mostPlanes};
+ghost use Rattle.sizes.specs.Sizes.{allOf, coarsestOf, mostN, mostPlanes, sideFits, levelsFit};
 ghost use Rattle.bits.specs.Bits.{digit};
 ghost use Rattle.coef.specs.Coef.{magAt};
-ghost use Rattle.tree.specs.Summaries.{descTable, grandTable};
-ghost use Rattle.nls.specs.Parts.{sumTo, countTo};
+ghost use Rattle.tree.specs.Summaries.{descTable, grandTable, summaryChecks};
+ghost use Rattle.nls.specs.Parts.{countTo};
 ghost use Rattle.figures.specs.Figures.{figuresOf, figuresChecks, answered, outcomeOf, allFigures, allFiguresChecks};
-ghost use Rattle.figures.specs.Tables.{atLevel, openBy, membersBy, descBy, grandBy, partsBy, Filled, reachOf, Between, figuresBetween};
+ghost use Rattle.figures.specs.Tables.{Filled, reachOf, Between, figuresBetween, tallyOf, Within, reachLess};
 
 // Four numbers for each plane.
 const ALL_FIGURES: usize = 96;
@@ -31,16 +34,6 @@ pub enum FiguresAnswer {
     Refused(Refusal),
 }
 
-// An entry of a table; 0 past its end.
-fn entry_at(held: &[u32], i: usize) -> u32
-    ensures { λ r. ⌜ r ≡ getD (now (held .entry)) i 0 ⌝ }
-{
-    if i < held.len() {
-        return held[i];
-    }
-    0
-}
-
 // A test as a digit.
 fn digit_of(t: bool) -> u32
     ensures { λ r. ⌜ r ≡ digit t ⌝ }
@@ -51,223 +44,12 @@ fn digit_of(t: bool) -> u32
     0
 }
 
-// Whether x is at least the level and below twice that.
-fn is_at_level(level: u32, x: u32) -> bool
-    ensures { λ r. ⌜ r ≡ atLevel level x ⌝ }
-{
-    if x < level {
-        return false;
-    }
-    if level <= x / 2 {
-        return false;
-    }
-    true
-}
-
-// The entries of a table that are at the level.
-fn count_sets(level: u32, held: &[u32]) -> u32
-    requires { ⌜ length (now held) ≤ allOf mostN ⌝ }
-    ensures { λ r. ⌜ r ≡ countTo (length (now (held .entry))) (λ i. atLevel level (getD (now (held .entry)) i 0)) ⌝ }
-{
-    let mut count = 0u32;
-    let mut i = 0;
-    while i < held.len() {
-        let x = held[i];
-        count += digit_of(is_at_level(level, x));
-        i += 1;
-    }
-    count
-}
-
-// The coefficients whose magnitude is at the level.
-fn count_found(level: u32, values: &[i32]) -> u32
-    requires { ⌜ length (now values) ≤ allOf mostN ⌝ }
-    ensures { λ r. ⌜ r ≡ countTo (length (now (values .entry))) (λ i. atLevel level (magAt (now (values .entry)) i)) ⌝ }
-{
-    let mut count = 0u32;
-    let mut i = 0;
-    while i < values.len() {
-        let x = values[i];
-        count += digit_of(is_at_level(level, coef::magnitude(x)));
-        i += 1;
-    }
-    count
-}
-
-// Whether i is below D, or the entry of its parent reaches the level.
-fn is_open(coarsest: usize, level: u32, held: &[u32], i: usize) -> bool
-    ensures { λ r. ⌜ r ≡ openBy coarsest level (now (held .entry)) i ⌝ }
-{
-    if i < coarsest {
-        return true;
-    }
-    let parent = entry_at(held, i / 4);
-    level <= parent
-}
-
-// Whether the set of place i is not empty.
-fn has_members(coarsest: usize, held: &[u32], i: usize) -> bool
-    ensures { λ r. ⌜ r ≡ membersBy coarsest (now (held .entry)) i ⌝ }
-{
-    if i < coarsest / 4 {
-        return false;
-    }
-    i < held.len()
-}
-
-// Whether DESC(i) stands.
-fn desc_stands(coarsest: usize, level: u32, desc: &[u32], grand: &[u32], i: usize) -> bool
-    ensures { λ r. ⌜ r ≡ descBy coarsest level (now (desc .entry)) (now (grand .entry)) i ⌝ }
-{
-    if !has_members(coarsest, desc, i) {
-        return false;
-    }
-    let below = entry_at(desc, i);
-    if level <= below {
-        return false;
-    }
-    is_open(coarsest, level, grand, i)
-}
-
-// Whether GRAND(i) stands.
-fn grand_stands(coarsest: usize, level: u32, desc: &[u32], grand: &[u32], i: usize) -> bool
-    ensures { λ r. ⌜ r ≡ grandBy coarsest level (now (desc .entry)) (now (grand .entry)) i ⌝ }
-{
-    if !has_members(coarsest, grand, i) {
-        return false;
-    }
-    let below = entry_at(desc, i);
-    if below < level {
-        return false;
-    }
-    let past = entry_at(grand, i);
-    if level <= past {
-        return false;
-    }
-    true
-}
-
-// The parts of place i that stand.
-fn parts_at(coarsest: usize, level: u32, desc: &[u32], grand: &[u32], i: usize) -> u32
-    ensures { λ r. ⌜ r ≡ partsBy coarsest level (now (desc .entry)) (now (grand .entry)) i ⌝ }
-{
-    let alone = digit_of(is_open(coarsest, level, desc, i));
-    let below = digit_of(desc_stands(coarsest, level, desc, grand, i));
-    let past = digit_of(grand_stands(coarsest, level, desc, grand, i));
-    alone + below + past
-}
-
-// The parts that stand.
-fn count_parts(all: usize, coarsest: usize, level: u32, desc: &[u32], grand: &[u32]) -> u32
-    requires { ⌜ all ≤ allOf mostN ⌝ }
-    ensures { λ r. ⌜ r ≡ sumTo all (λ i. partsBy coarsest level (now (desc .entry)) (now (grand .entry)) i) ⌝ }
-{
-    let mut count = 0u32;
-    let mut i = 0;
-    while i < all {
-        count += parts_at(coarsest, level, desc, grand, i);
-        i += 1;
-    }
-    count
-}
-
 // The level of a plane.
 fn level_of(plane: u32) -> u32
     requires { ⌜ plane < mostPlanes ⌝ }
     ensures { λ r. ⌜ r ≡ 2 ^ plane ⌝ }
 {
     1u32 << plane
-}
-
-// The figures, from tables that are filled.
-fn count(n: u32, l: u32, values: &[i32], plane: u32, desc: &[u32], grand: &[u32]) -> Figures
-    requires { ⌜ Filled n l (now values) plane (now desc) (now grand) ⌝ }
-    ensures { λ r. ⌜ r ≡ figuresOf n l (now (values .entry)) plane ⌝ }
-{
-    let level = level_of(plane);
-    let coarsest = sizes::coarsest_of(n, l);
-    let parts = count_parts(values.len(), coarsest, level, desc, grand);
-    let splits = count_sets(level, desc) + count_sets(level, grand);
-    let found = count_found(level, values);
-    Figures {
-        parts,
-        splits,
-        bits: parts + splits + found,
-        found,
-    }
-}
-
-// The checks of the summaries, and after them refusal 9.
-fn check(n: u32, l: u32, values: &[i32], descs: usize, grands: usize, plane: u32) -> Outcome
-    ensures { λ r. ⌜ r ≡ firstOf (figuresChecks n l (now (values .entry)) descs grands plane) ⌝ }
-{
-    let checked = tree::check(n, l, values, descs, grands);
-    match checked {
-        Outcome::Done => {
-            if MOST_PLANES <= plane {
-                return Outcome::Refused(Refusal::Planes);
-            }
-            Outcome::Done
-        }
-        Outcome::Refused(why) => Outcome::Refused(why),
-    }
-}
-
-// The figures of one plane. Fills DESC and GRAND on the way: I/4 and I/16 entries. Nothing is filled before the plane is checked too.
-pub fn figures_of(
-    n: u32,
-    l: u32,
-    values: &[i32],
-    plane: u32,
-    desc: &mut [u32],
-    grand: &mut [u32],
-) -> FiguresAnswer
-    ensures answer { λ r. ⌜ r ≡ answered (firstOf (figuresChecks n l (now (values .entry)) (length (now (desc .entry))) (length (now (grand .entry))) plane)) (figuresOf n l (now (values .entry)) plane) ⌝ }
-    ensures descs { λ r. ⌜ now (desc .exit) ≡ lentAfter (outcomeOf r) (descTable n l (now (values .entry))) (now (desc .entry)) ⌝ }
-    ensures grands { λ r. ⌜ now (grand .exit) ≡ lentAfter (outcomeOf r) (grandTable n l (now (values .entry))) (now (grand .entry)) ⌝ }
-{
-    let checked = check(n, l, values, desc.len(), grand.len(), plane);
-    match checked {
-        Outcome::Done => {
-            tree::summaries(n, l, values, desc, grand);
-            let descs = values.len() / 4;
-            let grands = values.len() / 16;
-            let figures = count(n, l, values, plane, &desc[..descs], &grand[..grands]);
-            FiguresAnswer::Done(figures)
-        }
-        Outcome::Refused(why) => FiguresAnswer::Refused(why),
-    }
-}
-
-// The checks of the summaries, and after them refusal 5 for the output.
-fn check_all(n: u32, l: u32, values: &[i32], descs: usize, grands: usize, outs: usize) -> Outcome
-    ensures { λ r. ⌜ r ≡ firstOf (allFiguresChecks n l (now (values .entry)) descs grands outs) ⌝ }
-{
-    let checked = tree::check(n, l, values, descs, grands);
-    match checked {
-        Outcome::Done => {
-            if outs < ALL_FIGURES {
-                return Outcome::Refused(Refusal::Lent);
-            }
-            Outcome::Done
-        }
-        Outcome::Refused(why) => Outcome::Refused(why),
-    }
-}
-
-// The four numbers of a plane, from `first` on.
-fn put_numbers(out: &mut [u32], first: usize, figures: Figures)
-    requires { ⌜ first + 3 < length (now out) ⌝ }
-    ensures { λ r. ⌜ now (out .exit) ≡ set (set (set (set (now (out .entry)) first (figures .parts)) (first + 1) (figures .splits)) (first + 2) (figures .bits)) (first + 3) (figures .found) ⌝ }
-{
-    let parts = figures.parts;
-    let splits = figures.splits;
-    let bits = figures.bits;
-    let found = figures.found;
-    out[first] = parts;
-    out[first + 1] = splits;
-    out[first + 2] = bits;
-    out[first + 3] = found;
 }
 
 // The entries of a table that reach the level, among the first.
@@ -341,16 +123,193 @@ fn figures_between(least: u32, here: Reach, above: Reach) -> Figures
     }
 }
 
+// The parts that stand where no set is split: D coefficients, and three sets for four of them.
+fn least_parts(n: u32, l: u32) -> u32
+    requires { ⌜ (sideFits n ≡ true) × (levelsFit n l ≡ true) ⌝ }
+    ensures { λ r. ⌜ r ≡ coarsestOf n l / 4 * 7 ⌝ }
+{
+    (sizes::coarsest_of(n, l) / 4 * 7) as u32
+}
+
+// The figures, from tables that are filled.
+fn count(n: u32, l: u32, values: &[i32], plane: u32, desc: &[u32], grand: &[u32]) -> Figures
+    requires { ⌜ Filled n l (now values) (now desc) (now grand) × (plane < mostPlanes) ⌝ }
+    ensures { λ r. ⌜ r ≡ figuresOf n l (now (values .entry)) plane ⌝ }
+{
+    let least = least_parts(n, l);
+    let level = level_of(plane);
+    let here = reach_of(level, values, desc, grand);
+    let above = reach_of(2 * level, values, desc, grand);
+    figures_between(least, here, above)
+}
+
+// The checks of the summaries, and after them one more.
+fn check_more(
+    n: u32,
+    l: u32,
+    values: &[i32],
+    descs: usize,
+    grands: usize,
+    holds: bool,
+    otherwise: Refusal,
+) -> Outcome
+    ensures { λ r. ⌜ r ≡ firstOf (summaryChecks n l (now (values .entry)) descs grands ++ (need holds otherwise ∷ [])) ⌝ }
+{
+    let checked = tree::check(n, l, values, descs, grands);
+    match checked {
+        Outcome::Done => {
+            if holds {
+                return checked;
+            }
+            Outcome::Refused(otherwise)
+        }
+        Outcome::Refused(_) => checked,
+    }
+}
+
+// The figures of one plane. Fills DESC and GRAND on the way: I/4 and I/16 entries. Nothing is filled before the plane is checked too.
+pub fn figures_of(
+    n: u32,
+    l: u32,
+    values: &[i32],
+    plane: u32,
+    desc: &mut [u32],
+    grand: &mut [u32],
+) -> FiguresAnswer
+    ensures answer { λ r. ⌜ r ≡ answered (firstOf (figuresChecks n l (now (values .entry)) (length (now (desc .entry))) (length (now (grand .entry))) plane)) (figuresOf n l (now (values .entry)) plane) ⌝ }
+    ensures descs { λ r. ⌜ now (desc .exit) ≡ lentAfter (outcomeOf r) (descTable n l (now (values .entry))) (now (desc .entry)) ⌝ }
+    ensures grands { λ r. ⌜ now (grand .exit) ≡ lentAfter (outcomeOf r) (grandTable n l (now (values .entry))) (now (grand .entry)) ⌝ }
+{
+    let checked = check_more(
+        n,
+        l,
+        values,
+        desc.len(),
+        grand.len(),
+        plane < MOST_PLANES,
+        Refusal::Planes,
+    );
+    match checked {
+        Outcome::Done => {
+            tree::summaries(n, l, values, desc, grand);
+            let descs = values.len() / 4;
+            let grands = values.len() / 16;
+            let figures = count(n, l, values, plane, &desc[..descs], &grand[..grands]);
+            FiguresAnswer::Done(figures)
+        }
+        Outcome::Refused(why) => FiguresAnswer::Refused(why),
+    }
+}
+
+// The four numbers of a plane, from `first` on.
+fn put_numbers(out: &mut [u32], first: usize, figures: Figures)
+    requires { ⌜ first + 3 < length (now out) ⌝ }
+    ensures { λ r. ⌜ now (out .exit) ≡ set (set (set (set (now (out .entry)) first (figures .parts)) (first + 1) (figures .splits)) (first + 2) (figures .bits)) (first + 3) (figures .found) ⌝ }
+{
+    let parts = figures.parts;
+    let splits = figures.splits;
+    let bits = figures.bits;
+    let found = figures.found;
+    out[first] = parts;
+    out[first + 1] = splits;
+    out[first + 2] = bits;
+    out[first + 3] = found;
+}
+
+// How many numbers have each length in binary: a count for each number of leading zeros, 0 to 32.
+type Tally = [u32; 33];
+
+// One number more in a tally.
+fn tally_one(counts: &mut Tally, x: u32)
+    requires { ⌜ getD (now counts) (leadingZeros 32 x) 0 < allOf mostN ⌝ }
+    ensures { λ r. ⌜ now (counts .exit) ≡ set (now (counts .entry)) (leadingZeros 32 x) (getD (now (counts .entry)) (leadingZeros 32 x) 0 + 1) ⌝ }
+{
+    let zeros = u32::leading_zeros(x) as usize;
+    counts[zeros] += 1;
+}
+
+// The tally of the first entries of a table, from one of none.
+fn tally(held: &[u32], upto: usize, counts: &mut Tally)
+    requires { ⌜ (upto ≤ length (now held)) × (upto ≤ allOf mostN) × (now counts ≡ tallyOf 0 (λ i. getD (now held) i 0)) ⌝ }
+    ensures { λ r. ⌜ now (counts .exit) ≡ tallyOf upto (λ i. getD (now (held .entry)) i 0) ⌝ }
+{
+    let mut i = 0;
+    while i < upto {
+        let x = held[i];
+        tally_one(counts, x);
+        i += 1;
+    }
+}
+
+// The tally of the magnitudes, likewise.
+fn tally_large(values: &[i32], counts: &mut Tally)
+    requires { ⌜ (length (now values) ≤ allOf mostN) × (now counts ≡ tallyOf 0 (λ i. magAt (now values) i)) ⌝ }
+    ensures { λ r. ⌜ now (counts .exit) ≡ tallyOf (length (now (values .entry))) (λ i. magAt (now (values .entry)) i) ⌝ }
+{
+    let mut i = 0;
+    while i < values.len() {
+        let x = values[i];
+        tally_one(counts, coef::magnitude(x));
+        i += 1;
+    }
+}
+
+// Everything reaches 0.
+fn reach_all(values: &[i32], desc: &[u32], grand: &[u32]) -> Reach
+    requires { ⌜ (length (now values) ≤ allOf mostN) × (length (now desc) ≤ allOf mostN) × (length (now grand) ≤ length (now desc)) ⌝ }
+    ensures { λ r. ⌜ r ≡ reachOf 0 (now (values .entry)) (now (desc .entry)) (now (grand .entry)) ⌝ }
+{
+    let descs = desc.len() as u32;
+    let grands = grand.len() as u32;
+    let large = values.len() as u32;
+    Reach {
+        descs,
+        inner: grands,
+        grands,
+        large,
+    }
+}
+
+// Four counts, less what four tallies have at one number of leading zeros.
+fn reach_less(
+    here: Reach,
+    zeros: usize,
+    descs: &Tally,
+    inner: &Tally,
+    grands: &Tally,
+    large: &Tally,
+) -> Reach
+    requires { ⌜ Within here zeros (now descs) (now inner) (now grands) (now large) ⌝ }
+    ensures { λ r. ⌜ r ≡ reachLess here zeros (now (descs .entry)) (now (inner .entry)) (now (grands .entry)) (now (large .entry)) ⌝ }
+{
+    Reach {
+        descs: here.descs - descs[zeros],
+        inner: here.inner - inner[zeros],
+        grands: here.grands - grands[zeros],
+        large: here.large - large[zeros],
+    }
+}
+
 // The figures of all planes, from tables that are filled.
 fn count_all(n: u32, l: u32, values: &[i32], desc: &[u32], grand: &[u32], out: &mut [u32])
-    requires { ⌜ ((b : ℕ) → b < mostPlanes → Filled n l (now values) b (now desc) (now grand)) × (4 * mostPlanes ≤ length (now out)) ⌝ }
+    requires { ⌜ Filled n l (now values) (now desc) (now grand) × (4 * mostPlanes ≤ length (now out)) ⌝ }
     ensures { λ r. ⌜ now (out .exit) ≡ lentAfter outcome.Done (allFigures n l (now (values .entry))) (now (out .entry)) ⌝ }
 {
-    let least = (sizes::coarsest_of(n, l) / 4 * 7) as u32;
-    let mut here = reach_of(1, values, desc, grand);
+    let least = least_parts(n, l);
+    let mut descs = [0u32; 33];
+    let mut inner = [0u32; 33];
+    let mut grands = [0u32; 33];
+    let mut large = [0u32; 33];
+    tally(desc, desc.len(), &mut descs);
+    tally(desc, grand.len(), &mut inner);
+    tally(grand, grand.len(), &mut grands);
+    tally_large(values, &mut large);
+    let all = reach_all(values, desc, grand);
+    let mut here = reach_less(all, 32, &descs, &inner, &grands, &large);
     let mut plane = 0u32;
     while plane < MOST_PLANES {
-        let above = reach_of(2 * level_of(plane), values, desc, grand);
+        let zeros = (31 - plane) as usize;
+        let above = reach_less(here, zeros, &descs, &inner, &grands, &large);
         let figures = figures_between(least, here, above);
         put_numbers(out, (4 * plane) as usize, figures);
         here = above;
@@ -372,7 +331,15 @@ pub fn figures_of_all(
     ensures grands { λ r. ⌜ now (grand .exit) ≡ lentAfter r (grandTable n l (now (values .entry))) (now (grand .entry)) ⌝ }
     ensures outs { λ r. ⌜ now (out .exit) ≡ lentAfter r (allFigures n l (now (values .entry))) (now (out .entry)) ⌝ }
 {
-    let checked = check_all(n, l, values, desc.len(), grand.len(), out.len());
+    let checked = check_more(
+        n,
+        l,
+        values,
+        desc.len(),
+        grand.len(),
+        ALL_FIGURES <= out.len(),
+        Refusal::Lent,
+    );
     match checked {
         Outcome::Done => {
             tree::summaries(n, l, values, desc, grand);

@@ -1,87 +1,102 @@
 use mathlib.Core.Path.{_≡_, refl, sym, _∙_, ap}
 use mathlib.Core.List.{_++_}
-use Prim.Native.Nat.{ℕ, suc, _*_, _-_, _/_, _^_, _≤_}
-use native.Mathlib.Nat.{pow-succ'}
+use Prim.Native.Nat.{ℕ, _+_, _*_, _-_, _^_, _≤_}
+use native.Mathlib.Nat.{pow-succ', le-refl}
 use native.Mathlib.Numerals.{add-one}
 use native.Mathlib.Omega.{arith}
 use borrow.Author.Needs.{needs}
-use lib.ListN.{length, drop}
-use lib.Pow.{pow-mono}
-use Rattle.sizes.specs.Sizes.{coarsestOf, mostPlanes}
-use Rattle.sizes.proofs.Laws.{sized, side-most, all-most, coarsest-all}
+use lib.ListN.{length, getD, drop}
+use Rattle.sizes.specs.Sizes.{mostPlanes}
+use Rattle.coef.specs.Coef.{magAt}
 use Rattle.figures.specs.Figures.{figuresOf, figuresBelow}
 use Rattle.figures.specs.Tables.{reachOf}
-use Rattle.figures.proofs.Counted.{all-size, desc-size}
-use Rattle.figures.proofs.Reached.{grand-within, reached, between}
+use Rattle.figures.proofs.Tallies.{tally-none, first-next, zeros-next, reach-next, reach-within}
+use Rattle.figures.proofs.Reached.{sizes-fit, reached, between}
 use Rattle.figures.proofs.All.{below-length, below-none, next-plane}
 use Rattle.figures.proofs.count_all.Statement.{statement}
 use Rattle.figures.proofs.count_all.Tie as tie
 
 abbrev Inv-loop : tie.InvT-loop
-Inv-loop n l values desc grand out₀ least here₀ plane₀ out here plane = (plane ≤ mostPlanes) × (length out ≡ length out₀) × (here ≡ reachOf (2 ^ plane) values desc grand) × (out ≡ figuresBelow n l values plane ++ drop (4 * plane) out₀)
+Inv-loop n l values desc grand out₀ least descs inner grands large here₀ plane₀ out here plane = (plane ≤ mostPlanes) × (length out ≡ length out₀) × (here ≡ reachOf (2 ^ plane) values desc grand) × (out ≡ figuresBelow n l values plane ++ drop (4 * plane) out₀)
 
 abbrev μ-loop : tie.MeasureT-loop
-μ-loop n l values desc grand out₀ least here₀ plane₀ out here plane = mostPlanes - plane
+μ-loop n l values desc grand out₀ least descs inner grands large here₀ plane₀ out here plane = mostPlanes - plane
 
-coarsest-of-requires : tie.Need-coarsest-of-requires Inv-loop μ-loop
-coarsest-of-requires c κs = search needs
+least-parts-requires : tie.Need-least-parts-requires Inv-loop μ-loop
+least-parts-requires c κs = (c .before .before .before .pre .0 .side, c .before .before .before .pre .0 .levels)
 
--- D, and how small it is
-coarsest : (c : tie.After-coarsest-of Inv-loop μ-loop) → let a = c .before .before .before .before .args in c .coarsest-of .result ≡ coarsestOf (a .n) (a .l)
-coarsest c =
-    let f = c .before .before .before .before .pre .0 0 (omega arith) in
-    c .coarsest-of .ensures ∙ rw (f .side, f .levels)
+tally-requires : tie.Need-tally-requires Inv-loop μ-loop
+tally-requires c κs =
+    let s = c .before .before .before .before .before in
+    let f = sizes-fit (s .args .n) (s .args .l) (s .args .values .now) (s .args .desc .now) (s .args .grand .now) (s .pre .0) in
+    (le-refl (length (s .args .desc .now)), f .1, tally-none (λ i. getD (s .args .desc .now) i 0))
 
-few : (c : tie.After-coarsest-of Inv-loop μ-loop) → c .coarsest-of .result ≤ 65536
-few c =
-    let a = c .before .before .before .before .args in
-    let f = c .before .before .before .before .pre .0 0 (omega arith) in
-    omega (arith, coarsest c, coarsest-all (a .n) (a .l) (sized (a .n) (a .l) (f .levels)), all-most (a .n) (side-most (a .n) (f .side)))
+tally-requires-2 : tie.Need-tally-requires-2 Inv-loop μ-loop
+tally-requires-2 c κs =
+    let s = c .before .before .before .before .before .before .before in
+    let f = sizes-fit (s .args .n) (s .args .l) (s .args .values .now) (s .args .desc .now) (s .args .grand .now) (s .pre .0) in
+    (f .2, omega arith, tally-none (λ i. getD (s .args .desc .now) i 0))
 
-mul-least : tie.Need-mul-least Inv-loop μ-loop
-mul-least c = omega (arith, few c)
+tally-requires-3 : tie.Need-tally-requires-3 Inv-loop μ-loop
+tally-requires-3 c κs =
+    let s = c .before .before .before .before .before .before .before .before .before in
+    let f = sizes-fit (s .args .n) (s .args .l) (s .args .values .now) (s .args .desc .now) (s .args .grand .now) (s .pre .0) in
+    (le-refl (length (s .args .grand .now)), omega arith, tally-none (λ i. getD (s .args .grand .now) i 0))
 
-cast-least : tie.Need-cast-least Inv-loop μ-loop
-cast-least c = omega (arith, few c)
+tally-large-requires : tie.Need-tally-large-requires Inv-loop μ-loop
+tally-large-requires c κs =
+    let s = c .before .before .before .before .before .before .before .before .before .before .before in
+    (sizes-fit (s .args .n) (s .args .l) (s .args .values .now) (s .args .desc .now) (s .args .grand .now) (s .pre .0) .0, tally-none (λ i. magAt (s .args .values .now) i))
 
-reach-of-requires : tie.Need-reach-of-requires Inv-loop μ-loop
-reach-of-requires c κs =
-    let s = c .before .before .before .before in
-    let a = s .args in
-    let f = s .pre .0 0 (omega arith) in
-    (all-size (a .n) (a .l) (a .values .now) 0 (a .desc .now) (a .grand .now) f, desc-size (a .n) (a .l) (a .values .now) 0 (a .desc .now) (a .grand .now) f, grand-within (a .n) (a .l) (a .values .now) 0 (a .desc .now) (a .grand .now) f)
+reach-all-requires : tie.Need-reach-all-requires Inv-loop μ-loop
+reach-all-requires c κs =
+    let s = c .before .before .before .before .before .before .before .before .before .before .before .before in
+    sizes-fit (s .args .n) (s .args .l) (s .args .values .now) (s .args .desc .now) (s .args .grand .now) (s .pre .0)
+
+reach-less-requires : tie.Need-reach-less-requires Inv-loop μ-loop
+reach-less-requires c κs =
+    let a = c .before .before .before .before .before .before .before .before .before .before .before .before .before .before .before .before .before .args in
+    rw (c .before .before .before .before .reach-all .ensures, c .before .before .before .before .before .before .before .before .before .before .before .tally .ensures, c .before .before .before .before .before .before .before .before .before .tally2 .ensures, c .before .before .before .before .before .before .before .tally3 .ensures, c .before .before .before .before .before .tally-large .ensures)
+    (reach-within (a .values .now) (a .desc .now) (a .grand .now) 0 1 32 first-next (omega arith))
 
 loop-holds : tie.Need-loop-holds Inv-loop μ-loop
 loop-holds c =
-    let a = c .before .before .before .before .before .args in
-    (omega arith, refl, c .reach-of .ensures, below-none (a .n) (a .l) (a .values .now) (a .out .now))
+    let a = c .before .before .before .before .before .before .before .before .before .before .before .before .before .before .before .before .before .before .args in (
+      omega arith,
+      refl,
+      c .reach-less .ensures ∙ rw (c .before .before .before .before .before .reach-all .ensures, c .before .before .before .before .before .before .before .before .before .before .before .before .tally .ensures, c .before .before .before .before .before .before .before .before .before .before .tally2 .ensures, c .before .before .before .before .before .before .before .before .tally3 .ensures, c .before .before .before .before .before .before .tally-large .ensures)
+          (reach-next (a .values .now) (a .desc .now) (a .grand .now) 0 1 32 first-next (omega arith)),
+      below-none (a .n) (a .l) (a .values .now) (a .out .now),
+    )
 
-level-of-requires : tie.Need-level-of-requires Inv-loop μ-loop
-level-of-requires c κs = c .loop-test .taken
+sub-zeros : tie.Need-sub-zeros Inv-loop μ-loop
+sub-zeros c = search needs
 
-mul-reach-of : tie.Need-mul-reach-of Inv-loop μ-loop
-mul-reach-of c =
-    let l = c .before .before .loop in
-    omega (arith, c .level-of .ensures, pow-mono {i = l .plane} {j = 24} (l .inv .0))
+cast-zeros : tie.Need-cast-zeros Inv-loop μ-loop
+cast-zeros c = search needs
 
-reach-of-requires-2 : tie.Need-reach-of-requires-2 Inv-loop μ-loop
-reach-of-requires-2 c κs =
-    let s = c .before .before .before .before .before .before .before .before in
-    let a = s .args in
-    let f = s .pre .0 0 (omega arith) in
-    (all-size (a .n) (a .l) (a .values .now) 0 (a .desc .now) (a .grand .now) f, desc-size (a .n) (a .l) (a .values .now) 0 (a .desc .now) (a .grand .now) f, grand-within (a .n) (a .l) (a .values .now) 0 (a .desc .now) (a .grand .now) f)
+reach-less-requires-2 : tie.Need-reach-less-requires-2 Inv-loop μ-loop
+reach-less-requires-2 c κs =
+    let a = c .before .before .before .before .before .before .before .before .before .before .before .before .before .before .before .before .before .before .before .before .before .before .before .before .args in
+    let l = c .before .before .before .before .before .loop in
+    rw (l .inv .2, c .before .before .before .before .before .before .before .before .before .before .before .before .before .before .before .before .before .before .tally .ensures, c .before .before .before .before .before .before .before .before .before .before .before .before .before .before .before .before .tally2 .ensures, c .before .before .before .before .before .before .before .before .before .before .before .before .before .before .tally3 .ensures, c .before .before .before .before .before .before .before .before .before .before .before .before .tally-large .ensures)
+    (reach-within (a .values .now) (a .desc .now) (a .grand .now) (2 ^ l .plane) (2 * 2 ^ l .plane) (31 - l .plane) (zeros-next (l .plane) (omega arith)) (omega arith))
 
--- the level of the plane above
-twice : (c : tie.After-level-of Inv-loop μ-loop) → 2 * c .level-of .result ≡ 2 ^ suc (c .before .before .loop .plane)
-twice c = ap (λ (x : ℕ). 2 * x) (c .level-of .ensures) ∙ sym (pow-succ' 2 (c .before .before .loop .plane))
+-- what reaches twice the level
+above : (c : tie.After-reach-less2 Inv-loop μ-loop) → let a = c .before .before .before .before .before .before .before .before .before .before .before .before .before .before .before .before .before .before .before .before .before .before .before .before .before .args in c .reach-less2 .result ≡ reachOf (2 * 2 ^ c .before .before .before .before .before .before .loop .plane) (a .values .now) (a .desc .now) (a .grand .now)
+above c =
+    let a = c .before .before .before .before .before .before .before .before .before .before .before .before .before .before .before .before .before .before .before .before .before .before .before .before .before .args in
+    let l = c .before .before .before .before .before .before .loop in
+    c .reach-less2 .ensures
+    ∙ rw (l .inv .2, c .before .before .before .before .before .before .before .before .before .before .before .before .before .before .before .before .before .before .before .tally .ensures, c .before .before .before .before .before .before .before .before .before .before .before .before .before .before .before .before .before .tally2 .ensures, c .before .before .before .before .before .before .before .before .before .before .before .before .before .before .before .tally3 .ensures, c .before .before .before .before .before .before .before .before .before .before .before .before .before .tally-large .ensures)
+    (reach-next (a .values .now) (a .desc .now) (a .grand .now) (2 ^ l .plane) (2 * 2 ^ l .plane) (31 - l .plane) (zeros-next (l .plane) (omega arith)) (omega arith))
 
 figures-between-requires : tie.Need-figures-between-requires Inv-loop μ-loop
 figures-between-requires c κs =
-    let s = c .before .before .before .before .before .before .before .before .before in
-    let a = s .args in
-    let l = c .before .before .before .loop in
-    rw (l .inv .2, c .reach-of2 .ensures)
-    (between (a .n) (a .l) (a .values .now) (l .plane) (a .desc .now) (a .grand .now) (s .pre .0 (l .plane) (c .before .before .loop-test .taken)) (ap (λ (x : ℕ). x / 4 * 7) (coarsest (c .before .before .before .before .before))) refl (twice (c .before)))
+    let s = c .before .before .before .before .before .before .before .before .before .before .before .before .before .before .before .before .before .before .before .before .before .before .before .before .before in
+    let l = c .before .before .before .before .before .before .loop in
+    rw (above c, l .inv .2, c .before .before .before .before .before .before .before .before .before .before .before .before .before .before .before .before .before .before .before .before .before .least-parts .ensures)
+    (between (s .args .n) (s .args .l) (s .args .values .now) (s .args .desc .now) (s .args .grand .now) (s .pre .0) (l .plane))
 
 mul-put-numbers : tie.Need-mul-put-numbers Inv-loop μ-loop
 mul-put-numbers c = omega arith
@@ -90,7 +105,7 @@ cast-put-numbers : tie.Need-cast-put-numbers Inv-loop μ-loop
 cast-put-numbers c = search needs
 
 put-numbers-requires : tie.Need-put-numbers-requires Inv-loop μ-loop
-put-numbers-requires c κs = omega (arith, c .before .before .before .before .before .before .before .before .before .before .before .pre .1)
+put-numbers-requires c κs = omega (arith, c .before .before .before .before .before .before .before .before .before .before .before .before .before .before .before .before .before .before .before .before .before .before .before .before .before .before .before .pre .1)
 
 add-plane : tie.Need-add-plane Inv-loop μ-loop
 add-plane c = search needs
@@ -100,17 +115,18 @@ loop-less c = search needs
 
 loop-again : tie.Need-loop-again Inv-loop μ-loop
 loop-again c =
-    let s = c .before .before .before .before .before .before .before .before .before .before .before .before .before .before in
+    let s = c .before .before .before .before .before .before .before .before .before .before .before .before .before .before .before .before .before .before .before .before .before .before .before .before .before .before .before .before .before .before in
     let a = s .args in
-    let l = c .before .before .before .before .before .before .before .before .loop in
+    let l = c .before .before .before .before .before .before .before .before .before .before .before .loop in
     let d = c .before .before .before .before in
     let own : d .figures-between .result ≡ figuresOf (a .n) (a .l) (a .values .now) (l .plane) =
     d .figures-between .ensures
-    ∙ rw (l .inv .2, d .before .reach-of2 .ensures)
-    (reached (a .n) (a .l) (a .values .now) (l .plane) (a .desc .now) (a .grand .now) (s .pre .0 (l .plane) (c .before .before .before .before .before .before .before .loop-test .taken)) (ap (λ (x : ℕ). x / 4 * 7) (coarsest (c .before .before .before .before .before .before .before .before .before .before))) refl (twice (d .before .before))) in (
+    ∙ rw (above (c .before .before .before .before .before), l .inv .2, c .before .before .before .before .before .before .before .before .before .before .before .before .before .before .before .before .before .before .before .before .before .before .before .before .before .before .least-parts .ensures)
+    (reached (a .n) (a .l) (a .values .now) (a .desc .now) (a .grand .now) (s .pre .0) (l .plane)) in
+    let next : 2 * 2 ^ l .plane ≡ 2 ^ (l .plane + 1) = sym (rw (add-one (l .plane)) (pow-succ' 2 (l .plane))) in (
       omega arith,
       omega (arith, c .before .out .given),
-      d .before .reach-of2 .ensures ∙ ap (λ (x : ℕ). reachOf x (a .values .now) (a .desc .now) (a .grand .now)) (twice (d .before .before) ∙ ap (λ (x : ℕ). 2 ^ x) (sym (add-one (l .plane)))),
+      above (c .before .before .before .before .before) ∙ ap (λ (x : ℕ). reachOf x (a .values .now) (a .desc .now) (a .grand .now)) next,
       c .before .before .put-numbers .ensures
           ∙ next-plane (a .n) (a .l) (a .values .now) (l .plane) (a .out .now) (l .out) (d .figures-between .result) own (l .inv .3) (omega (arith, s .pre .1)),
     )
@@ -120,7 +136,7 @@ same-length c = search needs
 
 returns : tie.Need-returns Inv-loop μ-loop
 returns c =
-    let a = c .before .before .before .before .before .before .before .args in
+    let a = c .before .before .before .before .before .before .before .before .before .before .before .before .before .before .before .before .before .before .before .before .args in
     let l = c .before .loop in
     let e : l .plane ≡ mostPlanes = omega arith in
     rw (below-length (a .n) (a .l) (a .values .now) mostPlanes)
@@ -132,14 +148,17 @@ count-all-spec =
     (tie.spec
     Inv-loop
     μ-loop
-    coarsest-of-requires
-    mul-least
-    cast-least
-    reach-of-requires
+    least-parts-requires
+    tally-requires
+    tally-requires-2
+    tally-requires-3
+    tally-large-requires
+    reach-all-requires
+    reach-less-requires
     loop-holds
-    level-of-requires
-    mul-reach-of
-    reach-of-requires-2
+    sub-zeros
+    cast-zeros
+    reach-less-requires-2
     figures-between-requires
     mul-put-numbers
     cast-put-numbers
