@@ -51,5 +51,4 @@ ReadsTo outcome.Done N L P u held answer left = BodyRead N L P u held answer lef
 ReadsTo (outcome.Refused why) N L P u held answer left = (answer ≡ decode.Refused why) × (left ≡ held)
 
 abbrev pub Reads : ℕ → ℕ → ℕ → ℕ → List ℕ → Tables → ReadAnswer → Tables → Type 0
-Reads N L P usable body held answer left =
-    ReadsTo (firstOf (readChecks N L P (length (held .values)) (length (held .precisions)) (length (held .marks)))) N L P (bodyBits usable body) held answer left
+Reads N L P usable body held answer left = ReadsTo (firstOf (readChecks N L P (length (held .values)) (length (held .precisions)) (length (held .marks)))) N L P (bodyBits usable body) held answer left

@@ -1,0 +1,102 @@
+/* A plugin of qemu's user emulator that counts the instructions of named functions, those that they call included.
+ *
+ *   qemu-x86_64 -plugin count.so,NAME=ADDRESS,NAME=ADDRESS.. PROGRAM ARGUMENTS
+ *
+ * ADDRESS is the function's, in hexadecimal, as nm prints it for a program that is linked at fixed addresses. A named
+ * function is one that no named function calls, and whose caller does not run inside it: a count begins at the
+ * function's first instruction and ends at the next one of its caller. At the end a line for each function that ran is
+ * written to standard error, as callgrind_annotate has it: the count, and `count:NAME`.
+ * The declarations are those of version 1 of qemu's interface.
+ */
+#include <stdint.h>
+#include <stdio.h>
+#include <stdlib.h>
+#include <string.h>
+
+typedef uint64_t plugin;
+struct qemu_info;
+struct qemu_plugin_tb;
+struct qemu_plugin_insn;
+
+void qemu_plugin_register_vcpu_tb_trans_cb(plugin, void (*)(plugin, struct qemu_plugin_tb *));
+void qemu_plugin_register_vcpu_tb_exec_cb(struct qemu_plugin_tb *, void (*)(unsigned, void *), int, void *);
+void qemu_plugin_register_atexit_cb(plugin, void (*)(plugin, void *), void *);
+size_t qemu_plugin_tb_n_insns(const struct qemu_plugin_tb *);
+struct qemu_plugin_insn *qemu_plugin_tb_get_insn(const struct qemu_plugin_tb *, size_t);
+uint64_t qemu_plugin_insn_vaddr(const struct qemu_plugin_insn *);
+const char *qemu_plugin_insn_symbol(const struct qemu_plugin_insn *);
+
+int qemu_plugin_version = 1;
+
+/* A function that is counted. */
+struct function {
+    const char *name;
+    uint64_t address, count;
+};
+
+/* Instructions that are executed one after the other: how many, whose, and the counted function that begins there. */
+struct block {
+    uint64_t instructions;
+    char owner[128];
+    struct function *begins;
+};
+
+static struct function functions[64];
+static size_t functions_held;
+static struct function *counted; /* the one that runs now */
+static uint64_t executed, executed_before;
+static char caller[128], last[128];
+
+static void execute(unsigned cpu, void *held) {
+    struct block *block = held;
+    (void)cpu;
+    if (counted && strcmp(block->owner, caller) == 0) {
+        counted->count += executed - executed_before;
+        counted = NULL;
+    }
+    if (!counted && block->begins) {
+        counted = block->begins;
+        executed_before = executed;
+        strcpy(caller, last);
+    }
+    if (!counted)
+        strcpy(last, block->owner);
+    executed += block->instructions;
+}
+
+static void translate(plugin id, struct qemu_plugin_tb *tb) {
+    struct qemu_plugin_insn *first = qemu_plugin_tb_get_insn(tb, 0);
+    const char *owner = qemu_plugin_insn_symbol(first);
+    struct block *block = calloc(1, sizeof *block);
+    (void)id;
+    if (!block)
+        abort();
+    block->instructions = qemu_plugin_tb_n_insns(tb);
+    snprintf(block->owner, sizeof block->owner, "%s", owner ? owner : "");
+    for (size_t i = 0; i < functions_held; i++)
+        if (functions[i].address == qemu_plugin_insn_vaddr(first))
+            block->begins = &functions[i];
+    qemu_plugin_register_vcpu_tb_exec_cb(tb, execute, 0, block);
+}
+
+static void tell(plugin id, void *held) {
+    (void)id, (void)held;
+    for (size_t i = 0; i < functions_held; i++)
+        if (functions[i].count)
+            fprintf(stderr, "%llu count:%s\n", (unsigned long long)functions[i].count, functions[i].name);
+}
+
+int qemu_plugin_install(plugin id, const struct qemu_info *info, int words, char **word) {
+    (void)info;
+    for (int i = 0; i < words && functions_held < 64; i++) {
+        char *name = strdup(word[i]), *sign = name ? strchr(name, '=') : NULL;
+        if (!sign)
+            return 1;
+        *sign = 0;
+        functions[functions_held].name = name;
+        functions[functions_held++].address = strtoull(sign + 1, NULL, 16);
+    }
+    qemu_plugin_register_vcpu_tb_trans_cb(id, translate);
+    qemu_plugin_register_atexit_cb(id, tell, NULL);
+    return 0;
+}
