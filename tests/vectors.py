@@ -472,8 +472,9 @@ def limit_files(rng):
         more = 8 * (size - second.HEADER_BYTES) - len(bits)
         for declared in (len(bits) + more, len(bits) + more + 1):
             yield 'size', write_file(6, 3, P, declared, bits + [0] * more)
-        for N in (7, 9):
+        for N in (6, 7, 9):
             yield 'size', write_file(N, 1, 0, 0, [0] * (len(bits) + more))
+            yield 'size', write_file(N, 1, 0, 0, [0] * (len(bits) + more), 2)
 
 
 def coder_cases(seed, decodes):
