@@ -2,7 +2,7 @@
 """A known picture: the 8 by 8 coefficients that Shapiro's paper on embedded
 zerotrees works through (1993), by the second coder and by txpshow.
 
-    python3 tests/ezw.py [COMMAND]
+    python3 tests/ezw.py [COMMAND [ARGUMENT...]]
 
 COMMAND is target/bin/txpshow if it is not named. The file of the second coder
 has to be examples/ezw.txp. It is cut after the bits of each plane, and what
@@ -29,10 +29,10 @@ def rows(raster):
 
 def shown(command, data):
     """What a command prints for a file."""
-    return show.run([command], data)[0].decode()
+    return show.run(command, data)[0].decode()
 
 
-def main(command='target/bin/txpshow'):
+def main(command):
     """Print and compare; the number of differences."""
     A = second.to_linear(N, EZW)
     P, bits = second.encode(N, L, A, NO_BUDGET)
@@ -61,4 +61,4 @@ def main(command='target/bin/txpshow'):
 
 
 if __name__ == '__main__':
-    sys.exit(main(*sys.argv[1:]) > 0)
+    sys.exit(main(sys.argv[1:] or ['target/bin/txpshow']) > 0)
