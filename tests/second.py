@@ -198,8 +198,11 @@ def plane_bits(shape, A, size, desc, grand, b):
     # "Set pass": the sets that stood before the plane, and what stands once a
     # set is split in it, each at its own place.
     asked = []
-    for i in range(D // 4, I // 4):
-        if desc[i] < before and (i < D or grand[i // 4] >= now):
+    sets = list(range(D // 4, D)) + [c for i in range(D // 4, I // 16)
+                                     if grand[i] >= now
+                                     for c in shape.children(i)]
+    for i in sets:
+        if desc[i] < before:
             asked.append((STEP[DESC] * i, DESC, i))
             if desc[i] >= now:
                 asked += [(c, PIXEL, c) for c in shape.children(i)]
@@ -217,28 +220,33 @@ def plane_bits(shape, A, size, desc, grand, b):
     return bits
 
 
-def planes(N, L, A):
+def planes(N, L, A, desc, grand):
     """The bits of one plane after the other, P-1 first."""
     size = [abs(a) for a in A]
-    desc, grand = summaries(N, L, A)
     for b in reversed(range(plane_count(A))):
         yield plane_bits(shape_of(N, L), A, size, desc, grand, b)
 
 
 def stream_by_plane(N, L, A):
     """The whole stream, one list of bits for each plane, P-1 first."""
-    return list(planes(N, L, A))
+    return list(planes(N, L, A, *summaries(N, L, A)))
+
+
+def first_bits(stream, budget):
+    """The bits written: "The number of bits written is the smaller of the
+    budget and the whole stream's length." The stream comes plane by plane."""
+    bits = []
+    for plane in stream:
+        bits += plane
+        if len(bits) >= budget:
+            break
+    return bits[:budget]
 
 
 def encode(N, L, A, budget):
-    """P and the bits written: "The number of bits written is the smaller of
-    the budget and the whole stream's length." A is in linear order."""
-    stream = []
-    for plane in planes(N, L, A):
-        stream += plane
-        if len(stream) >= budget:
-            break
-    return plane_count(A), stream[:budget]
+    """P and the bits written. A is in linear order."""
+    stream = planes(N, L, A, *summaries(N, L, A))
+    return plane_count(A), first_bits(stream, budget)
 
 
 def worst_body(N, L, P):
@@ -270,10 +278,11 @@ def encode_file(N, L, A, budget, lent=None):
             return Refused(4, place)
     if lent and (lent[0] < I // 4 or lent[1] < I // 16 or lent[2] < I):
         return Refused(5, 0)
-    if lent and lent[3] < output_bytes(N, L, plane_count(A), budget):
+    P = plane_count(A)
+    if lent and lent[3] < output_bytes(N, L, P, budget):
         return Refused(6, 0)
-    P, bits = encode(N, L, A, budget)
     desc, grand = summaries(N, L, A)
+    bits = first_bits(planes(N, L, A, desc, grand), budget)
     return Encoded(P, bits, write_file(N, L, P, len(bits), bits), desc, grand,
                    marks_after(N, L, P, bits))
 
@@ -502,10 +511,17 @@ class Decoder:
         return marks
 
 
+@lru_cache(maxsize=1)
+def ran(N, L, P, bits, ceiling):
+    """A decoder that has run, and its refusal or None; kept for whoever asks
+    next, since an encoder's marks and a decoder's answer come from one run."""
+    decoder = Decoder(N, L, P, bits, ceiling)
+    return decoder, decoder.run()
+
+
 def decode(N, L, P, bits, ceiling=None):
     """The answer to the usable bits, or refusal 12 or 13 with its bit."""
-    decoder = Decoder(N, L, P, bits, ceiling)
-    refused = decoder.run()
+    decoder, refused = ran(N, L, P, tuple(bits), ceiling and tuple(ceiling))
     if refused:
         return refused
     return Decoded(decoder.values(), decoder.precisions(), decoder.marks(),
@@ -516,8 +532,8 @@ def decode(N, L, P, bits, ceiling=None):
 def marks_after(N, L, P, bits):
     """The marks after bits with which some array's stream begins: "After the
     same bits, encoder and decoder hold equal tables"."""
-    decoder = Decoder(N, L, P, bits)
-    if decoder.run():
+    decoder, refused = ran(N, L, P, tuple(bits), None)
+    if refused:
         raise ValueError('no array has a stream that begins so')
     return decoder.marks()
 
@@ -562,10 +578,8 @@ def bytes_for(bits):
 def pack(bits):
     """The body: "Body bits fill each byte from its highest bit; the last byte
     is padded with 0"."""
-    body = bytearray(bytes_for(len(bits)))
-    for n, bit in enumerate(bits):
-        body[n // 8] |= bit << 7 - n % 8
-    return bytes(body)
+    word = ''.join(map(str, bits)) + '0' * (-len(bits) % 8)
+    return bytes(int(word[n:n + 8], 2) for n in range(0, len(word), 8))
 
 
 def unpack(body):
