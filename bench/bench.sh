@@ -2,6 +2,7 @@
 # Counts the instructions that encode and decode execute on a whole stream, in plain C, in C written for speed, and in
 # the proved library through its C interface; those of the change between the two orders of a whole array, in plain C and
 # in the library; those of the figures of one plane and of all; then the coders' times on this machine.
+# The streams are of 256 by 256 and of 1,024 by 1,024, the latter with two numbers of levels.
 #   sh bench/bench.sh [REPS]
 # Needs gcc and valgrind. On a machine that is not x86-64 it needs gcc, Debian's gcc-x86-64-linux-gnu and qemu-user: the
 # instructions are then counted in the emulator (bench/count.c), and no times are taken.
@@ -28,25 +29,35 @@ run() { # ARGUMENTS of the program; what the functions that it ran executed is l
 }
 count() { grep -E "[:*]$1( |\$)" "$room/text" | head -1 | sed -e 's/^ *\([0-9,]*\).*/\1/' -e 's/,//g'; }
 ratio() { echo "$1 $2" | awk '{printf "%.3f", $1 / $2}'; }
-printf '%-8s %-6s %9s %14s %7s %14s %7s\n' planes coder bits 'encode insns' ratio 'decode insns' ratio
-for planes in 12 20; do
-    for coder in plain fast txp; do
-        case $coder in txp) e=txp_bench_encode d=txp_bench_decode ;; *) e=nls_${coder}_encode d=nls_${coder}_decode ;; esac
-        bits=$(run count $planes $coder)
-        x=$(count $e) y=$(count $d)
-        if [ $coder = plain ]; then x0=$x y0=$y; fi
-        printf '%-8s %-6s %9d %14d %7s %14d %7s\n' $planes $coder "$bits" "$x" "$(ratio "$x" "$x0")" "$y" "$(ratio "$y" "$y0")"
+columns() { # UNITS 'A UNIT' CALL CALL: what stands above the rows
+    printf '%4s %2s %-6s %-5s %9s %13s %6s %8s %6s %13s %6s %8s %6s\n' side L planes coder "$1" "$3 insns" 'to C' "$2" 'to 256' "$4 insns" 'to C' "$2" 'to 256'
+}
+# N L PLANES CODER UNITS CALL CALL: a row. For each call its instructions, their ratio to those of plain C, how many they
+# are a unit (a coded bit, an entry), and the ratio of that to the same coder's at 256 by 256.
+row() {
+    case $4 in txp) f=txp_bench ;; *) f=nls_$4 ;; esac
+    echo "$1 $2 $3 $4 $5 $(count "${f}_$6") $(count "${f}_$7")" >>"$room/rows"
+    awk '{ kind = $3 $4; x = $6 / $5; y = $7 / $5 }
+        $4 == "plain" { cx = $6; cy = $7 }
+        $1 == 8 { x8[kind] = x; y8[kind] = y }
+        END { printf "%4d %2s %-6s %-5s %9d %13d %6.3f %8.3f %6.3f %13d %6.3f %8.3f %6.3f\n", 2 ^ $1, $2, $3, $4, $5, $6, $6 / cx, x, x / x8[kind], $7, $7 / cy, y, y / y8[kind] }' "$room/rows"
+}
+streams() { # N L: the rows of such streams
+    for planes in 12 20; do
+        bits=$(run count "$1" "$2" $planes)
+        for coder in plain fast txp; do row "$1" "$2" $planes $coder "$bits" encode decode; done
     done
+}
+columns bits 'a bit' encode decode
+streams 8 5
+streams 10 7
+streams 10 9
+columns entries 'an entry' linear raster
+for n in 8 10; do
+    run order $n
+    for coder in plain txp; do row $n - - $coder $((1 << 2 * n)) linear raster; done
 done
-printf '%-8s %-6s %9s %14s %7s %14s %7s\n' orders code '' 'linear insns' ratio 'raster insns' ratio
-for code in plain txp; do
-    case $code in txp) e=txp_bench_linear d=txp_bench_raster ;; *) e=nls_plain_linear d=nls_plain_raster ;; esac
-    run order $code
-    x=$(count $e) y=$(count $d)
-    if [ $code = plain ]; then x0=$x y0=$y; fi
-    printf '%-8s %-6s %9s %14d %7s %14d %7s\n' '' $code '' "$x" "$(ratio "$x" "$x0")" "$y" "$(ratio "$y" "$y0")"
-done
-run figures
+run figures 8 5
 x=$(($(count txp_bench_one) / 24)) y=$(count txp_bench_all)
 printf 'figures of one plane, on average, %d insns, of all 24 at once %d insns, ratio %s\n' "$x" "$y" "$(ratio "$y" "$x")"
-[ "$cc" != gcc ] || "$room/bench" time "${1:-20}"
+[ "$cc" != gcc ] || "$room/bench" time 8 5 "${1:-20}"

@@ -24,6 +24,7 @@ void qemu_plugin_register_atexit_cb(plugin, void (*)(plugin, void *), void *);
 size_t qemu_plugin_tb_n_insns(const struct qemu_plugin_tb *);
 struct qemu_plugin_insn *qemu_plugin_tb_get_insn(const struct qemu_plugin_tb *, size_t);
 uint64_t qemu_plugin_insn_vaddr(const struct qemu_plugin_insn *);
+size_t qemu_plugin_insn_size(const struct qemu_plugin_insn *);
 const char *qemu_plugin_insn_symbol(const struct qemu_plugin_insn *);
 
 int qemu_plugin_version = 1;
@@ -34,9 +35,12 @@ struct function {
     uint64_t address, count;
 };
 
-/* Instructions that are executed one after the other: how many, whose, and the counted function that begins there. */
+/* Instructions that are executed one after the other: how many, the addresses of the first and the last, whether the
+ * first lies on two pages, whose they are, and the counted function that begins there. qemu ends a block before an
+ * instruction that lies on two pages, and yet has it as that block's last one too: there it is not executed. */
 struct block {
-    uint64_t instructions;
+    uint64_t instructions, first, last;
+    int two_pages;
     char owner[128];
     struct function *begins;
 };
@@ -44,12 +48,16 @@ struct block {
 static struct function functions[64];
 static size_t functions_held;
 static struct function *counted; /* the one that runs now */
+static struct block *before; /* the block that was executed last */
 static uint64_t executed, executed_before;
 static char caller[128], last[128];
 
 static void execute(unsigned cpu, void *held) {
     struct block *block = held;
     (void)cpu;
+    if (block->two_pages && before && before->last == block->first && before->instructions > 1)
+        executed--;
+    before = block;
     if (counted && strcmp(block->owner, caller) == 0) {
         counted->count += executed - executed_before;
         counted = NULL;
@@ -72,9 +80,12 @@ static void translate(plugin id, struct qemu_plugin_tb *tb) {
     if (!block)
         abort();
     block->instructions = qemu_plugin_tb_n_insns(tb);
+    block->first = qemu_plugin_insn_vaddr(first);
+    block->last = qemu_plugin_insn_vaddr(qemu_plugin_tb_get_insn(tb, block->instructions - 1));
+    block->two_pages = block->first / 4096 != (block->first + qemu_plugin_insn_size(first) - 1) / 4096;
     snprintf(block->owner, sizeof block->owner, "%s", owner ? owner : "");
     for (size_t i = 0; i < functions_held; i++)
-        if (functions[i].address == qemu_plugin_insn_vaddr(first))
+        if (functions[i].address == block->first)
             block->begins = &functions[i];
     qemu_plugin_register_vcpu_tb_exec_cb(tb, execute, 0, block);
 }

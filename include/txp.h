@@ -32,18 +32,18 @@ extern "C" {
 /* The version of this library's interface, and that of the files that it writes and reads. A change of the first number may break
  * a caller, a change of the second only adds. */
 #define TXP_VERSION_MAJOR 2
-#define TXP_VERSION_MINOR 0
+#define TXP_VERSION_MINOR 1
 #define TXP_FILE_VERSION 1
 
 /* Limits. */
-#define TXP_LEAST_N 2           /* N is 2 to 8 */
-#define TXP_MOST_N 8
+#define TXP_LEAST_N 2           /* N is 2 to 10 */
+#define TXP_MOST_N 10
 #define TXP_LIMIT 16777215      /* the largest magnitude of a coefficient */
 #define TXP_MOST_PLANES 24      /* P is 0 to 24 */
 #define TXP_HEADER_SIZE 12      /* bytes of a file before its body */
 #define TXP_NO_BUDGET 4294967295 /* a budget that cuts nothing: more bits than any body has */
 
-/* What to lend for an array of side 2^N, N from 2 to 8: numbers of entries. */
+/* What to lend for an array of side 2^N, N from 2 to 10: numbers of entries. */
 #define TXP_ENTRIES(n) ((size_t)1 << (2 * (n)))      /* I: coefficients, values, precisions, marks */
 #define TXP_DESC(n) ((size_t)1 << (2 * (n) - 2))     /* I/4 */
 #define TXP_GRAND(n) ((size_t)1 << (2 * (n) - 4))    /* I/16 */

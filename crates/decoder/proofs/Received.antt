@@ -11,7 +11,7 @@ use lib.Dec.{ltb, leb, eqb}
 use lib.IntN.{ℤ, pos}
 use lib.ListN.{length, getD, drop, drop-of-length-le, replicate}
 use lib.Seq.{drop-cons}
-use Rattle.sizes.specs.Sizes.{allOf, coarsestOf}
+use Rattle.sizes.specs.Sizes.{leastN, mostN, allOf, coarsestOf}
 use Rattle.sizes.specs.Tables.{table}
 use Rattle.bits.specs.Bits.{bitAt, bitsOf}
 use Rattle.bits.proofs.Laws.{bitsOf-length, bitsOf-at, bitsOf-suc}
@@ -240,9 +240,9 @@ module _ (N L P : ℕ) (most : P ≤ 24) (body : List ℕ) (usable : ℕ) where
   left = leftOf (scanOf (reader body usable (allOf N) (coarsestOf N L) P) (allOf N)) P (st (startMarks (allOf N) (coarsestOf N L)) (replicate (allOf N) (pos 0)) (replicate (allOf N) P) 0)
 
   -- THE DECODER'S SCAN IS THE VERDICT
-  pub reads : 2 ≤ N → N ≤ 8 → 4 ≤ coarsestOf N L → Matches (verdict N L P (bitsOf usable body)) E left
-  reads two eight wide =
-      go left E (scan-good K N Going keeps two eight P (st (startMarks I D) (replicate I (pos 0)) (replicate I P) 0) (record { held = first; codes = codes-first N D two wide; cap = omega arith }))
+  pub reads : leastN ≤ N → N ≤ mostN → 4 ≤ coarsestOf N L → Matches (verdict N L P (bitsOf usable body)) E left
+  reads two most wide =
+      go left E (scan-good K N Going keeps two most P (st (startMarks I D) (replicate I (pos 0)) (replicate I P) 0) (record { held = first; codes = codes-first N D two wide; cap = omega arith }))
     where
       go : (l : ℕ) (r : Ran (Sv Read)) → Ended K N Going l r → Matches (verdict N L P B) r l
       go l (out v) (dry s q o g e b c _ h) = used-up (out (sv (s .marks) o)) s l o g (settle-asks I s q e) (omega (arith, b, c)) refl refl (sym h)

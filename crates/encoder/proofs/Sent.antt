@@ -9,7 +9,7 @@ use native.Mathlib.Omega.{arith}
 use lib.IntN.{ℤ}
 use lib.ListN.{length, set, getD, take, drop, length-append}
 use lib.Seq.{take-all}
-use Rattle.sizes.specs.Sizes.{allOf, coarsestOf, Sized}
+use Rattle.sizes.specs.Sizes.{leastN, mostN, allOf, coarsestOf, Sized}
 use Rattle.bits.specs.Bits.{bit, bytesFor, packed, withBit}
 use Rattle.bits.proofs.Laws.{packed-nil, put-packed}
 use Rattle.coef.specs.Coef.{magAt, negative, IsPlanes}
@@ -167,9 +167,9 @@ module _ (N L P : ℕ) (A : List ℤ) (d g : List ℕ) (says : Says N L A d g) (
     E = planes (scanOf K I) P (st (startMarks I (coarsestOf N L)) held 0)
 
     -- THE ENCODER'S SCAN IS THE STREAM
-    pub sends : 2 ≤ N → N ≤ 8 → 4 ≤ coarsestOf N L → Put N L P A held sent (last E .rest .n) (last E .marks) (last E .rest .out)
-    sends two eight wide =
-        go (leftOf (scanOf K I) P (st (startMarks I (coarsestOf N L)) held 0)) E (scan-good K N Far keeps two eight P (st (startMarks I (coarsestOf N L)) held 0)
+    pub sends : leastN ≤ N → N ≤ mostN → 4 ≤ coarsestOf N L → Put N L P A held sent (last E .rest .n) (last E .marks) (last E .rest .out)
+    sends two most wide =
+        go (leftOf (scanOf K I) P (st (startMarks I (coarsestOf N L)) held 0)) E (scan-good K N Far keeps two most P (st (startMarks I (coarsestOf N L)) held 0)
         (record { held = first; codes = codes-first N (coarsestOf N L) two wide; cap = omega arith }))
       where
         go : (l : ℕ) (r : Ran (Sv Bytes)) → Ended K N Far l r → Put N L P A held sent (last r .rest .n) (last r .marks) (last r .rest .out)

@@ -4,7 +4,7 @@ use mathlib.Core.Path.{_≡_, refl, sym, ap, _∙_}
 use mathlib.Core.Bool.{Bool, true, false, cond, _&&_}
 use mathlib.Core.List.{List, [], _∷_, _++_, append-nil}
 use native.Mathlib.Omega.{arith}
-use native.Mathlib.Nat.{not-suc-le-zero, le-of-suc-le-suc}
+use native.Mathlib.Nat.{not-suc-le-zero, le-of-suc-le-suc, one-le-pow, pow-le-pow-right}
 use native.Mathlib.Numerals.{add-one}
 use borrow.Author.Tests.{lt-ltb, le-ltb, ltb-true, ltb-false, le-leb, lt-leb, leb-true, eq-eqb, ne-eqb, eqb-true}
 use lib.Dec.{ltb, leb, eqb, lit<, lit≤}
@@ -12,8 +12,8 @@ use lib.ListN.{length, replicate, take, drop, set, length-replicate}
 use lib.Seq.{drop-length, length-take-le}
 use Rattle.sizes.specs.Sizes.{mostN, allOf, sideFits}
 use Rattle.sizes.proofs.Laws.{both-left, both-right}
-use Rattle.nls.specs.Marks.{skip, setSkip, pushFrom, push, pushRoots, startMarks}
-use Rattle.marking.specs.Marking.{skipOf, setSkipOf, pushSix, newDesc, descSplitMarks, grandSplitMarks, inTable, startFits}
+use Rattle.nls.specs.Marks.{MN, skip, setSkip, pushFrom, push, pushRoots, startMarks}
+use Rattle.marking.specs.Marking.{codesEnd, skipOf, setSkipOf, pushMost, newDesc, descSplitMarks, grandSplitMarks, inTable, startFits}
 
 -- ---- fills
 
@@ -32,119 +32,61 @@ fill-done i l m v e h = e ∙ rw (h, drop-length l) (append-nil (replicate (leng
 
 -- ---- skips
 
-pub skip-5 : skipOf 5 ≡ 4
-unfolding skipOf skip
-skip-5 = refl
-
-pub skip-6 : skipOf 6 ≡ 16
-unfolding skipOf skip
-skip-6 = refl
-
-pub skip-7 : skipOf 7 ≡ 16
-unfolding skipOf skip
-skip-7 = refl
-
-pub skip-8 : skipOf 8 ≡ 64
-unfolding skipOf skip
-skip-8 = refl
-
-pub skip-9 : skipOf 9 ≡ 256
-unfolding skipOf skip
-skip-9 = refl
-
-pub skip-10 : skipOf 10 ≡ 1024
-unfolding skipOf skip
-skip-10 = refl
-
-pub skip-11 : skipOf 11 ≡ 4096
-unfolding skipOf skip
-skip-11 = refl
-
-pub skip-12 : skipOf 12 ≡ 16384
-unfolding skipOf skip
-skip-12 = refl
-
 pub skip-low : (k : ℕ) → k < 5 → skipOf k ≡ 1
 unfolding skipOf skip
-skip-low k h = rw (lt-ltb k 13 (omega arith), lt-ltb k 5 h, skip)
+skip-low k h = rw (lt-ltb k codesEnd (omega arith), lt-ltb k 5 h, skip)
 
-pub skip-high : (k : ℕ) → 13 ≤ k → skipOf k ≡ 1
+pub skip-high : (k : ℕ) → codesEnd ≤ k → skipOf k ≡ 1
 unfolding skipOf
-skip-high k h = rw (le-ltb k 13 h)
+skip-high k h = rw (le-ltb k codesEnd h)
 
 pub set-skip-low : (k : ℕ) → k < 5 → setSkipOf k ≡ 4
 unfolding setSkipOf setSkip
-set-skip-low k h = rw (lt-ltb k 13 (omega arith), lt-ltb k 5 h, setSkip)
+set-skip-low k h = rw (lt-ltb k codesEnd (omega arith), lt-ltb k 5 h, setSkip)
 
 pub set-skip-high : (k : ℕ) → 5 ≤ k → setSkipOf k ≡ skipOf k
 unfolding setSkipOf setSkip skipOf
 set-skip-high k h = rw (le-ltb k 5 h, setSkip)
 
--- where a code may stand
-pub data Code : ℕ → Type 0 where
-  low : (k : ℕ) → k < 5 → Code k
-  md : Code 5
-  mg : Code 6
-  mn2 : Code 7
-  mn3 : Code 8
-  mn4 : Code 9
-  mn5 : Code 10
-  mn6 : Code 11
-  mn7 : Code 12
-  high : (k : ℕ) → 13 ≤ k → Code k
+-- where codes are those of a scan the skips are the scan's
+pub skip-is : (k : ℕ) → k < codesEnd → skipOf k ≡ skip k
+unfolding skipOf
+skip-is k h = rw (lt-ltb k codesEnd h)
 
-pub code : (k : ℕ) → Code k
-code zero = low 0 (lit< tt)
-code (suc zero) = low 1 (lit< tt)
-code (suc (suc zero)) = low 2 (lit< tt)
-code (suc (suc (suc zero))) = low 3 (lit< tt)
-code (suc (suc (suc (suc zero)))) = low 4 (lit< tt)
-code (suc (suc (suc (suc (suc zero))))) = md
-code (suc (suc (suc (suc (suc (suc zero)))))) = mg
-code (suc (suc (suc (suc (suc (suc (suc zero))))))) = mn2
-code (suc (suc (suc (suc (suc (suc (suc (suc zero)))))))) = mn3
-code (suc (suc (suc (suc (suc (suc (suc (suc (suc zero))))))))) = mn4
-code (suc (suc (suc (suc (suc (suc (suc (suc (suc (suc zero)))))))))) = mn5
-code (suc (suc (suc (suc (suc (suc (suc (suc (suc (suc (suc zero))))))))))) = mn6
-code (suc (suc (suc (suc (suc (suc (suc (suc (suc (suc (suc (suc zero)))))))))))) = mn7
-code (suc (suc (suc (suc (suc (suc (suc (suc (suc (suc (suc (suc (suc k))))))))))))) = high (suc (suc (suc (suc (suc (suc (suc (suc (suc (suc (suc (suc (suc k))))))))))))) (omega arith)
+pub set-skip-is : (k : ℕ) → k < codesEnd → setSkipOf k ≡ setSkip k
+unfolding setSkipOf
+set-skip-is k h = rw (lt-ltb k codesEnd h)
 
--- every other code skips 1
-pub skip-else : (k : ℕ) → (k ≡ 5 → ⊥) → (k ≡ 6 → ⊥) → (k ≡ 7 → ⊥) → (k ≡ 8 → ⊥) → (k ≡ 9 → ⊥) → (k ≡ 10 → ⊥) → (k ≡ 11 → ⊥) → (k ≡ 12 → ⊥) → skipOf k ≡ 1
-skip-else k n5 n6 n7 n8 n9 n10 n11 n12 = go k (code k) n5 n6 n7 n8 n9 n10 n11 n12
+-- a code that is in none of the table's rows, from MD on one after the other, skips 1
+pub past : {a k : ℕ} → a ≤ k → (k ≡ a → ⊥) → a + 1 ≤ k
+past h n = omega arith
+
+pub skip-else : (k : ℕ) → (5 ≤ k → codesEnd ≤ k) → skipOf k ≡ 1
+skip-else k beyond = go (ltb k 5) refl
   where
-    go : (k : ℕ) → Code k → (k ≡ 5 → ⊥) → (k ≡ 6 → ⊥) → (k ≡ 7 → ⊥) → (k ≡ 8 → ⊥) → (k ≡ 9 → ⊥) → (k ≡ 10 → ⊥) → (k ≡ 11 → ⊥) → (k ≡ 12 → ⊥) → skipOf k ≡ 1
-    go k (low _ h) n5 n6 n7 n8 n9 n10 n11 n12 = skip-low k h
-    go k (high _ h) n5 n6 n7 n8 n9 n10 n11 n12 = skip-high k h
-    go _ md n5 n6 n7 n8 n9 n10 n11 n12 = absurd (n5 refl)
-    go _ mg n5 n6 n7 n8 n9 n10 n11 n12 = absurd (n6 refl)
-    go _ mn2 n5 n6 n7 n8 n9 n10 n11 n12 = absurd (n7 refl)
-    go _ mn3 n5 n6 n7 n8 n9 n10 n11 n12 = absurd (n8 refl)
-    go _ mn4 n5 n6 n7 n8 n9 n10 n11 n12 = absurd (n9 refl)
-    go _ mn5 n5 n6 n7 n8 n9 n10 n11 n12 = absurd (n10 refl)
-    go _ mn6 n5 n6 n7 n8 n9 n10 n11 n12 = absurd (n11 refl)
-    go _ mn7 n5 n6 n7 n8 n9 n10 n11 n12 = absurd (n12 refl)
+    go : (t : Bool) → ltb k 5 ≡ t → skipOf k ≡ 1
+    go true e = skip-low k (ltb-true k 5 e)
+    go false e = skip-high k (beyond (ltb-false k 5 e))
 
--- a skip is 1 to 16384
-pub skip-in : (k : ℕ) → (1 ≤ skipOf k) × (skipOf k ≤ 16384)
-skip-in k = go k (code k)
+-- a skip is from 1 to that of the last code
+pub skip-in : (k : ℕ) → (1 ≤ skipOf k) × (skipOf k ≤ allOf (mostN - 1))
+unfolding skip
+skip-in k = go (ltb k 5) refl (ltb k 7) refl (ltb k codesEnd) refl
   where
-    go : (k : ℕ) → Code k → (1 ≤ skipOf k) × (skipOf k ≤ 16384)
-    go k (low _ h) = rw (skip-low k h) (lit≤ tt, lit≤ tt)
-    go k (high _ h) = rw (skip-high k h) (lit≤ tt, lit≤ tt)
-    go _ md = rw skip-5 (lit≤ tt, lit≤ tt)
-    go _ mg = rw skip-6 (lit≤ tt, lit≤ tt)
-    go _ mn2 = rw skip-7 (lit≤ tt, lit≤ tt)
-    go _ mn3 = rw skip-8 (lit≤ tt, lit≤ tt)
-    go _ mn4 = rw skip-9 (lit≤ tt, lit≤ tt)
-    go _ mn5 = rw skip-10 (lit≤ tt, lit≤ tt)
-    go _ mn6 = rw skip-11 (lit≤ tt, lit≤ tt)
-    go _ mn7 = rw skip-12 (lit≤ tt, lit≤ tt)
+    go : (s : Bool) → ltb k 5 ≡ s → (t : Bool) → ltb k 7 ≡ t → (u : Bool) → ltb k codesEnd ≡ u → (1 ≤ skipOf k) × (skipOf k ≤ allOf (mostN - 1))
+    go true e t f u g = rw (skip-low k (ltb-true k 5 e)) (lit≤ tt, lit≤ tt)
+    go false e t f false g = rw (skip-high k (ltb-false k codesEnd g)) (lit≤ tt, lit≤ tt)
+    go false e true f true g =
+        rw (skip-is k (ltb-true k codesEnd g), e, f, skip)
+        (one-le-pow (k - 4) 4 (omega arith), pow-le-pow-right {n = 4} (omega arith) {i = k - 4} {j = mostN - 1} (omega (arith, ltb-true k 7 f)))
+    go false e false f true g =
+        rw (skip-is k (ltb-true k codesEnd g), e, f, skip)
+        (one-le-pow (k - 5) 4 (omega arith), pow-le-pow-right {n = 4} (omega arith) {i = k - 5} {j = mostN - 1} (omega (arith, ltb-true k codesEnd g)))
 
-pub set-skip-in : (k : ℕ) → (1 ≤ setSkipOf k) × (setSkipOf k ≤ 16384)
+pub set-skip-in : (k : ℕ) → (1 ≤ setSkipOf k) × (setSkipOf k ≤ allOf (mostN - 1))
 set-skip-in k = go (ltb k 5) refl
   where
-    go : (t : Bool) → ltb k 5 ≡ t → (1 ≤ setSkipOf k) × (setSkipOf k ≤ 16384)
+    go : (t : Bool) → ltb k 5 ≡ t → (1 ≤ setSkipOf k) × (setSkipOf k ≤ allOf (mostN - 1))
     go true e = rw (set-skip-low k (ltb-true k 5 e)) (lit≤ tt, lit≤ tt)
     go false e = rw (set-skip-high k (ltb-false k 5 e)) (skip-in k)
 
@@ -164,14 +106,17 @@ unfolding pushFrom
 push-end I j k m = refl
 
 -- a turn of the loop: what is left of the push is the same
-pub push-again : (I k j : ℕ) (m x : List ℕ) → pushFrom I (13 - k) j k m ≡ x → k < 13 → j < I → pushFrom I (13 - (k + 1)) (4 * j) (k + 1) (set m j k) ≡ x
-push-again I k j m x e hk h = let s : 13 - k ≡ suc (13 - (k + 1)) = omega arith in sym (push-step I (13 - (k + 1)) j k m h) ∙ rw (← s) e
+pub push-again : (I k j : ℕ) (m x : List ℕ) → pushFrom I (codesEnd - k) j k m ≡ x → k < codesEnd → j < I
+    → pushFrom I (codesEnd - (k + 1)) (4 * j) (k + 1) (set m j k) ≡ x
+push-again I k j m x e hk h =
+    let s : codesEnd - k ≡ suc (codesEnd - (k + 1)) = omega arith in
+    sym (push-step I (codesEnd - (k + 1)) j k m h) ∙ rw (← s) e
 
-pub push-done : (I k j : ℕ) (m x : List ℕ) → pushFrom I (13 - k) j k m ≡ x → 13 ≤ k → m ≡ x
-push-done I k j m x e hk = let s : 13 - k ≡ 0 = omega arith in sym (push-end I j k m) ∙ rw (← s) e
+pub push-done : (I k j : ℕ) (m x : List ℕ) → pushFrom I (codesEnd - k) j k m ≡ x → codesEnd ≤ k → m ≡ x
+push-done I k j m x e hk = let s : codesEnd - k ≡ 0 = omega arith in sym (push-end I j k m) ∙ rw (← s) e
 
-pub push-out : (I k j : ℕ) (m x : List ℕ) → pushFrom I (13 - k) j k m ≡ x → I ≤ j → m ≡ x
-push-out I k j m x e h = sym (push-past I (13 - k) j k m h) ∙ e
+pub push-out : (I k j : ℕ) (m x : List ℕ) → pushFrom I (codesEnd - k) j k m ≡ x → I ≤ j → m ≡ x
+push-out I k j m x e h = sym (push-past I (codesEnd - k) j k m h) ∙ e
 
 -- f steps from j on lead past I
 abbrev Far : ℕ → ℕ → ℕ → Type 0
@@ -190,19 +135,19 @@ push-enough I (suc f) (suc F) j k m a e g = go (ltb j I) refl (push-enough I f F
     go true q ih = push-step I f j k m (ltb-true j I q) ∙ ih ∙ sym (push-step I F j k m (ltb-true j I q))
     go false q ih = push-past I (suc f) j k m (ltb-false j I q) ∙ sym (push-past I (suc F) j k m (ltb-false j I q))
 
--- six steps are enough from place 4 on
-pub push-six : (I i : ℕ) (m : List ℕ) → I ≤ 65536 → 4 ≤ i → pushSix I i m ≡ push I i m
-push-six I i m h w = push-enough I 6 I (4 * i) 7 m (omega arith) (omega arith) (omega arith)
+-- from place 4 on each code once is enough
+pub push-most : (I i : ℕ) (m : List ℕ) → I ≤ allOf mostN → 4 ≤ i → pushMost I i m ≡ push I i m
+push-most I i m h w = push-enough I (codesEnd - MN 2) I (4 * i) (MN 2) m (omega arith) (omega arith) (omega arith)
 
 -- ---- the roots
 
-pub roots-again : (I d j : ℕ) (m x : List ℕ) → pushRoots I (d - j) (4 * j) m ≡ x → j < d → I ≤ 65536 → 1 ≤ j
+pub roots-again : (I d j : ℕ) (m x : List ℕ) → pushRoots I (d - j) (4 * j) m ≡ x → j < d → I ≤ allOf mostN → 1 ≤ j
     → pushRoots I (d - (j + 1)) (4 * (j + 1)) (newDesc I (4 * j) m) ≡ x
 unfolding pushRoots
 roots-again I d j m x e h w o =
     let s : d - j ≡ suc (d - (j + 1)) = omega arith in
     let t : 4 * (j + 1) ≡ 4 * j + 4 = omega arith in
-    rw (t, push-six I (4 * j) (set m (4 * j) 5) w (omega arith)) (rw s at e)
+    rw (t, push-most I (4 * j) (set m (4 * j) 5) w (omega arith)) (rw s at e)
 
 pub roots-done : (I d j : ℕ) (m x : List ℕ) → pushRoots I (d - j) (4 * j) m ≡ x → d ≤ j → m ≡ x
 unfolding pushRoots

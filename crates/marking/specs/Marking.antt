@@ -1,23 +1,28 @@
--- Marks as the code has them: skips, pushes and splits of a table of at most 4^8 marks (document 01, "Marks").
-use Prim.Native.Nat.{ℕ, _+_, _*_, _%_}
+-- Marks as the code has them: skips, pushes and splits of a table that is no larger than that of the largest N (document 01, "Marks").
+use Prim.Native.Nat.{ℕ, _+_, _-_, _*_, _%_}
 use mathlib.Core.{Bool.Bool, Bool.cond, Bool._&&_, List.List}
 use lib.{Dec.ltb, Dec.leb, Dec.eqb, ListN.set}
 use Rattle.sizes.specs.Sizes.{mostN, allOf}
 use Rattle.nls.specs.Marks.{MD, MN, skip, setSkip, pushFrom, splitDesc}
 
--- No code in a scan is above 12, since N is at most 8; a larger one skips 1.
+-- MNk is pushed to places of 4^k and more, so that k is below N, and codes end before that of the largest N (document 02, T-02:
+-- "Marks MN8 and MN9 take codes 13 and 14")
+abbrev pub codesEnd : ℕ
+codesEnd = MN mostN
+
+-- a code without a meaning skips 1
 unfoldable pub skipOf : ℕ → ℕ
-skipOf k = cond (ltb k 13) (skip k) 1
+skipOf k = cond (ltb k codesEnd) (skip k) 1
 
 unfoldable pub setSkipOf : ℕ → ℕ
-setSkipOf k = cond (ltb k 13) (setSkip k) 1
+setSkipOf k = cond (ltb k codesEnd) (setSkip k) 1
 
--- for the same reason a push writes at most six places
-abbrev pub pushSix : ℕ → ℕ → List ℕ → List ℕ
-pushSix I i m = pushFrom I 6 (4 * i) (MN 2) m
+-- a push writes each code once at most
+abbrev pub pushMost : ℕ → ℕ → List ℕ → List ℕ
+pushMost I i m = pushFrom I (codesEnd - MN 2) (4 * i) (MN 2) m
 
 abbrev pub newDesc : ℕ → ℕ → List ℕ → List ℕ
-newDesc I i m = pushSix I i (set m i MD)
+newDesc I i m = pushMost I i (set m i MD)
 
 abbrev pub grandSplitMarks : ℕ → ℕ → List ℕ → List ℕ
 grandSplitMarks I i m = newDesc I (i + 12) (newDesc I (i + 8) (newDesc I (i + 4) (newDesc I i m)))

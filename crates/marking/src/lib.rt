@@ -5,7 +5,7 @@ ghost use Prim.Native.Nat.{_+_, _*_, _%_, _<_, _≤_};
 ghost use lib.ListN.{length, replicate, set};
 ghost use Rattle.sizes.specs.Sizes.{mostN, allOf};
 ghost use Rattle.nls.specs.Marks.{startMarks};
-ghost use Rattle.marking.specs.Marking.{skipOf, setSkipOf, pushSix, newDesc, descSplitMarks, grandSplitMarks, inTable, startFits};
+ghost use Rattle.marking.specs.Marking.{skipOf, setSkipOf, pushMost, newDesc, descSplitMarks, grandSplitMarks, inTable, startFits};
 
 // The marks: none; a coefficient that is not found, one found in this plane, one found before, one whose set was just split;
 // a DESC, a GRAND; and MN2, the first of the marks that skip more.
@@ -25,6 +25,9 @@ pub const MG: u8 = 6;
 
 pub const MN2: u8 = 7;
 
+// Behind the last of them: MNk is k + 5, and k is below N.
+const CODES_END: u8 = sizes::MOST_N as u8 + 5;
+
 // How far a mark is skipped in the pixel and the refinement pass.
 pub fn skip(mark: u8) -> usize
     ensures { λ r. ⌜ r ≡ skipOf mark ⌝ }
@@ -41,6 +44,8 @@ pub fn skip(mark: u8) -> usize
         10 => 1024,
         11 => 4096,
         12 => 16384,
+        13 => 65536,
+        14 => 262144,
         _ => 1,
     }
 }
@@ -76,10 +81,10 @@ fn store(marks: &mut [u8], place: usize, code: u8)
 // The places 4i, 16i and so on get their marks, only while the place is below I.
 fn push(marks: &mut [u8], all: usize, place: usize)
     requires { ⌜ (length (now marks) ≡ all) × (all ≤ allOf mostN) × (place < 2 * allOf mostN) ⌝ }
-    ensures { λ _. ⌜ now (marks .exit) ≡ pushSix all place (now (marks .entry)) ⌝ }
+    ensures { λ _. ⌜ now (marks .exit) ≡ pushMost all place (now (marks .entry)) ⌝ }
 {
     let mut at = 4 * place;
-    for k in MN2..13 {
+    for k in MN2..CODES_END {
         if all <= at {
             break;
         }

@@ -1,9 +1,10 @@
 -- How a list of checks answers, and what a lent table holds for each answer.
 use mathlib.Core.Path.{_≡_, refl, sym, _∙_}
-use mathlib.Core.Bool.{Bool, true, false}
+use mathlib.Core.Bool.{Bool, true, false, cond}
 use mathlib.Core.List.{List, [], _∷_, _++_, map}
 use Prim.Native.Nat.{ℕ}
 use native.Mathlib.Omega.{arith}
+use lib.Dec.{eqb}
 use lib.ListN.{length, drop}
 use Rattle.refusals.specs.Refusals.{numberOf}
 use Rattle.refusals.specs.Checks.{Check, need, firstOf, lentAfter}
@@ -14,6 +15,10 @@ use Rattle.refusals.specs.declared.Outcome.the-variants.{Done, Refused}
 -- the numbers for no of some checks, in their order: `Orders` of each crate says them of its lists of checks
 abbrev pub numbersOf : List Check → List ℕ
 numbersOf checks = map (λ (c : Check). numberOf (c .otherwise)) checks
+
+-- the same checks, but that number 1 asks `fits`
+abbrev pub sideAsks : Bool → List Check → List Check
+sideAsks fits checks = map (λ (c : Check). need (cond (eqb (numberOf (c .otherwise)) 1) fits (c .holds)) (c .otherwise)) checks
 
 -- a check that holds leaves the answer to the others; one that fails is the answer
 pub first-holds : (t : Bool) (why : Refusal) (rest : List Check) → t ≡ true → firstOf (need t why ∷ rest) ≡ firstOf rest

@@ -1,8 +1,8 @@
 -- The checks of the calls, one way at a time; what they say where all hold; and the numbers that they compare.
-use mathlib.Core.Path.{_≡_, sym, ap, _∙_}
+use mathlib.Core.Path.{_≡_, refl, sym, ap, _∙_}
 use mathlib.Core.Bool.{true, false, _&&_}
 use mathlib.Core.List.{List, _++_}
-use Prim.Native.Nat.{ℕ, _+_, _*_, _/_, _%_, _-_, _≤_, _<_, min}
+use Prim.Native.Nat.{ℕ, _+_, _*_, _/_, _%_, _-_, _^_, _≤_, _<_, min}
 use native.Mathlib.Nat.{mul-le-mul}
 use native.Mathlib.Decide.{decLt}
 use native.Mathlib.Omega.{arith}
@@ -21,6 +21,7 @@ use Rattle.sizes.proofs.Laws.{both-left, both-right, sized, side-most, all-most
 use Rattle.bits.specs.Bits.{bytesFor}
 use Rattle.coef.specs.Coef.{firstOver, planesOf}
 use Rattle.nls.specs.Stream.{worstBody}
+use Rattle.nls.proofs.Worst.{worst-none, worst-some}
 use Rattle.room.specs.Ready.{EncodeReady}
 use Rattle.tree.specs.Summaries.{summaryChecks}
 use Rattle.room.specs.Room.{worstChecks, worstAnswer, mostBits, roomChecks, writeChecks, roomIn, readChecks}
@@ -165,3 +166,16 @@ module _ (N L P : ℕ) where
       let near = sizes-near N L all coarsest ea ec s l in
       let more : P + 1 ≤ mostPlanes + 1 = omega arith in
       (near .0, near .2, mul-le-mul (near .0) more)
+
+  -- no worst body is larger than that of the largest sizes
+  pub worst-most : sideFits N ≡ true → levelsFit N L ≡ true → P ≤ mostPlanes → worstBody N L P ≤ worstBody mostN (mostN - 1) mostPlanes
+  worst-most s l p = tell (decLt 0 P)
+    where
+      tell : Dec (0 < P) → worstBody N L P ≤ worstBody mostN (mostN - 1) mostPlanes
+      tell (yes h) =
+          omega (arith, worst-some N L P h, worst-some mostN (mostN - 1) mostPlanes (omega arith), parts-near (allOf N) (coarsestOf N L) refl refl s l p, coarsest-least N L (sized N L l))
+      tell (no h) = omega (arith, worst-none N L P (omega (arith, h)))
+
+-- and that one fits 32 bits
+pub worst-32 : worstBody mostN (mostN - 1) mostPlanes < 2 ^ 32
+worst-32 = omega (arith, worst-some mostN (mostN - 1) mostPlanes (omega arith))

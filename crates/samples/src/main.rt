@@ -1,8 +1,9 @@
-// Runs the samples of document 01 that are not among the proved ones, and prints what the calls answer.
+// Runs the samples of document 01 that are not among the proved ones, and the ends of N by document 02, and prints what the calls answer.
 use libc::STDOUT_FILENO;
 use refusals::Refusal;
 use txp::DecodeAnswer;
 use txp::EncodeAnswer;
+use txp::HeaderAnswer;
 
 fn say(text: &[u8]) {
     io::write_all(STDOUT_FILENO, text);
@@ -62,6 +63,19 @@ fn decode(n: u8, l: u8, p: u8) {
     say(b"\n");
 }
 
+// Reads the header of a file of these sizes.
+fn header(n: u8, l: u8) {
+    let file = [0x54u8, 0x58, 0x50, 0, 1, n, l, 1, 0, 0, 0, 0];
+    match txp::read_header(&file) {
+        HeaderAnswer::Done(h) => {
+            say(b" taken");
+            say_next(h.n);
+        }
+        HeaderAnswer::Refused(why) => say_refusal(why),
+    }
+    say(b"\n");
+}
+
 fn main() {
     say(b"P=0, one declared bit:");
     decode(2, 1, 0);
@@ -69,12 +83,18 @@ fn main() {
     decode(1, 1, 1);
     say(b"N=2:");
     decode(2, 1, 1);
+    say(b"N=10:");
+    header(10, 9);
+    say(b"N=11:");
+    header(11, 10);
     say(b"L=N-1:");
     decode(3, 2, 1);
     say(b"L=N:");
     decode(3, 3, 1);
     say(b"encoding N=1:");
     encode(1, 1, 0);
+    say(b"encoding N=11:");
+    encode(11, 1, 0);
     say(b"encoding L=N:");
     encode(2, 2, 0);
     say(b"16777215:");

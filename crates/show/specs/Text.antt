@@ -95,7 +95,8 @@ answerLines (decode.Refused why) values = refusedLine why ∷ []
 
 -- ---- what is shown
 
--- "A file over 16,384 bytes, or one of at least 12 bytes with right letters and version and N of 7 or 8": the largest N shown is 6
+-- "A file over 16,384 bytes, or one of at least 12 bytes with right letters and version and N of 7 or 8": the largest N shown is 6;
+-- document 02, T-02: "`txpshow` prints `too large` for N from 7 to 10", the largest N
 abbrev pub mostShown : ℕ
 mostShown = 16384
 

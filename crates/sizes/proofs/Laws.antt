@@ -4,7 +4,7 @@ use mathlib.Core.Bool.{Bool, true, false, _&&_, false≢true}
 use Prim.Native.Nat.{ℕ, zero, suc, _+_, _*_, _-_, _%_, _^_, _≤_}
 use native.Mathlib.Nat.{pow-succ', pow-le-pow-right, one-le-pow}
 use native.Mathlib.Omega.{arith}
-use borrow.Author.Tests.{leb-true, ltb-true}
+use borrow.Author.Tests.{leb-true, ltb-true, le-leb}
 use lib.Dec.{leb, ltb}
 use Rattle.sizes.specs.Sizes.{leastN, mostN, allOf, coarsestOf, sideFits, levelsFit, Sized}
 
@@ -28,6 +28,14 @@ side-least N e = leb-true leastN N (both-left (leb leastN N) (leb N mostN) e)
 pub side-most : (N : ℕ) → sideFits N ≡ true → N ≤ mostN
 unfolding sideFits
 side-most N e = leb-true N mostN (both-right (leb leastN N) (leb N mostN) e)
+
+-- N in range where the largest N is `most`; any two limits that admit N say the same.
+unfoldable pub sideFitsTo : ℕ → ℕ → Bool
+sideFitsTo most N = leb leastN N && leb N most
+
+pub side-same : (a b N : ℕ) → N ≤ a → N ≤ b → sideFitsTo a N ≡ sideFitsTo b N
+unfolding sideFitsTo
+side-same a b N h k = rw (le-leb N a h, le-leb N b k)
 
 -- L in range.
 pub sized : (N L : ℕ) → levelsFit N L ≡ true → Sized N L

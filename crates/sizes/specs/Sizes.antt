@@ -3,12 +3,12 @@ use mathlib.Core.Bool.{Bool, _&&_}
 use Prim.Native.Nat.{ℕ, _-_, _^_, _≤_, _<_}
 use lib.Dec.{leb, ltb}
 
--- "side: 2^N, N from 2 to 8"
+-- "side: 2^N, N from 2 to 8"; document 02, T-02: "N may now be up to 10"
 abbrev pub leastN : ℕ
 leastN = 2
 
 abbrev pub mostN : ℕ
-mostN = 8
+mostN = 10
 
 -- "I, all coefficients: 4^N"
 abbrev pub allOf : ℕ → ℕ

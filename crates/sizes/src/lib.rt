@@ -7,7 +7,7 @@ ghost use Rattle.sizes.specs.Sizes.{sideFits, levelsFit, allOf, coarsest
 // The least and the largest N.
 pub const LEAST_N: u32 = 2;
 
-pub const MOST_N: u32 = 8;
+pub const MOST_N: u32 = 10;
 
 // The largest magnitude of a coefficient.
 pub const LIMIT: u32 = 16777215;

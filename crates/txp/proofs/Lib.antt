@@ -6,3 +6,4 @@ pub mod Decided
 pub mod Demands
 pub mod Samples
 pub mod Orders
+pub mod Limits

@@ -3,20 +3,21 @@ use Prim.Native.Nat.{ℕ, zero, suc, _+_, _-_, _*_, _/_, _%_, _^_, _≤_, _<_}
 use mathlib.Core.Path.{_≡_, refl, sym, ap, subst, _∙_}
 use mathlib.Core.List.{List, [], _∷_, _++_}
 use mathlib.Core.Bool.{Bool, true, false, not, cond}
-use native.Mathlib.Nat.{pow-le-pow-right}
 use native.Mathlib.Omega.{arith}
 use lib.ListN.{length, set, getD}
 use lib.Seq.{set-getD}
 use lib.Dec.{ltb, eqb}
 use borrow.Author.Tests.{lt-ltb, le-ltb, ltb-true, ltb-false, eqb-true, eqb-false, eq-eqb, ne-eqb}
+use Rattle.sizes.specs.Sizes.{leastN, mostN, allOf}
+use Rattle.sizes.proofs.Laws.{all-most}
 use Rattle.nls.specs.Marks.{skip, setSkip, push, splitDesc, splitGrand}
 use Rattle.nls.specs.Scan.{Question, bitOf, signOf, inDesc, inGrand, Pass, pixels, sets, refining, State, stateAt, Look, over, silent, asks, look, tell}
 use Rattle.nls.proofs.Machine.Run.{skip-pos, sskip-pos}
 use Rattle.nls.proofs.Joined.Codes.{Codes, set-low, codes-desc, codes-grand, far}
 use Rattle.walk.specs.Scans.{Seen, halt, refuse, move}
-use Rattle.marking.specs.Marking.{skipOf, setSkipOf, newDesc, descSplitMarks, grandSplitMarks}
+use Rattle.marking.specs.Marking.{codesEnd, skipOf, setSkipOf, newDesc, descSplitMarks, grandSplitMarks}
 use Rattle.walk.specs.Visits.{Source, more, got, Sv, sv, oneSeen, testSeen, pixelsSeen, setsSeen, refiningSeen}
-use Rattle.marking.proofs.Laws.{push-six}
+use Rattle.marking.proofs.Laws.{skip-is, set-skip-is, push-most}
 
 abbrev pub state : ℕ → Pass → ℕ → Bool → List ℕ → State
 state l p i e m = record { left = l; pass = p; place = i; pending = e; marks = m }
@@ -69,38 +70,30 @@ Good K N P b p i n (halt v) = Stopped K (4 ^ N) P (suc b) v
 Good K N P b p i n (refuse v) = Barred K (4 ^ N) P (suc b) v
 Good K N P b p i n (move j v) = Moved K N P b p i n j v
 
--- the code's skips are the machine's where codes are below 13
-pub skip-is : (k : ℕ) → k < 13 → skipOf k ≡ skip k
-unfolding skipOf
-skip-is k h = rw (lt-ltb k 13 h)
-
-pub set-skip-is : (k : ℕ) → k < 13 → setSkipOf k ≡ setSkip k
-unfolding setSkipOf
-set-skip-is k h = rw (lt-ltb k 13 h)
-
-pub grand-is : (I i : ℕ) (m : List ℕ) → I ≤ 65536 → 4 ≤ i → grandSplitMarks I i m ≡ splitGrand I i m
+-- the code's split of a GRAND is the machine's
+pub grand-is : (I i : ℕ) (m : List ℕ) → I ≤ allOf mostN → 4 ≤ i → grandSplitMarks I i m ≡ splitGrand I i m
 grand-is I i m h w =
-    let e0 : newDesc I i m ≡ push I i (set m i 5) = push-six I i (set m i 5) h w in
+    let e0 : newDesc I i m ≡ push I i (set m i 5) = push-most I i (set m i 5) h w in
     let m1 : List ℕ = push I i (set m i 5) in
-    let e1 : newDesc I (i + 4) m1 ≡ push I (i + 4) (set m1 (i + 4) 5) = push-six I (i + 4) (set m1 (i + 4) 5) h (omega arith) in
+    let e1 : newDesc I (i + 4) m1 ≡ push I (i + 4) (set m1 (i + 4) 5) = push-most I (i + 4) (set m1 (i + 4) 5) h (omega arith) in
     let m2 : List ℕ = push I (i + 4) (set m1 (i + 4) 5) in
-    let e2 : newDesc I (i + 8) m2 ≡ push I (i + 8) (set m2 (i + 8) 5) = push-six I (i + 8) (set m2 (i + 8) 5) h (omega arith) in
+    let e2 : newDesc I (i + 8) m2 ≡ push I (i + 8) (set m2 (i + 8) 5) = push-most I (i + 8) (set m2 (i + 8) 5) h (omega arith) in
     let m3 : List ℕ = push I (i + 8) (set m2 (i + 8) 5) in
-    let e3 : newDesc I (i + 12) m3 ≡ push I (i + 12) (set m3 (i + 12) 5) = push-six I (i + 12) (set m3 (i + 12) 5) h (omega arith) in
+    let e3 : newDesc I (i + 12) m3 ≡ push I (i + 12) (set m3 (i + 12) 5) = push-most I (i + 12) (set m3 (i + 12) 5) h (omega arith) in
     ap (λ (x : List ℕ). newDesc I (i + 12) (newDesc I (i + 8) (newDesc I (i + 4) x))) e0
     ∙ ap (λ (x : List ℕ). newDesc I (i + 12) (newDesc I (i + 8) x)) e1
     ∙ ap (λ (x : List ℕ). newDesc I (i + 12) x) e2
     ∙ e3
 
-module _ {O : Type 0} (K : Source O) (N : ℕ) (P : State → O → Type 0) (w : Keeps K (4 ^ N) P) (two : 2 ≤ N) (eight : N ≤ 8) where
+module _ {O : Type 0} (K : Source O) (N : ℕ) (P : State → O → Type 0) (w : Keeps K (4 ^ N) P) (two : leastN ≤ N) (most : N ≤ mostN) where
   abbrev pub I : ℕ
   I = 4 ^ N
 
   abbrev pub G : ℕ → Pass → ℕ → ℕ → Seen (Sv O) → Type 0
   G b p i n s = Good K N P b p i n s
 
-  pub small : 4 ^ N ≤ 65536
-  small = pow-le-pow-right {n = 4} (omega arith) {i = N} {j = 8} eight
+  pub small : 4 ^ N ≤ allOf mostN
+  small = all-most N most
 
   -- one more bit
   step : (b : ℕ) (p : Pass) (i j : ℕ) (q : Question) (m : List ℕ) (o : O) → P (stateAt (suc b) p j m) (got K p b q o) → Codes N m → K .used o < K .budget → i ≤ j
@@ -212,8 +205,8 @@ module _ {O : Type 0} (K : Source O) (N : ℕ) (P : State → O → Type 0) (w :
     abbrev pub k : ℕ
     k = getD m i 0
 
-    coded : k < 13
-    coded = omega (arith, v .top i, eight)
+    coded : k < codesEnd
+    coded = omega (arith, v .top i, most)
 
     set-same : k ≡ 1 → set m i 1 ≡ m
     set-same e = ap (λ (x : ℕ). set m i x) (sym e) ∙ set-getD m i 0

@@ -7,6 +7,7 @@ use native.Mathlib.Omega.{arith}
 use lib.ListN.{getD}
 use lib.Dec.{ltb, eqb}
 use borrow.Author.Tests.{le-ltb, ltb-true, ltb-false, ne-eqb}
+use Rattle.sizes.specs.Sizes.{leastN, mostN}
 use Rattle.nls.specs.Scan.{Pass, pixels, sets, refining, State, stateAt}
 use Rattle.nls.proofs.Joined.Codes.{Codes}
 use Rattle.walk.specs.Scans.{Seen, halt, refuse, move, Scan, Ran, out, bad, on, then, follow, places, passes, planes, leftOf}
@@ -43,7 +44,7 @@ module _ {O : Type 0} (K : Source O) (N : ℕ) (P : State → O → Type 0) wher
   Ended l (bad v) = Barred K (4 ^ N) P l v
   Ended l (on v) = (l ≡ 0) × Here 0 pixels 0 v
 
-module _ {O : Type 0} (K : Source O) (N : ℕ) (P : State → O → Type 0) (w : Keeps K (4 ^ N) P) (two : 2 ≤ N) (eight : N ≤ 8) where
+module _ {O : Type 0} (K : Source O) (N : ℕ) (P : State → O → Type 0) (w : Keeps K (4 ^ N) P) (two : leastN ≤ N) (most : N ≤ mostN) where
   abbrev I : ℕ
   I = 4 ^ N
 
@@ -52,12 +53,12 @@ module _ {O : Type 0} (K : Source O) (N : ℕ) (P : State → O → Type 0) (w :
 
   visit-good : (b pass i : ℕ) (v : Sv O) → Here K N P (suc b) (passOf pass) i v → i < I → Good K N P b (passOf pass) i (K .used (v .rest)) (visitSeen K I b pass i v)
   unfolding visitSeen
-  visit-good b zero i v h l = pixels-good K N P w two eight b i (v .marks) (v .rest) (h .codes) l (h .cap) (h .held)
-  visit-good b (suc zero) i v h l = sets-good K N P w two eight b i (v .marks) (v .rest) (h .codes) l (h .cap) (h .held)
+  visit-good b zero i v h l = pixels-good K N P w two most b i (v .marks) (v .rest) (h .codes) l (h .cap) (h .held)
+  visit-good b (suc zero) i v h l = sets-good K N P w two most b i (v .marks) (v .rest) (h .codes) l (h .cap) (h .held)
   visit-good b (suc (suc n)) i v h l =
       let z0 : eqb (suc (suc n)) 0 ≡ false = ne-eqb (suc (suc n)) 0 (λ e. absurd (omega (arith, e))) in
       let z1 : eqb (suc (suc n)) 1 ≡ false = ne-eqb (suc (suc n)) 1 (λ e. absurd (omega (arith, e))) in
-      rw (z0, z1) (refining-good K N P w two eight b i (v .marks) (v .rest) (h .codes) l (h .cap) (h .held))
+      rw (z0, z1) (refining-good K N P w two most b i (v .marks) (v .rest) (h .codes) l (h .cap) (h .held))
 
   places-good : (f b pass i : ℕ) (v : Sv O) → Here K N P (suc b) (passOf pass) i v → (I - i) + (K .budget - K .used (v .rest)) ≤ f
       → PlacesGood K N P b pass (places E b pass f i v)

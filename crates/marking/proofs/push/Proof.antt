@@ -3,8 +3,9 @@ use mathlib.Core.Path.{_≡_, refl}
 use lib.ListN.{length, length-set}
 use native.Mathlib.Omega.{arith}
 use borrow.Author.Needs.{needs}
+use Rattle.sizes.specs.Sizes.{mostN, allOf}
 use Rattle.nls.specs.Marks.{pushFrom}
-use Rattle.marking.specs.Marking.{pushSix}
+use Rattle.marking.specs.Marking.{codesEnd, pushMost}
 use Rattle.marking.proofs.Laws.{push-again, push-done, push-out}
 use Rattle.marking.proofs.push.Statement.{statement}
 use Rattle.marking.proofs.push.Tie as tie
@@ -12,10 +13,10 @@ use Rattle.marking.proofs.push.Reads as reads
 use Rattle.marking.proofs.push.Lts as lts
 
 abbrev Inv-loop : tie.InvT-loop
-Inv-loop marks₀ all place at₀ k₀ marks at k = (7 ≤ k) × (k ≤ 13) × (length marks ≡ length marks₀) × (at < 524288) × (pushFrom all (13 - k) at k marks ≡ pushSix all place marks₀)
+Inv-loop marks₀ all place at₀ k₀ marks at k = (7 ≤ k) × (k ≤ codesEnd) × (length marks ≡ length marks₀) × (at < 8 * allOf mostN) × (pushFrom all (codesEnd - k) at k marks ≡ pushMost all place marks₀)
 
 abbrev μ-loop : tie.MeasureT-loop
-μ-loop marks₀ all place at₀ k₀ marks at k = 13 - k
+μ-loop marks₀ all place at₀ k₀ marks at k = codesEnd - k
 
 mul-at : tie.Need-mul-at Inv-loop μ-loop
 mul-at c = search needs
