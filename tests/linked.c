@@ -8,9 +8,9 @@
 
 #include "txp.h"
 
-enum { PAST = 64 };                                              /* entries behind a lent buffer that are compared, and before it */
-enum { LENT = 1048576 + 64 };                                    /* the most that is lent: more than N = 10 needs */
-enum { NUMBERS = 4, ANSWER = 16, MOST = LENT + PAST };           /* the most that a list has */
+enum { PAST = 64 };                                    /* entries behind a lent buffer that are compared, and before it */
+enum { LENT = 1048576 + 64 };                          /* the most that is lent: a little more than N = 10 needs */
+enum { NUMBERS = 4, ANSWER = 16, MOST = LENT + PAST }; /* the most that a list has */
 enum { DESC, GRAND, MARKS, BYTES, VALUES, TABLES };
 static const size_t width[TABLES] = {4, 4, 1, 1, 4};
 

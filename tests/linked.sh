@@ -14,4 +14,4 @@ for dir in "${dirs[@]}"; do
     diff "$dir/stdout" target/linked.out | head -20
     cmp "$dir/stdout" target/linked.out
 done
-cat "${dirs[@]/%//stdout}" | awk '$2 == "agree" || $3 == "agree" { cases += $2; agree += $4 } END { print "cases " cases " agree " agree ", the others as they must" }'
+awk '$2 == "agree" || $3 == "agree" { cases += $2; agree += $4 } END { print "cases " cases " agree " agree ", the others as they must" }' "${dirs[@]/%//stdout}"

@@ -93,11 +93,11 @@ class Shape:
     """The trees of one N and L. A set is split into parts: a DESC into the
     children and a GRAND, a GRAND into the children's DESC. parts[key] is how
     many parts a set has that are not empty, and 1 for a coefficient; the key
-    EVERYTHING stands for the parts with which the scan starts."""
+    everything stands for the parts with which the scan starts."""
 
     def __init__(self, N, L):
         self.I, self.D = 4 ** N, 4 ** (N - L)
-        self.EVERYTHING = 3 * self.I
+        self.everything = 3 * self.I
         self.parts = [4] * self.I + [4] * self.I + [1] * self.I
         for i in range(self.D // 4, self.I // 16):
             self.parts[self.key(DESC, i)] = 5
@@ -128,7 +128,7 @@ class Shape:
         if kind == GRAND:
             return self.key(DESC, i)
         if i < self.D:
-            return self.EVERYTHING
+            return self.everything
         return self.key(GRAND if kind == DESC else DESC, i // 4)
 
     def has_grand(self, i):
@@ -345,7 +345,7 @@ class Greatest:
             while not self.left[key]:
                 if key in self.owed:
                     possible = False
-                if key == self.shape.EVERYTHING:
+                if key == self.shape.everything:
                     return possible and self.b < self.P - 1
                 key = self.shape.whole(key)
                 self.left[key] -= 1

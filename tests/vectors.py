@@ -979,6 +979,11 @@ def damaged_cases(cases):
             yield 'damaged: ' + what, wrong
 
 
+# Lines whose lists repeat what stands before, as few others do: worst bodies
+# that agree, and that differ.
+AGREE = 'W 3 2 1 ~1 16 0*7 35 0 ~1*7', 'W 3 2 1 ~2 16 0*7 51 ~8*7 0'
+DIFFER = 'W 3 2 1 ~1 16 0*7 51 0 ~1*7', 'W 3 2 1 ~2 16 0*7 51 ~8*8'
+
 # Lines that are no case.
 MALFORMED = (
     '', ' ', 'Y', 'e 3 2 1 3', 'WW 3 2 1 3', 'W3 2 1 3', 'W  3 2 1 3',
@@ -1066,8 +1071,10 @@ def write(directory, seed):
     wrong += remarked(damaged_wide(STORED_N), True)
     if max(map(len, good + wrong)) > STORED_LINE:
         raise SystemExit('a line is too long for the program `second`')
-    print(write_cases('', good, wrong, [text + '\n' for text in MALFORMED]),
-          end='')
+    good, wrong, malformed = (
+        lines + [text + '\n' for text in more] for lines, more
+        in ((good, AGREE), (wrong, DIFFER), ([], MALFORMED)))
+    print(write_cases('', good, wrong, malformed), end='')
     print('large')
     print(write_cases('large', remarked(large_cases(seed), False),
                       remarked(damaged_wide(second.N_LIMIT), False), []),
