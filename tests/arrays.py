@@ -38,6 +38,47 @@ def random_array(rng, N, P, style):
     return [-m if rng.getrandbits(1) else m for m in size]
 
 
+def scattered(rng, N, P):
+    """A linear array of exactly P planes with a few coefficients in each
+    generation and in the last place, and none below the first roots: some sets
+    are split to the end, and some never."""
+    A = [0] * 4 ** N
+    for generation in range(N):
+        for _ in range(3):
+            place = rng.randrange(2 * 4 ** generation, 4 ** (generation + 1))
+            A[place] = signed(rng, rng.getrandbits(P))
+    A[-1] = signed(rng, 1 << P - 1 | rng.getrandbits(P))
+    return A
+
+
+def tiled(rng, N, P):
+    """A linear array of exactly P planes without a 0 that is short to write:
+    the same 64 coefficients over and over, with a few others between."""
+    top = 2 ** P - 1
+    tile = [signed(rng, rng.randint(1, top)) for _ in range(64)]
+    A = tile * (4 ** N // 64)
+    for _ in range(6):
+        A[rng.randrange(4 ** N)] = signed(rng, rng.randint(1, top))
+    A[rng.randrange(4 ** N)] = signed(rng, top)
+    return A
+
+
+def stretched(rng, N, P):
+    """A linear array of exactly P planes without a 0 that is short to write:
+    equal coefficients in a row, ever more of them, and smaller by a bit from
+    each generation to the next."""
+    A = [signed(rng, 1 << P - 1)]
+    while len(A) < 4 ** N:
+        size = rng.getrandbits(P) >> len(A).bit_length() // 2 | 1
+        A += [signed(rng, size)] * rng.randint(1, 1 + len(A) // 64)
+    return A[:4 ** N]
+
+
+def signed(rng, size):
+    """A magnitude with either sign."""
+    return -size if rng.getrandbits(1) else size
+
+
 def is_below(i, root):
     """Is i a descendant of the root?"""
     while i > root:

@@ -8,8 +8,9 @@
 
 #include "txp.h"
 
-enum { PAST = 64 };                                          /* entries behind a lent buffer that are compared, and before it */
-enum { NUMBERS = 4, ANSWER = 16, MOST = 65600, LENT = 65536 }; /* the most that a list has; the most that is lent */
+enum { PAST = 64 };                                              /* entries behind a lent buffer that are compared, and before it */
+enum { LENT = 1048576 + 64 };                                    /* the most that is lent: more than N = 10 needs */
+enum { NUMBERS = 4, ANSWER = 16, MOST = LENT + PAST };           /* the most that a list has */
 enum { DESC, GRAND, MARKS, BYTES, VALUES, TABLES };
 static const size_t width[TABLES] = {4, 4, 1, 1, 4};
 
@@ -43,7 +44,8 @@ static const char *decimal(const char *at, uint32_t *x)
     return at == from ? NULL : at;
 }
 
-/* A length and the items, NUMBER or NUMBER*COUNT; at the end of the line the list is empty. The place behind it, NULL where it is none. */
+/* A length and the items: NUMBER, or ~BACK for the number BACK places before, and *COUNT behind it for COUNT of them. At the end of
+ * the line the list is empty. The place behind it, NULL where it is none. */
 static const char *read(const char *at, list *l, size_t most)
 {
     uint32_t count = 0, x, times;
@@ -59,9 +61,9 @@ static const char *read(const char *at, list *l, size_t most)
         if (*at != ' ') {
             return NULL;
         }
-        bool negative = at[1] == '-';
-        at = decimal(at + 1 + negative, &x);
-        if (at == NULL || (negative && (x == 0 || x > UINT32_C(1) << 31))) {
+        bool negative = at[1] == '-', again = at[1] == '~';
+        at = decimal(at + 1 + (negative || again), &x);
+        if (at == NULL || (negative && (x == 0 || x > UINT32_C(1) << 31)) || (again && (x == 0 || x > l->count))) {
             return NULL;
         }
         times = 1;
@@ -71,8 +73,8 @@ static const char *read(const char *at, list *l, size_t most)
         if (at == NULL || times == 0 || times > count - l->count) {
             return NULL;
         }
-        while (times-- > 0) {
-            l->items[l->count++] = negative ? UINT32_MAX - x + 1 : x;
+        for (; times > 0; times--, l->count++) {
+            l->items[l->count] = again ? l->items[l->count - x] : negative ? UINT32_MAX - x + 1 : x;
         }
     }
     return at;

@@ -1,5 +1,6 @@
 #!/usr/bin/env python3
-"""A second coder for the texture stream of document 01 (docs/01-scope.md).
+"""A second coder for the texture stream of document 01 (docs/01-scope.md), with
+the sizes of document 02's request T-02.
 
 It reaches the answers of document 01 by other means than the scan with marks,
 so that a coder written from the marks can be compared with it.
@@ -11,8 +12,8 @@ so that a coder written from the marks can be compared with it.
   allow still fits them.
 - The table of marks after any number of bits is read off the parts that stand.
 
-Sentences in quotation marks are those of document 01.  Bits and places count
-from 0.
+Sentences in quotation marks are those of document 01, or of document 02 where
+that is said.  Bits and places count from 0.
 
     python3 tests/second.py selftest [full]
     python3 tests/second.py show FILE
@@ -26,10 +27,12 @@ from functools import lru_cache, reduce
 from heapq import heapify, heappop, heappush
 from operator import or_
 
+N_LIMIT = 10                    # document 02: "N may now be up to 10"
 COEFFICIENT_LIMIT = 16_777_215
 PLANE_LIMIT = 24
 HEADER_BYTES = 12
 SHOW_BYTES = 16_384
+SHOW_N = 6
 
 # Kinds of question, in the order in which they are asked at one place.
 GRAND, DESC, PIXEL = 0, 1, 2
@@ -40,7 +43,8 @@ NONE, MIP, MNP, MSP, MCP, MD, MG = range(7)
 
 
 def MN(k):
-    """The code of a mark MNk: "MNk is k+5, for k from 2 to 7"."""
+    """The code of a mark MNk: "MNk is k+5, for k from 2 to 7"; document 02:
+    "Marks MN8 and MN9 take codes 13 and 14"."""
     return k + 5
 
 
@@ -63,8 +67,11 @@ def linear_place(N, raster):
 
 @lru_cache(maxsize=None)
 def linear_places(N):
-    """The linear place of each raster place."""
-    return [linear_place(N, raster) for raster in range(4 ** N)]
+    """The linear place of each raster place: the bits of its row, and those of
+    its column."""
+    columns = [linear_place(N, column) for column in range(2 ** N)]
+    rows = [linear_place(N, row * 2 ** N) for row in range(2 ** N)]
+    return [row | column for row in rows for column in columns]
 
 
 def to_linear(N, raster):
@@ -83,23 +90,26 @@ def to_raster(N, linear):
 # Trees.
 
 class Shape:
-    """The trees of one N and L: members[kind][i] are the coefficients that a
-    question of this kind about i is about; holders[m] are the keys of all sets
-    with the member m."""
+    """The trees of one N and L. A set is split into parts: a DESC into the
+    children and a GRAND, a GRAND into the children's DESC. parts[key] is how
+    many parts a set has that are not empty, and 1 for a coefficient; the key
+    EVERYTHING stands for the parts with which the scan starts."""
 
     def __init__(self, N, L):
         self.I, self.D = 4 ** N, 4 ** (N - L)
-        desc = [[] for _ in range(self.I)]
-        for i in reversed(range(self.D // 4, self.I // 4)):
-            children = self.children(i)
-            desc[i] = children + [m for c in children for m in desc[c]]
-        grand = [desc[i][4:] for i in range(self.I // 16)]
-        self.members = (grand, desc[:self.I // 4], [[i] for i in range(self.I)])
-        self.holders = [[] for _ in range(self.I)]
-        for kind, sets in enumerate(self.members):
-            for i, members in enumerate(sets):
-                for m in members:
-                    self.holders[m].append(self.key(kind, i))
+        self.EVERYTHING = 3 * self.I
+        self.parts = [4] * self.I + [4] * self.I + [1] * self.I
+        for i in range(self.D // 4, self.I // 16):
+            self.parts[self.key(DESC, i)] = 5
+        self.parts.append(self.D + self.D - self.D // 4)
+
+    def members(self, kind, i):
+        """The coefficients that a question is about."""
+        if kind == PIXEL:
+            return [i]
+        children = self.children(i)
+        below = [m for c in children for m in self.members(DESC, c)]
+        return below if kind == GRAND else children + below
 
     def children(self, i):
         """The rule: "Children of place i are 4i to 4i+3, for i from D/4 to
@@ -111,6 +121,15 @@ class Shape:
     def key(self, kind, i):
         """One number for each set."""
         return kind * self.I + i
+
+    def whole(self, key):
+        """The key of the set that was split into this part and others."""
+        kind, i = divmod(key, self.I)
+        if kind == GRAND:
+            return self.key(DESC, i)
+        if i < self.D:
+            return self.EVERYTHING
+        return self.key(GRAND if kind == DESC else DESC, i // 4)
 
     def has_grand(self, i):
         """GRAND(i) "is empty when i is I/16 or more"."""
@@ -127,13 +146,21 @@ def summaries(N, L, A):
     """The tables of DESC and GRAND: "The summaries are the bitwise OR of
     magnitudes over DESC(i) and GRAND(i): I/4 and I/16 numbers. Entries below
     D/4 hold 0"."""
-    grand, desc, _ = shape_of(N, L).members
-    size = [abs(a) for a in A]
+    I, D = 4 ** N, 4 ** (N - L)
+    desc = fours(list(map(abs, A)))
+    desc[:D // 4] = [0] * (D // 4)
+    grand = [0] * (I // 16)
+    # a set's children come after it
+    for i in reversed(range(D // 4, I // 16)):
+        grand[i] = reduce(or_, desc[4 * i:4 * i + 4])
+        desc[i] |= grand[i]
+    return desc, grand
 
-    def table(sets):
-        return [reduce(or_, map(size.__getitem__, members), 0)
-                for members in sets]
-    return table(desc), table(grand)
+
+def fours(numbers):
+    """The OR of each four numbers."""
+    each = iter(numbers)
+    return [a | b | c | d for a, b, c, d in zip(each, each, each, each)]
 
 
 def plane_count(A):
@@ -159,16 +186,23 @@ def plane_bits(shape, A, size, desc, grand, b):
         if size[i] >= now:
             bits.append(int(A[i] < 0))
 
-    # "Pixel pass": the coefficients that stood alone and were not found.
-    for i in range(I):
-        if size[i] < before and (i < D or desc[i // 4] >= before):
+    # The coefficients that stood alone before the plane.
+    alone = list(range(D)) + [c for i in range(D // 4, I // 4)
+                              if desc[i] >= before for c in shape.children(i)]
+
+    # "Pixel pass": those that were not found.
+    for i in alone:
+        if size[i] < before:
             test(i)
 
     # "Set pass": the sets that stood before the plane, and what stands once a
     # set is split in it, each at its own place.
     asked = []
-    for i in range(D // 4, I // 4):
-        if desc[i] < before and (i < D or grand[i // 4] >= now):
+    sets = list(range(D // 4, D)) + [c for i in range(D // 4, I // 16)
+                                     if grand[i] >= now
+                                     for c in shape.children(i)]
+    for i in sets:
+        if desc[i] < before:
             asked.append((STEP[DESC] * i, DESC, i))
             if desc[i] >= now:
                 asked += [(c, PIXEL, c) for c in shape.children(i)]
@@ -181,24 +215,38 @@ def plane_bits(shape, A, size, desc, grand, b):
         else:
             bits.append(int((desc if kind == DESC else grand)[i] >= now))
 
-    # "Refinement pass": the coefficients found in an earlier plane.
-    bits += [size[i] >> b & 1 for i in range(I) if size[i] >= before]
+    # "Refinement pass": those found in an earlier plane.
+    bits += [size[i] >> b & 1 for i in alone if size[i] >= before]
     return bits
+
+
+def planes(N, L, A, desc, grand):
+    """The bits of one plane after the other, P-1 first."""
+    size = [abs(a) for a in A]
+    for b in reversed(range(plane_count(A))):
+        yield plane_bits(shape_of(N, L), A, size, desc, grand, b)
 
 
 def stream_by_plane(N, L, A):
     """The whole stream, one list of bits for each plane, P-1 first."""
-    size = [abs(a) for a in A]
-    desc, grand = summaries(N, L, A)
-    return [plane_bits(shape_of(N, L), A, size, desc, grand, b)
-            for b in reversed(range(plane_count(A)))]
+    return list(planes(N, L, A, *summaries(N, L, A)))
+
+
+def first_bits(stream, budget):
+    """The bits written: "The number of bits written is the smaller of the
+    budget and the whole stream's length." The stream comes plane by plane."""
+    bits = []
+    for plane in stream:
+        bits += plane
+        if len(bits) >= budget:
+            break
+    return bits[:budget]
 
 
 def encode(N, L, A, budget):
-    """P and the bits written: "The number of bits written is the smaller of
-    the budget and the whole stream's length." A is in linear order."""
-    stream = [bit for plane in stream_by_plane(N, L, A) for bit in plane]
-    return plane_count(A), stream[:budget]
+    """P and the bits written. A is in linear order."""
+    stream = planes(N, L, A, *summaries(N, L, A))
+    return plane_count(A), first_bits(stream, budget)
 
 
 def worst_body(N, L, P):
@@ -230,10 +278,11 @@ def encode_file(N, L, A, budget, lent=None):
             return Refused(4, place)
     if lent and (lent[0] < I // 4 or lent[1] < I // 16 or lent[2] < I):
         return Refused(5, 0)
-    if lent and lent[3] < output_bytes(N, L, plane_count(A), budget):
+    P = plane_count(A)
+    if lent and lent[3] < output_bytes(N, L, P, budget):
         return Refused(6, 0)
-    P, bits = encode(N, L, A, budget)
     desc, grand = summaries(N, L, A)
+    bits = first_bits(planes(N, L, A, desc, grand), budget)
     return Encoded(P, bits, write_file(N, L, P, len(bits), bits), desc, grand,
                    marks_after(N, L, P, bits))
 
@@ -262,39 +311,54 @@ class Greatest:
     exactly if each question answered 1 still has a member with bit b and, in
     plane P-1, some coefficient still has that bit. A ceiling other than the
     default narrows the arrays to those whose bits all lie in it.
+
+    A set has a member with bit b exactly if one of its parts has, so the parts
+    that have one are counted. What is answered 0 in a plane is asked no more
+    in it, nor are its parts.
     """
 
     def __init__(self, shape, P, ceiling=None):
-        self.shape, self.P = shape, P
-        self.array = list(ceiling or [2 ** P - 1] * shape.I)
+        self.shape, self.P, self.ceiling = shape, P, ceiling
+        self.zeros = []
+
+    def array(self):
+        """The array itself."""
+        array = list(self.ceiling or [2 ** self.P - 1] * self.shape.I)
+        for b, kind, i in self.zeros:
+            for m in self.shape.members(kind, i):
+                array[m] &= ~(1 << b)
+        return array
 
     def start(self, b):
-        """Plane b begins: count the members with bit b of each set."""
+        """Plane b begins."""
         self.b, self.owed = b, set()
-        self.count = [0] * (3 * self.shape.I)
-        self.total = 0
-        for a, holders in zip(self.array, self.shape.holders):
-            if a >> b & 1:
-                self.total += 1
-                for key in holders:
-                    self.count[key] += 1
+        self.left = list(self.shape.parts)
+        for m, a in enumerate(self.ceiling or ()):
+            if not a >> b & 1:
+                self.clear(self.shape.key(PIXEL, m))
+
+    def clear(self, key):
+        """A part has no member with bit b. Does an array still fit?"""
+        possible = True
+        if self.left[key]:
+            self.left[key] = 0
+            while not self.left[key]:
+                if key in self.owed:
+                    possible = False
+                if key == self.shape.EVERYTHING:
+                    return possible and self.b < self.P - 1
+                key = self.shape.whole(key)
+                self.left[key] -= 1
+        return possible
 
     def fits(self, kind, i, bit):
         """Take the answer to a question. Does an array still fit?"""
         key = self.shape.key(kind, i)
         if bit:
             self.owed.add(key)
-            return self.count[key] > 0
-        possible = True
-        for m in self.shape.members[kind][i]:
-            if self.array[m] >> self.b & 1:
-                self.array[m] ^= 1 << self.b
-                self.total -= 1
-                for holder in self.shape.holders[m]:
-                    self.count[holder] -= 1
-                    if self.count[holder] == 0 and holder in self.owed:
-                        possible = False
-        return possible and (self.total > 0 or self.b < self.P - 1)
+            return self.left[key] > 0
+        self.zeros.append((self.b, kind, i))
+        return self.clear(key)
 
 
 class Decoder:
@@ -403,20 +467,26 @@ class Decoder:
         """The number of the last finished plane, or P if none."""
         return self.P - self.finished
 
-    def precision(self, i):
-        """A coefficient's precision k: "b if its own bit of the plane b in
+    def precisions(self):
+        """Each coefficient's precision k: "b if its own bit of the plane b in
         progress was read (with its sign, where one follows); else the number
         of the last finished plane, or P if none"."""
-        return self.b if i in self.read else self.last_plane()
+        precisions = [self.last_plane()] * self.shape.I
+        for i in self.read:
+            precisions[i] = self.b
+        return precisions
 
-    def value(self, i):
-        """The value from the bits k and above of the magnitude: "Known bits m:
-        if m is 0 the value is 0, else m + 2^(k-1) with its sign; for k = 0 it
-        is m"."""
-        k = self.precision(i)
-        m = self.known[i] >> k << k
-        size = m + (1 << k >> 1) if m else 0
-        return -size if self.negative[i] else size
+    def values(self):
+        """Each value from the bits k and above of the magnitude: "Known bits
+        m: if m is 0 the value is 0, else m + 2^(k-1) with its sign; for k = 0
+        it is m". Where no coefficient was found nothing is known."""
+        values, precisions = [0] * self.shape.I, self.precisions()
+        for i in self.found:
+            k = precisions[i]
+            m = self.known[i] >> k << k
+            size = m + (1 << k >> 1) if m else 0
+            values[i] = -size if self.negative[i] else size
+        return values
 
     def marks(self):
         """The table of marks, from the parts that stand and the scan's place.
@@ -441,24 +511,29 @@ class Decoder:
         return marks
 
 
+@lru_cache(maxsize=1)
+def ran(N, L, P, bits, ceiling):
+    """A decoder that has run, and its refusal or None; kept for whoever asks
+    next, since an encoder's marks and a decoder's answer come from one run."""
+    decoder = Decoder(N, L, P, bits, ceiling)
+    return decoder, decoder.run()
+
+
 def decode(N, L, P, bits, ceiling=None):
     """The answer to the usable bits, or refusal 12 or 13 with its bit."""
-    decoder = Decoder(N, L, P, bits, ceiling)
-    refused = decoder.run()
+    decoder, refused = ran(N, L, P, tuple(bits), ceiling and tuple(ceiling))
     if refused:
         return refused
-    places = range(decoder.shape.I)
-    return Decoded([decoder.value(i) for i in places],
-                   [decoder.precision(i) for i in places],
-                   decoder.marks(), decoder.used, decoder.finished,
+    return Decoded(decoder.values(), decoder.precisions(), decoder.marks(),
+                   decoder.used, decoder.finished,
                    2 ** decoder.last_plane() - 1, decoder.plane_bits)
 
 
 def marks_after(N, L, P, bits):
     """The marks after bits with which some array's stream begins: "After the
     same bits, encoder and decoder hold equal tables"."""
-    decoder = Decoder(N, L, P, bits)
-    if decoder.run():
+    decoder, refused = ran(N, L, P, tuple(bits), None)
+    if refused:
         raise ValueError('no array has a stream that begins so')
     return decoder.marks()
 
@@ -503,10 +578,8 @@ def bytes_for(bits):
 def pack(bits):
     """The body: "Body bits fill each byte from its highest bit; the last byte
     is padded with 0"."""
-    body = bytearray(bytes_for(len(bits)))
-    for n, bit in enumerate(bits):
-        body[n // 8] |= bit << 7 - n % 8
-    return bytes(body)
+    word = ''.join(map(str, bits)) + '0' * (-len(bits) % 8)
+    return bytes(int(word[n:n + 8], 2) for n in range(0, len(word), 8))
 
 
 def unpack(body):
@@ -524,7 +597,7 @@ def write_file(N, L, P, declared, bits, version=1, letters=b'TXP'):
 
 def check_sizes(N, L):
     """Refusals 1 and 2."""
-    if not 2 <= N <= 8:
+    if not 2 <= N <= N_LIMIT:
         return Refused(1, 0)
     if not 1 <= L <= N - 1:
         return Refused(2, 0)
@@ -592,10 +665,11 @@ def decode_body(N, L, P, body, usable, lent):
 
 def too_large(data):
     """What txpshow does not take: "A file over 16,384 bytes, or one of at
-    least 12 bytes with right letters and version and N of 7 or 8"."""
+    least 12 bytes with right letters and version", and, in document 02, "N from
+    7 to 10"."""
     return (len(data) > SHOW_BYTES
             or len(data) >= HEADER_BYTES
-            and data[:5] == b'TXP\x00\x01' and data[5] in (7, 8))
+            and data[:5] == b'TXP\x00\x01' and SHOW_N < data[5] <= N_LIMIT)
 
 
 def show(data):

@@ -174,7 +174,6 @@ def trees():
         for L in range(1, N):
             shape = shape_of(N, L)
             I, D = shape.I, shape.D
-            grand, desc, _ = shape.members
 
             def ancestors(m):
                 while m >= D:
@@ -186,14 +185,14 @@ def trees():
             tables = summaries(N, L, A)
             for i in range(I // 4):
                 wanted = [m for m in range(I) if i in lines[m]]
-                equal(sorted(desc[i]), wanted, 'DESC')
+                equal(sorted(shape.members(DESC, i)), wanted, 'DESC')
                 wanted_or = 0
                 for m in wanted:
                     wanted_or |= abs(A[m])
                 equal(tables[0][i], wanted_or, 'DESC summary')
                 if i < I // 16:
                     wanted = [m for m in wanted if m // 4 != i]
-                    equal(sorted(grand[i]), wanted, 'GRAND')
+                    equal(sorted(shape.members(GRAND, i)), wanted, 'GRAND')
                 else:
                     equal([m for m in wanted if m // 4 != i], [], 'no GRAND')
             equal(len(tables[1]), I // 16, 'GRAND entries')
@@ -238,8 +237,8 @@ def compare_planes(N, L, A):
         b = P - 1 - n
         parts = parts_after(N, L, A, b)
         size = (len(parts.alone)
-                + sum(len(shape.members[DESC][i]) for i in parts.desc)
-                + sum(len(shape.members[GRAND][i]) for i in parts.grand))
+                + sum(len(shape.members(DESC, i)) for i in parts.desc)
+                + sum(len(shape.members(GRAND, i)) for i in parts.grand))
         equal(size, shape.I, 'sizes add up to I')
         standing, split = plane_figures(N, L, A, b)
         found = sum(2 ** b <= abs(a) < 2 ** (b + 1) for a in A)
@@ -431,7 +430,7 @@ def random_bodies(count):
         decoder = Decoder(N, L, P, bits)
         equal(decoder.run(), None, 'accepted')
         A = [-a if negative else a for a, negative
-             in zip(decoder.greatest.array, decoder.negative)]
+             in zip(decoder.greatest.array(), decoder.negative)]
         equal(encode(N, L, A, len(bits)), (P, bits), 'an array fits')
     for kind in kinds:
         equal(kinds[kind] > 0, True, 'kind ' + kind)
@@ -500,7 +499,8 @@ def files():
     equal(show(b'x' * 16_384), 'refused 7 0\n', '16,384 bytes')
     equal(show(b'x' * 16_385), 'too large\n', '16,385 bytes')
     for N, wanted in ((6, 'refused 2 0\n'), (7, 'too large\n'),
-                      (8, 'too large\n'), (9, 'refused 1 0\n')):
+                      (8, 'too large\n'), (9, 'too large\n'),
+                      (10, 'too large\n'), (11, 'refused 1 0\n')):
         equal(show(b'TXP\0\1' + bytes((N, 0, 99)) + bytes(4)), wanted, 'N')
     equal(show(b'TXP\0\1\7\0\0\0\0\0'), 'refused 7 0\n', '11 bytes')
     equal(show(b'TXP\0\2\7\0\0\0\0\0\0'), 'refused 8 0\n', 'version 2')

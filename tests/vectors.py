@@ -5,7 +5,8 @@
 DIR/stdin holds the cases, DIR/stdout what the program `second` prints for
 them, and DIR/txp some of the files as NUMBER-KIND.txp with what txpshow prints
 for them as NUMBER-KIND.out. The gate keeps the first two as
-crates/second/stdin and crates/second/stdout. VECTORS.md has their format.
+crates/second/stdin and crates/second/stdout. DIR/large has cases too large for
+that program, for the linked library alone. VECTORS.md has the format of both.
 
 The remarks 12a to 12d are the contradictions: all of plane P-1 is 0; four
 children of a split set without a GRAND are 0; a GRAND is 0 whose DESC was split
@@ -16,10 +17,11 @@ import os
 import random
 import struct
 from collections import Counter, namedtuple
-from itertools import groupby, product
+from itertools import accumulate, groupby, product
 
 import second
-from arrays import STYLES, random_array, random_bits
+from arrays import (STYLES, random_array, random_bits, scattered, stretched,
+                    tiled)
 from second import Decoder, Refused, encode, write_file
 from selftest import EZW, NO_BUDGET, SAMPLE, clash_kind
 
@@ -38,6 +40,16 @@ ANSWER = ('result', 'refusal', 'place', 'n', 'l', 'planes', 'declared', 'bits',
 
 # Entries past a table's lent end that are compared too.
 PAST = 64
+
+# The largest N whose tables the program `second` has, and the longest line that
+# it takes.
+STORED_N = 9
+STORED_LINE = 65_600
+
+# A case with a longer list has items that repeat what stands before, for so
+# many equal runs in a row or more.
+PLAIN = 65_536
+ALIKE = 8
 
 
 def before(i):
@@ -61,19 +73,43 @@ def case(letter, numbers, answered, ints=(), file=b'', **tables):
                 ints, file, *(own for _, own in lists))
 
 
-def listed(numbers):
+def listed(numbers, again):
     """The fields of a list."""
-    fields = [str(len(numbers))]
-    for number, run in groupby(numbers):
-        count = len(list(run))
-        fields.append(str(number) if count == 1
-                      else '%d*%d' % (number, count))
-    return fields
+    runs = [(number, len(list(run))) for number, run in groupby(numbers)]
+    items = repeated(runs) if again else [plain(run) for run in runs]
+    return [str(len(numbers))] + items
 
 
-def line(one):
+def plain(run):
+    """The item of equal numbers in a row."""
+    number, count = run
+    return str(number) if count == 1 else '%d*%d' % run
+
+
+def repeated(runs):
+    """The items of runs, among them ~BACK*COUNT where the next runs stand
+    before too."""
+    starts = [0] + list(accumulate(count for _, count in runs))
+    seen, items, at = {}, [], 0
+    while at < len(runs):
+        first, alike = seen.setdefault(tuple(runs[at:at + ALIKE]), at), 0
+        while (first < at and at + alike < len(runs)
+               and runs[first + alike] == runs[at + alike]):
+            alike += 1
+        if alike >= ALIKE:
+            items.append('~%d*%d' % (starts[at] - starts[first],
+                                     starts[at + alike] - starts[at]))
+            at += alike
+        else:
+            items.append(plain(runs[at]))
+            at += 1
+    return items
+
+
+def line(one, again):
     """The line of a case. Empty lists at its end are left out."""
-    lists = [listed(items) for items in one[1:]]
+    again = again and max(map(len, one[1:])) > PLAIN
+    lists = [listed(items, again) for items in one[1:]]
     while lists[-1] == ['0']:
         lists.pop()
     return ' '.join([one.letter] + sum(lists, [])) + '\n'
@@ -114,7 +150,7 @@ def encode_body_case(one, offset):
 def lent_for(data):
     """The length of the tables lent for a file, if the case names none: I, and
     16 where the file has no N that says so."""
-    if len(data) >= second.HEADER_BYTES and 2 <= data[5] <= 8:
+    if len(data) >= second.HEADER_BYTES and 2 <= data[5] <= second.N_LIMIT:
         return 4 ** data[5]
     return 16
 
@@ -238,7 +274,7 @@ def encode_cases(seed):
 def encode_refusals(rng):
     """Encode cases that are refused, and those that just are not."""
     enough = (4 ** 4, 4 ** 4, 4 ** 4, 4 ** 6)
-    for N in (0, 1, 9, 10, 255, 256, 2 ** 32 - 1):
+    for N in (0, 1, 11, 12, 255, 256, 2 ** 32 - 1):
         yield 'refused1', N, 1, 100, [0] * 16, enough
     for N, L in ((2, 0), (2, 2), (3, 3), (3, 255), (3, 256), (3, 2 ** 32 - 1)):
         yield 'refused2', N, L, 100, [0] * 4 ** N, enough
@@ -419,7 +455,7 @@ def damaged_headers(rng):
             damaged[place] = rng.choice((0, 1, damaged[place] + 1 & 255,
                                          damaged[place] - 1 & 255,
                                          rng.randrange(256)))
-        if damaged[5] not in (7, 8):
+        if damaged[5] not in range(7, second.N_LIMIT + 1):
             yield 'header', bytes(damaged), None
 
 
@@ -452,7 +488,7 @@ def labelled_files():
     """Letters, version and N, each right or not, in files of about the
     header's length."""
     letters = (b'TXP', b'UXP', b'TYP', b'TXQ')
-    for N in (5, 6, 7, 8, 9):
+    for N in (5, 6, 7, 8, 9, 10, 11, 12, 255):
         for letter in letters:
             for version in (1, 0, 2, 256, 257):
                 data = write_file(N, 1, 0, 8, [0] * 8, version, letter)
@@ -472,7 +508,7 @@ def limit_files(rng):
         more = 8 * (size - second.HEADER_BYTES) - len(bits)
         for declared in (len(bits) + more, len(bits) + more + 1):
             yield 'size', write_file(6, 3, P, declared, bits + [0] * more)
-        for N in (6, 7, 9):
+        for N in (6, 7, 10, 11):
             yield 'size', write_file(N, 1, 0, 0, [0] * (len(bits) + more))
             yield 'size', write_file(N, 1, 0, 0, [0] * (len(bits) + more), 2)
 
@@ -517,9 +553,11 @@ def body_limits(rng):
                 len(bits) - 1, len(bits), len(bits) + 1, 8 * len(body),
                 NO_BUDGET]:
             yield 'usable', decode_body_case(N, L, 5, body, usable, (I,) * 3)
-    for N, L, P, lent in ((1, 1, 25, 0), (9, 0, 25, 0), (2, 0, 25, 0),
-                          (2, 2, 25, 0), (2, 1, 25, 0), (2, 1, 24, 15),
-                          (3, 2, 24, 63), (2, 1, 2 ** 32 - 1, 16)):
+    for N, L, P, lent in ((1, 1, 25, 0), (11, 0, 25, 0), (9, 0, 25, 0),
+                          (10, 10, 25, 0), (10, 9, 25, 0), (10, 9, 24, 4 ** 9),
+                          (2, 0, 25, 0), (2, 2, 25, 0), (2, 1, 25, 0),
+                          (2, 1, 24, 15), (3, 2, 24, 63),
+                          (2, 1, 2 ** 32 - 1, 16)):
         yield 'refused', decode_body_case(N, L, P, b'\xff', 8, (lent,) * 3)
     for offset, room in ((0, 5), (7, 11), (12, 16), (12, 3), (99, 12),
                          (2 ** 32 - 1, 20)):
@@ -537,7 +575,9 @@ def table_refusals():
     over = [0] * 5 + [16_777_216] * 11
     for N, L, A, desc, grand, plane, refused in (
             (1, 0, over, 0, 0, 24, Refused(1, 0)),
-            (9, 1, over, 0, 0, 24, Refused(1, 0)),
+            (11, 1, over, 0, 0, 24, Refused(1, 0)),
+            (10, 10, over, 0, 0, 24, Refused(2, 0)),
+            (10, 9, over, 0, 0, 24, Refused(3, 0)),
             (2, 2, over[1:], 0, 0, 24, Refused(2, 0)),
             (2, 1, over[1:], 0, 0, 24, Refused(3, 0)),
             (2, 1, over, 0, 0, 24, Refused(4, 5)),
@@ -553,14 +593,15 @@ def table_refusals():
 
 def worst_cases():
     """(kind, case) of each worst body."""
-    for N, L in shapes(8):
+    for N, L in shapes(second.N_LIMIT):
         for P in range(25):
             bits = second.worst_body(N, L, P)
             yield 'taken', case('W', (N, L, P), answer(bits=bits))
     # "1 to 6 in that order", and 9 for P as in decoding: 1, 2, 9
-    for N, L, P in ((0, 1, 1), (1, 0, 25), (9, 1, 3), (2 ** 32 - 1, 1, 1),
-                    (2, 0, 25), (2, 2, 3), (8, 8, 99), (3, 2 ** 32 - 1, 0),
-                    (2, 1, 25), (8, 7, 25), (5, 2, 2 ** 32 - 1)):
+    for N, L, P in ((0, 1, 1), (1, 0, 25), (11, 1, 3), (2 ** 32 - 1, 1, 1),
+                    (2, 0, 25), (2, 2, 3), (8, 8, 99), (10, 10, 99),
+                    (3, 2 ** 32 - 1, 0), (2, 1, 25), (8, 7, 25), (10, 9, 25),
+                    (5, 2, 2 ** 32 - 1)):
         refused = second.check_sizes(N, L) or Refused(9, 0)
         yield 'refused', case('W', (N, L, P), answer(refused))
 
@@ -569,7 +610,7 @@ def place_cases(seed):
     """(kind, case) of each single place: I asks for the linear place of a
     raster place, R for the raster place of a linear one."""
     rng = random.Random('%d place' % seed)
-    for N in range(2, 9):
+    for N in range(2, second.N_LIMIT + 1):
         I = 4 ** N
         raster = second.to_raster(N, range(I))
         linear = second.to_linear(N, range(I))
@@ -583,17 +624,19 @@ def place_cases(seed):
                                        answer(value=places[at]))
             for at in (I, I + 1, 2 ** 31, 2 ** 32 - 1):
                 yield 'refused3', case(letter, (N, at), answer(Refused(3, 0)))
-    for N in (0, 1, 9, 255, 2 ** 32 - 1):
+    for N in (0, 1, 11, 255, 2 ** 32 - 1):
         for at in (0, 2 ** 32 - 1):
             for letter in 'IR':
                 yield 'refused1', case(letter, (N, at), answer(Refused(1, 0)))
+
+
+ORDERS = ('O', second.to_linear), ('Q', second.to_raster)
 
 
 def order_cases(seed):
     """(kind, case) of each whole array in the other order: O to linear order,
     Q to raster order."""
     rng = random.Random('%d order' % seed)
-    orders = (('O', second.to_linear), ('Q', second.to_raster))
     for N in range(2, 9):
         I = 4 ** N
         arrays = [list(range(I))] if N <= 6 else []
@@ -601,18 +644,18 @@ def order_cases(seed):
                    if N < 7 else random_array(rng, N, 24, 'single')
                    for _ in range(3)]
         for A in arrays:
-            for letter, order in orders:
+            for letter, order in ORDERS:
                 lent = I + rng.choice((0, 0, 1, 7)) if N < 8 else I
                 yield 'N %d' % N, case(letter, (N,), answer(), A,
                                        values=(lent, order(N, A)))
     limits = [-2 ** 31, 2 ** 31 - 1, 16_777_216, 0] * 4
-    for letter, order in orders:
+    for letter, order in ORDERS:
         yield 'limits', case(letter, (2,), answer(), limits,
                              values=(16, order(2, limits)))
         for N, count, lent, number in (
-                (1, 4, 4, 1), (9, 16, 16, 1), (2 ** 32 - 1, 16, 0, 1),
+                (1, 4, 4, 1), (11, 16, 16, 1), (2 ** 32 - 1, 16, 0, 1),
                 (2, 15, 15, 3), (2, 17, 17, 3), (3, 16, 0, 3), (2, 0, 16, 3),
-                (2, 16, 15, 5), (3, 64, 63, 5), (4, 256, 0, 5)):
+                (9, 16, 16, 3), (10, 16, 16, 3), (2, 16, 15, 5), (3, 64, 63, 5), (4, 256, 0, 5)):
             yield 'refused', case(letter, (N,), answer(Refused(number, 0)),
                                   range(count), values=(lent, ()))
 
@@ -656,7 +699,7 @@ def one_number(x, taken):
 def small_cases():
     """(kind, case) of sizes and of bits."""
     for N in list(range(12)) + [255, 256, 2 ** 32 - 1]:
-        side = 2 <= N <= 8
+        side = 2 <= N <= second.N_LIMIT
         yield 'any', case('K', (N,), answer(value=int(side)))
         yield 'any', case('A', (N,), answer(value=4 ** N if side else 0))
         for L in list(range(11)) + [256, 2 ** 32 - 1]:
@@ -688,8 +731,10 @@ def small_cases():
 def header_cases():
     """(kind, case) of headers by themselves: each field at and past its limits,
     the body whole, short or too long, and files cut inside the header."""
-    for N, L, P, declared in product((0, 1, 2, 3, 7, 8, 9, 255), (0, 1, 2, 8),
-                                     (0, 24, 25, 255), (0, 37, 2 ** 32 - 1)):
+    sizes = list(product((0, 1, 2, 3, 7, 8, 9, 10, 11, 255), (0, 1, 2, 8)))
+    sizes += [(9, 9), (10, 9), (10, 10)]
+    for (N, L), P, declared in product(sizes, (0, 24, 25, 255),
+                                       (0, 37, 2 ** 32 - 1)):
         for body in ([], [1] * 16, [1] * 80):
             yield header_case(second.write_file(N, L, P, declared, body))
     whole = second.write_file(2, 1, 3, 37, [0] * 37)
@@ -709,22 +754,168 @@ def header_case(data):
     return 'taken', case('H', (), answer(**numbers), (), data)
 
 
+# Cases of a large N.
+
+def stored_cases(seed):
+    """(kind, case) of cases that are short to write, of the largest N that
+    `second` has tables for."""
+    N = STORED_N
+    rng = random.Random('%d stored' % seed)
+    for L in range(1, N):
+        kind = 'N %d L %d' % (N, L)
+        yield from sparse_cases(rng, kind, N, L)
+        yield from body_cases(rng, kind, N, L)
+        yield from cut_cases(rng, kind, N, L, tiled(rng, N, rng.randint(5, 24)))
+        for one in coded(N, L, NO_BUDGET, tiled(rng, N, 1 + (L > 6))):
+            yield kind, one
+    for L in (3, N - 1):
+        yield from wide_refusals(rng, N, L)
+    arrays = [random_array(rng, N, 24, 'single') for _ in range(3)]
+    yield from whole_arrays(N, arrays + [tiled(rng, N, 24)], 4 ** N)
+
+
+def large_cases(seed):
+    """(kind, case) of cases that are long to write, or of an N that `second`
+    has no tables for."""
+    rng = random.Random('%d large' % seed)
+    N = second.N_LIMIT
+    for L in range(1, N):
+        kind = 'N %d L %d' % (N, L)
+        yield from sparse_cases(rng, kind, N, L)
+        if L in (1, 4, 9):
+            yield from body_cases(rng, kind, N, L)
+        yield from cut_cases(rng, kind, N, L, stretched(rng, N, 20))
+    yield from cut_cases(rng, 'dense', N, 8, random_array(rng, N, 20, 'decay'))
+    for N, L, P in ((9, 1, 2), (9, 8, 2), (10, 9, 1)):
+        A = random_array(rng, N, P, 'dense')
+        I, room = 4 ** N, second.output_bytes(N, L, P, NO_BUDGET)
+        one = encode_case(N, L, NO_BUDGET, A,
+                          (I // 4 + 3, I // 16 + 2, I + 1, room + 5))
+        yield 'dense', one
+        yield 'dense', decode_case(one.bytes, (I + 1, I + 5, I + 64))
+    N = second.N_LIMIT
+    for L in (4, N - 1):
+        yield from wide_refusals(rng, N, L)
+    yield from whole_arrays(N, [list(range(4 ** N))], 4 ** N + 7)
+
+
+def coded(N, L, budget, A):
+    """An encode case and the decode case of its file."""
+    one = encode_case(N, L, budget, A)
+    yield one
+    yield decode_case(one.bytes)
+
+
+def sparse_cases(rng, kind, N, L):
+    """Cases of an array with few coefficients, whole, and of a file without a
+    body."""
+    for one in coded(N, L, NO_BUDGET, scattered(rng, N, 1 if L == 1 else 3)):
+        yield kind, one
+    yield kind, decode_case(write_file(N, L, rng.randint(0, 24), 9, []))
+
+
+def cut_cases(rng, kind, N, L, A):
+    """Cases of an array whose stream is cut, by a budget or in a short
+    file."""
+    one, back = coded(N, L, rng.randint(1000, 30_000), A)
+    yield kind, one
+    yield kind, back
+    yield kind, decode_case(one.bytes[:rng.randrange(12, len(one.bytes))])
+
+
+def body_cases(rng, kind, N, L):
+    """Cases of the other calls on an array with few coefficients, and of one
+    with none."""
+    one = encode_case(N, L, rng.randint(1000, 9000), scattered(rng, N, 2))
+    yield kind, encode_body_case(one, rng.choice((0, 5, 12, 13)))
+    body = one.bytes[second.HEADER_BYTES:]
+    yield kind, decode_body_case(N, L, 2, body, rng.randint(100, 1000),
+                                 (4 ** N,) * 3)
+    yield kind, summaries_case(one)
+    yield kind, figures_case(one, rng.randrange(2))
+    yield kind, case('P', (), answer(planes=2), one.ints)
+    yield kind, encode_case(N, L, rng.choice((0, 9)), [0] * 4 ** N)
+
+
+def wide_refusals(rng, N, L):
+    """Refusals 3 to 6 and 10 to 13 at the limits of a large N."""
+    I = 4 ** N
+    A = scattered(rng, N, 3)
+    room = second.output_bytes(N, L, 3, 50)
+    enough = I // 4, I // 16, I, room
+    for array in (A[:16], A[:-1], A + [0], A[:-1] + [16_777_216]):
+        yield 'refused', encode_case(N, L, 50, array, enough)
+    yield 'room', encode_case(N, L, 50, A, enough)
+    for k in range(4):
+        lent = [length - (k == n) for n, length in enumerate(enough)]
+        yield 'refused', encode_case(N, L, 50, A, lent)
+    for k in range(2):
+        desc, grand = [length - (k == n) for n, length in enumerate(enough[:2])]
+        lent = {'desc': (desc, ()), 'grand': (grand, ())}
+        refused = answer(Refused(5, 0))
+        yield 'refused', case('S', (N, L), refused, A, **lent)
+        yield 'refused', case('G', (N, L, 1), refused, A, **lent)
+    # the bits that lead to the last place, each in turn 0
+    A = [0] * (I - 1) + [1]
+    _, bits = encode(N, L, A, NO_BUDGET)
+    kinds = {}
+    for n, bit in enumerate(bits):
+        if bit:
+            wrong = Decoder(N, L, 1, bits[:n] + [0])
+            if wrong.run():
+                kinds['12' + clash_kind(wrong)] = wrong.bits
+    for kind, wrong in sorted(kinds.items()):
+        yield kind, decode_case(write_file(N, L, 1, len(wrong), wrong))
+    for more in ([0], [1] * 9):
+        data = write_file(N, L, 1, len(bits + more), bits + more)
+        yield '13', decode_case(data)
+    for k in range(3):
+        lent = [I - (k == n) for n in range(3)]
+        yield 'refused', decode_case(data, lent)
+    yield 'refused', decode_case(data + b'\0')
+    data = data[:-1] + bytes((data[-1] | 1,))
+    yield 'refused', decode_case(data)
+
+
+def whole_arrays(N, arrays, lent):
+    """Linear arrays in raster order and back, and arrays or tables of a wrong
+    length."""
+    kind = 'N %d' % N
+    for A in arrays:
+        raster = second.to_raster(N, A)
+        yield kind, case('Q', (N,), answer(), A, values=(lent, raster))
+        yield kind, case('O', (N,), answer(), raster,
+                         values=(lent, second.to_linear(N, raster)))
+    for letter, _ in ORDERS:
+        for count, lent, number in ((4 ** N - 1, 4 ** N, 3),
+                                    (4 ** N + 1, 4 ** N, 3),
+                                    (4 ** N, 4 ** N - 1, 5)):
+            yield 'refused', case(letter, (N,), answer(Refused(number, 0)),
+                                  [0] * count, values=(lent, ()))
+
+
 # Cases that must differ, and lines that are none.
 
 def damaged(one):
     """(what, case) of a case with one thing wrong: each number of the answer;
-    of each table its first and last own entry, one entry fewer, and the
-    entries past its own, past the lent end and the last that is compared."""
+    of each table as damaged_tables has it."""
     for place, name in enumerate(ANSWER):
         yield name, one._replace(answer=[
             number ^ (place == k) for k, number in enumerate(one.answer)])
+    yield from damaged_tables(one)
+
+
+def damaged_tables(one):
+    """(what, case) of a case with one thing wrong in a table: its first and
+    last own entry, one entry fewer, and the entries past its own, past the
+    lent end and the last that is compared."""
     for name, lent in zip(TABLES, one.lent):
         own = list(getattr(one, name))
 
         def wrong(place):
             """The table's entries up to a place, whose entry is wrong."""
-            held = [held_before(name, i) for i in range(place + 1)]
-            held[:len(own)] = own[:place + 1]
+            held = own[:place + 1]
+            held += [held_before(name, i) for i in range(len(held), place + 1)]
             held[place] ^= 1
             return held
 
@@ -792,10 +983,22 @@ MALFORMED = (
     'W 3 2 1 3x', 'W 3 2 1 4294967296', 'W 3 2 1 -2147483649', 'W 3 2 1 -0',
     'W 3 2 1 -', 'W 3 2 1 +3', 'W 3 2 1 3*0', 'W 3 2 1*3', 'W 3 2 1*',
     'W 3 2 1*-1', 'W -1', 'W 3 2 1 3 17 0*17', 'W 3 2 1 3 16 0*15',
-    'W 3 2 1 3 16 0*7 58 0*8 6 0*6', 'W 3 2 1 3 16 0*7 58 0*8 0 0 0 0 0 0 0 0 0')
+    'W 3 2 1 3 16 0*7 58 0*8 6 0*6', 'W 3 2 1 3 16 0*7 58 0*8 0 0 0 0 0 0 0 0 0',
+    'W 3 2 1 ~', 'W 3 2 1 ~0', 'W 3 2 1 ~3', 'W 3 2 1 ~4294967295',
+    'W 3 2 1 ~4294967297', 'W 3 2 1 ~-1', 'W 3 2 1 -~1', 'W 3 2 1 ~1x',
+    'W 3 2 ~1*0', 'W 3 2 ~1*3', 'W 3 2 ~1*1', 'W 3 2 ~1*', 'W 3 2 1~1',
+    'W 3 ~1 2 1', 'W 3 2 1 3 16 ~1*16', 'W 3 2 1 3 16 0 ~2*15')
 
 
-def remarked(cases):
+def damaged_wide(N):
+    """(kind, case) of cases of a large N that must differ: encoding nothing
+    and decoding it."""
+    for one in coded(N, N - 1, NO_BUDGET, [0] * 4 ** N):
+        for what, wrong in damaged_tables(one):
+            yield 'damaged: ' + what, wrong
+
+
+def remarked(cases, again):
     """The lines of (kind, case) cases, each group of one kind after a
     remark."""
     lines, last = [], None
@@ -803,7 +1006,7 @@ def remarked(cases):
         if (one.letter, kind) != last:
             lines.append('# %s %s\n' % (one.letter, kind))
             last = one.letter, kind
-        lines.append(line(one))
+        lines.append(line(one, again))
     return lines
 
 
@@ -829,9 +1032,14 @@ def write(directory, seed):
     files = os.path.join(directory, 'txp')
     os.makedirs(files, exist_ok=True)
 
-    def write_text(name, text):
-        with open(os.path.join(directory, name), 'w') as file:
-            file.write(text)
+    def write_all(folder, good, wrong, malformed):
+        told, counts = expected(good, wrong, malformed)
+        os.makedirs(os.path.join(directory, folder), exist_ok=True)
+        for name, text in (('stdin', ''.join(good + wrong + malformed)),
+                           ('stdout', told + counts)):
+            with open(os.path.join(directory, folder, name), 'w') as file:
+                file.write(text)
+        print(counts, end='')
 
     def write_show(number, kind, data):
         name = os.path.join(files, '%04d-%s' % (number, kind))
@@ -848,12 +1056,15 @@ def write(directory, seed):
         write_show(number, kind, data)
     cases = list(coder_cases(seed, decodes))
     for more in (worst_cases(), place_cases(seed), order_cases(seed),
-                 number_cases(seed), small_cases()):
+                 number_cases(seed), small_cases(), stored_cases(seed)):
         cases += more
-    good, wrong = remarked(cases), remarked(damaged_cases(cases))
-    malformed = [text + '\n' for text in MALFORMED]
-    told, counts = expected(good, wrong, malformed)
-    write_text('stdin', ''.join(good + wrong + malformed))
-    write_text('stdout', told + counts)
-    print(counts, end='')
+    good = remarked(cases, True)
+    wrong = remarked(damaged_cases(cases), True)
+    wrong += remarked(damaged_wide(STORED_N), True)
+    if max(map(len, good + wrong)) > STORED_LINE:
+        raise SystemExit('a line is too long for the program `second`')
+    write_all('', good, wrong, [text + '\n' for text in MALFORMED])
     print('files %d' % (len(os.listdir(files)) // 2))
+    print('large')
+    write_all('large', remarked(large_cases(seed), False),
+              remarked(damaged_wide(second.N_LIMIT), False), [])

@@ -11,12 +11,15 @@ ghost use Prim.Native.Nat.{_≤_};
 // More lines than are read, and more parts of the text.
 const MANY: usize = 1000000;
 
-// The entries of a table, and of the text that is held at a time; how many entries can be lent: those of N = 8; how many past the lent end are compared too.
-const ALL: usize = 65600;
-
-const MOST: usize = 65536;
+// How many entries can be lent: those of N = 9; how many past the lent end are compared too; the entries of a table.
+const MOST: usize = 262144;
 
 const PAST: usize = 64;
+
+const ALL: usize = 262208;
+
+// The entries of the tables of DESC and GRAND, which have no more than a fourth as many; and the bytes of the text that are held at a time.
+const FEW: usize = 65600;
 
 // What became of a line.
 enum Verdict {
@@ -449,13 +452,13 @@ fn say_counts(counts: &[usize; 512]) {
 }
 
 fn main() {
-    let mut window = [0u8; ALL];
+    let mut window = [0u8; FEW];
     let mut counts = [0usize; 512];
     let mut list = [0u32; ALL];
     let mut coefs = [0i32; ALL];
     let mut file = [0u8; ALL];
-    let mut desc = [0u32; ALL];
-    let mut grand = [0u32; ALL];
+    let mut desc = [0u32; FEW];
+    let mut grand = [0u32; FEW];
     let mut marks = [0u8; ALL];
     let mut places = [0u8; ALL];
     let mut values = [0i32; ALL];

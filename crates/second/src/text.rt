@@ -11,9 +11,10 @@ pub struct Number {
     pub at: usize,
 }
 
-// An item of a list: a number, how many times it stands, and the place behind it.
+// An item of a list: a number, or, where `back` is not 0, the one that stands so many places before; how many times it stands, and the place behind it.
 pub struct Item {
     pub value: u32,
+    pub back: usize,
     pub times: usize,
     pub at: usize,
 }
@@ -100,11 +101,12 @@ fn negative(size: Number) -> Number {
 }
 
 // An item whose number was read: the times that it stands may follow.
-fn repeated(line: &[u8], x: Number) -> Item {
+fn repeated(line: &[u8], x: Number, back: usize) -> Item {
     let star = behind(line, x.at, 42);
     if star == NOWHERE {
         return Item {
             value: x.value,
+            back,
             times: 1,
             at: x.at,
         };
@@ -112,26 +114,42 @@ fn repeated(line: &[u8], x: Number) -> Item {
     let times = decimal(line, star);
     Item {
         value: x.value,
+        back,
         times: times.value as usize,
         at: times.at,
     }
 }
 
+// An item whose number was read as places back, of which there is at least one.
+fn again(line: &[u8], x: Number) -> Item {
+    if x.value == 0 {
+        return repeated(line, no_number(), 0);
+    }
+    repeated(line, x, x.value as usize)
+}
+
 // A space, and an item.
 fn item_at(line: &[u8], at: usize) -> Item {
     let from = behind(line, at, 32);
+    let tilde = behind(line, from, 126);
+    if tilde != NOWHERE {
+        return again(line, decimal(line, tilde));
+    }
     let signed = behind(line, from, 45);
     if signed == NOWHERE {
-        return repeated(line, decimal(line, from));
+        return repeated(line, decimal(line, from), 0);
     }
-    repeated(line, negative(decimal(line, signed)))
+    repeated(line, negative(decimal(line, signed)), 0)
 }
 
-// The times that an item may fill: none if it was not found or is more than what is left.
-fn times_of(x: Item, left: usize) -> usize
+// The times that an item may fill behind what is done: none if it was not found, reaches back too far or is more than what is left.
+fn times_of(x: Item, done: usize, left: usize) -> usize
     ensures { λ r. ⌜ r ≤ left ⌝ }
 {
     if x.at == NOWHERE {
+        return 0;
+    }
+    if done < x.back {
         return 0;
     }
     if left < x.times {
@@ -167,11 +185,29 @@ fn length_of(line: &[u8], at: usize, room: usize) -> Listed
     }
 }
 
-// Gives all entries one value.
-fn store(table: &mut [u32], x: u32) {
-    let mut i = 0;
+// What an item puts at a place.
+fn put_at(table: &[u32], i: usize, x: Item) -> u32 {
+    if x.back == 0 {
+        return x.value;
+    }
+    if i < x.back {
+        return 0;
+    }
+    let at = i - x.back;
+    if at < table.len() {
+        return table[at];
+    }
+    0
+}
+
+// Puts an item at all places from one to another.
+fn store(table: &mut [u32], from: usize, to: usize, x: Item) {
+    let mut i = from;
     while i < table.len() {
-        table[i] = x;
+        if to <= i {
+            return;
+        }
+        table[i] = put_at(table, i, x);
         i += 1;
     }
 }
@@ -184,12 +220,12 @@ pub fn list(line: &[u8], at: usize, table: &mut [u32]) -> Listed {
     let mut done = 0usize;
     while done < count {
         let x = item_at(line, i);
-        let times = times_of(x, count - done);
+        let times = times_of(x, done, count - done);
         if times == 0 {
             return none();
         }
         let end = done + times;
-        store(&mut table[done..end], x.value);
+        store(table, done, end, x);
         done = end;
         i = x.at;
     }

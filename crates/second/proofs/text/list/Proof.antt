@@ -38,18 +38,6 @@ returns c = search needs
 add-end : tie.Need-add-end Inv-loop μ-loop
 add-end c = search needs
 
-mul-store : tie.Need-mul-store Inv-loop μ-loop
-mul-store c = search needs
-
-sub-store : tie.Need-sub-store Inv-loop μ-loop
-sub-store c = search needs
-
-part-store-start : tie.Need-part-store-start Inv-loop μ-loop
-part-store-start c = search needs
-
-part-store-end : tie.Need-part-store-end Inv-loop μ-loop
-part-store-end c = search needs
-
 store-requires : tie.Need-store-requires Inv-loop μ-loop
 store-requires c κs = search needs
 
@@ -80,10 +68,6 @@ list-spec =
     same-length
     returns
     add-end
-    mul-store
-    sub-store
-    part-store-start
-    part-store-end
     store-requires
     loop-less
     loop-again

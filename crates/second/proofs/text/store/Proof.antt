@@ -7,13 +7,22 @@ use Rattle.second.proofs.text.store.Statement.{statement}
 use Rattle.second.proofs.text.store.Tie as tie
 
 abbrev Inv-loop : tie.InvT-loop
-Inv-loop table₀ x i₀ table i = (i ≤ length table₀) × (length table ≡ length table₀)
+Inv-loop table₀ from to x i₀ table i = length table ≡ length table₀
 
 abbrev μ-loop : tie.MeasureT-loop
-μ-loop table₀ x i₀ table i = length table₀ - i
+μ-loop table₀ from to x i₀ table i = length table₀ - i
 
 loop-holds : tie.Need-loop-holds Inv-loop μ-loop
 loop-holds c = search needs
+
+same-length : tie.Need-same-length Inv-loop μ-loop
+same-length c = search needs
+
+returns : tie.Need-returns Inv-loop μ-loop
+returns c = search needs
+
+put-at-requires : tie.Need-put-at-requires Inv-loop μ-loop
+put-at-requires c κs = search needs
 
 mul-table : tie.Need-mul-table Inv-loop μ-loop
 mul-table c = search needs
@@ -28,13 +37,13 @@ loop-less : tie.Need-loop-less Inv-loop μ-loop
 loop-less c = omega arith
 
 loop-again : tie.Need-loop-again Inv-loop μ-loop
-loop-again c = (omega arith, simp length-set (omega arith))
+loop-again c = simp length-set (omega arith)
 
-same-length : tie.Need-same-length Inv-loop μ-loop
-same-length c = search needs
+same-length-2 : tie.Need-same-length-2 Inv-loop μ-loop
+same-length-2 c = search needs
 
-returns : tie.Need-returns Inv-loop μ-loop
-returns c = search needs
+returns-2 : tie.Need-returns-2 Inv-loop μ-loop
+returns-2 c = search needs
 
 pub store-spec : {M : Type 1} → statement M
 store-spec =
@@ -43,10 +52,13 @@ store-spec =
     Inv-loop
     μ-loop
     loop-holds
+    same-length
+    returns
+    put-at-requires
     mul-table
     slice-write-table
     add-i
     loop-less
     loop-again
-    same-length
-    returns)
+    same-length-2
+    returns-2)
