@@ -102,7 +102,8 @@ def relabel(rng, data):
     that is shown and the largest that there is."""
     label = (rng.choice((b'TXP', b'TXP', b'TXp', b'TxP', b'tXP'))
              + rng.choice((1, 1, 0, 2, 256, 257)).to_bytes(2, 'big')
-             + bytes((rng.choice((6, 7, 8, 9)),)))
+             + bytes((rng.choice((second.SHOW_N, second.SHOW_N + 1,
+                                  second.N_LIMIT, second.N_LIMIT + 1)),)))
     data[:6] = label[:len(data)]
 
 

@@ -12,7 +12,9 @@ MIP, MNP, MSP, MCP, MD, MG = 1, 2, 3, 4, 5, 6
 MN2 = 7
 
 # "Skips: MIP, MNP, MSP, MCP 1; MD 4; MG 16; MNk 4^k." Mark 0 is never visited.
-SKIP = [1, 1, 1, 1, 1, 4, 16, 4 ** 2, 4 ** 3, 4 ** 4, 4 ** 5, 4 ** 6, 4 ** 7]
+# In document 02, "Marks MN8 and MN9 take codes 13 and 14."
+SKIP = [1, 1, 1, 1, 1, 4, 16, 4 ** 2, 4 ** 3, 4 ** 4, 4 ** 5, 4 ** 6, 4 ** 7,
+        4 ** 8, 4 ** 9]
 # "In the set pass MIP, MNP and MSP skip 4."
 SET_SKIP = [4, 4, 4, 4] + SKIP[4:]
 

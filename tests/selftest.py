@@ -9,10 +9,10 @@ import time
 from itertools import product
 
 import literal
-from arrays import STYLES, random_array, random_bits
+from arrays import STYLES, random_array, random_bits, scattered
 from second import (
-    DESC, GRAND, PIXEL, Decoder, Encoded, Refused, decode, decode_file, encode,
-    encode_file, linear_place, marks_after, output_bytes, pack, parts_after,
+    DESC, GRAND, N_LIMIT, PIXEL, Decoder, Encoded, Refused, decode, decode_file,
+    encode, encode_file, linear_place, linear_places, marks_after, output_bytes, pack, parts_after,
     plane_count, plane_figures, read_file, shape_of, show, stream_by_plane,
     summaries, to_linear, to_raster, worst_body, write_file)
 
@@ -88,6 +88,8 @@ def samples():
     equal(encode_file(1, 1, [0] * 4, 0), Refused(1, 0), 'N = 1')
     equal(type(encode_file(2, 1, zero, 0)), Encoded, 'N = 2')
     equal(encode_file(2, 2, zero, 0), Refused(2, 0), 'L = N')
+    equal(encode_file(10, 9, zero, 0), Refused(3, 0), 'N = 10')
+    equal(encode_file(11, 10, zero, 0), Refused(1, 0), 'N = 11')
     for limit in (16_777_215, -16_777_215):
         equal(encode_file(2, 1, zero[1:] + [limit], 0).P, 24, 'at the limit')
     for over in (16_777_216, -16_777_216, -2 ** 31):
@@ -165,11 +167,13 @@ def trees():
     """Linear order, children, DESC, GRAND and the summaries, from the rules."""
     for raster, wanted in enumerate(FIGURE_1):
         equal(linear_place(3, raster), int(wanted), 'figure 1 of 002')
-    for N in range(2, 9):
-        places = list(range(4 ** N))
-        equal(sorted(linear_place(N, r) for r in places), places, 'bijection')
-        equal(to_raster(N, to_linear(N, places)), places, 'inverse')
     rng = random.Random(1)
+    for N in range(2, N_LIMIT + 1):
+        places = list(range(4 ** N))
+        for raster in places if N < 8 else rng.sample(places, 1000):
+            equal(linear_places(N)[raster], linear_place(N, raster), 'place')
+        equal(sorted(linear_places(N)), places, 'bijection')
+        equal(to_raster(N, to_linear(N, places)), places, 'inverse')
     for N in range(2, 6):
         for L in range(1, N):
             shape = shape_of(N, L)
@@ -273,14 +277,34 @@ def random_arrays(count):
         compare_cut(N, L, A, rng.randint(0, length))
 
 
+def large_arrays():
+    """The start table of each shape of a large N, and cut streams."""
+    start = marks_after(10, 9, 0, [])
+    equal([start[4 ** k] for k in range(10)],
+          [1, 5, 7, 8, 9, 10, 11, 12, 13, 14], 'MD and MN2 to MN9')
+    for N in (9, 10):
+        for L in range(1, N):
+            equal(marks_after(N, L, 0, []), literal.scan(N, L, 0, None),
+                  'start marks')
+    rng = random.Random(6)
+    for N, L in ((9, 3), (9, 8), (10, 9)):
+        A = scattered(rng, N, 3)
+        length = sum(map(len, stream_by_plane(N, L, A)))
+        compare_cut(N, L, A, rng.randint(length // 2, length))
+
+
 def worst_bodies():
-    """The worst body is reached by an array of greatest magnitudes."""
+    """The worst body is reached by an array of greatest magnitudes, and has
+    its number of bits in 32."""
     for N in range(2, 6):
         for L in range(1, N):
             for P in (0, 1, 2, 3):
                 A = [2 ** P - 1] * 4 ** N
                 equal(len(encode(N, L, A, NO_BUDGET)[1]), worst_body(N, L, P),
                       'worst body')
+    equal(worst_body(10, 9, 24), 26_542_078, 'worst body of all')
+    equal(max(worst_body(N, L, 24) for N in range(2, N_LIMIT + 1)
+              for L in range(1, N)), 26_542_078, 'worst body of all')
 
 
 # Acceptance.
@@ -523,6 +547,7 @@ def run(full=False):
     ezw()
     trees()
     random_arrays(6000 if full else 1200)
+    large_arrays()
     worst_bodies()
     all_small(full)
     random_bodies(20000 if full else 3000)

@@ -494,7 +494,9 @@ def labelled_files():
                 data = write_file(N, 1, 0, 8, [0] * 8, version, letter)
                 for count in (11, 12, 13):
                     yield 'label', data[:count]
-        yield 'label', write_file(N, 0, 99, 0, [1])
+        for L, P, bits in ((1, 0, []), (0, 0, []), (N, 0, []), (1, 25, []),
+                           (1, 0, [1]), (0, 99, [1])):
+            yield 'label', write_file(N, L, P, 0, bits)
 
 
 def limit_files(rng):
@@ -845,7 +847,8 @@ def wide_refusals(rng, N, L):
     enough = I // 4, I // 16, I, room
     for array in (A[:16], A[:-1], A + [0], A[:-1] + [16_777_216]):
         yield 'refused', encode_case(N, L, 50, array, enough)
-    yield 'room', encode_case(N, L, 50, A, enough)
+    yield 'room', encode_case(N, L, 50, A,
+                              (I // 4, I // 16 + 2, I, room))
     for k in range(4):
         lent = [length - (k == n) for n, length in enumerate(enough)]
         yield 'refused', encode_case(N, L, 50, A, lent)
@@ -1032,14 +1035,14 @@ def write(directory, seed):
     files = os.path.join(directory, 'txp')
     os.makedirs(files, exist_ok=True)
 
-    def write_all(folder, good, wrong, malformed):
+    def write_cases(folder, good, wrong, malformed):
         told, counts = expected(good, wrong, malformed)
         os.makedirs(os.path.join(directory, folder), exist_ok=True)
         for name, text in (('stdin', ''.join(good + wrong + malformed)),
                            ('stdout', told + counts)):
             with open(os.path.join(directory, folder, name), 'w') as file:
                 file.write(text)
-        print(counts, end='')
+        return counts
 
     def write_show(number, kind, data):
         name = os.path.join(files, '%04d-%s' % (number, kind))
@@ -1063,8 +1066,10 @@ def write(directory, seed):
     wrong += remarked(damaged_wide(STORED_N), True)
     if max(map(len, good + wrong)) > STORED_LINE:
         raise SystemExit('a line is too long for the program `second`')
-    write_all('', good, wrong, [text + '\n' for text in MALFORMED])
-    print('files %d' % (len(os.listdir(files)) // 2))
+    print(write_cases('', good, wrong, [text + '\n' for text in MALFORMED]),
+          end='')
     print('large')
-    write_all('large', remarked(large_cases(seed), False),
-              remarked(damaged_wide(second.N_LIMIT), False), [])
+    print(write_cases('large', remarked(large_cases(seed), False),
+                      remarked(damaged_wide(second.N_LIMIT), False), []),
+          end='')
+    print('files %d' % (len(os.listdir(files)) // 2))
