@@ -788,7 +788,8 @@ def large_cases(seed):
             yield from body_cases(rng, kind, N, L)
         yield from cut_cases(rng, kind, N, L, stretched(rng, N, 20))
     yield from cut_cases(rng, 'dense', N, 8, random_array(rng, N, 20, 'decay'))
-    for N, L, P in ((9, 1, 2), (9, 8, 2), (10, 9, 1)):
+    dense = [(9, 1, 2), (9, 8, 2)] + [(N, L, 1) for L in range(1, N)]
+    for N, L, P in dense:
         A = random_array(rng, N, P, 'dense')
         I, room = 4 ** N, second.output_bytes(N, L, P, NO_BUDGET)
         one = encode_case(N, L, NO_BUDGET, A,
