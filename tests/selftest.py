@@ -12,9 +12,10 @@ import literal
 from arrays import STYLES, random_array, random_bits, scattered
 from second import (
     DESC, GRAND, N_LIMIT, PIXEL, Decoder, Encoded, Refused, decode, decode_file,
-    encode, encode_file, linear_place, linear_places, marks_after, output_bytes, pack, parts_after,
-    plane_count, plane_figures, read_file, shape_of, show, stream_by_plane,
-    summaries, to_linear, to_raster, worst_body, write_file)
+    encode, encode_file, linear_place, linear_places, marks_after,
+    output_bytes, pack, parts_after, plane_count, plane_figures, read_file,
+    shape_of, show, stream_by_plane, summaries, to_linear, to_raster,
+    worst_body, write_file)
 
 NO_BUDGET = 2 ** 32 - 1
 
