@@ -4,15 +4,16 @@ use mathlib.Core.Path.{_≡_, refl, sym, ap, _∙_}
 use mathlib.Core.Bool.{Bool, true, false, cond, _&&_}
 use mathlib.Core.List.{List, [], _∷_, _++_, append-nil}
 use native.Mathlib.Omega.{arith}
-use native.Mathlib.Nat.{not-suc-le-zero, le-of-suc-le-suc, one-le-pow, pow-le-pow-right}
+use native.Mathlib.Nat.{not-suc-le-zero, le-of-suc-le-suc, pow-le-pow-right}
 use native.Mathlib.Numerals.{add-one}
 use borrow.Author.Tests.{lt-ltb, le-ltb, ltb-true, ltb-false, le-leb, lt-leb, leb-true, eq-eqb, ne-eqb, eqb-true}
-use lib.Dec.{ltb, leb, eqb, lit<, lit≤}
+use lib.Dec.{ltb, leb, eqb, lit≤}
 use lib.ListN.{length, replicate, take, drop, set, length-replicate}
 use lib.Seq.{drop-length, length-take-le}
 use Rattle.sizes.specs.Sizes.{mostN, allOf, sideFits}
 use Rattle.sizes.proofs.Laws.{both-left, both-right}
 use Rattle.nls.specs.Marks.{MN, skip, setSkip, pushFrom, push, pushRoots, startMarks}
+use Rattle.nls.proofs.Machine.Run.{skip-pos}
 use Rattle.marking.specs.Marking.{codesEnd, skipOf, setSkipOf, pushMost, newDesc, descSplitMarks, grandSplitMarks, inTable, startFits}
 
 -- ---- fills
@@ -68,20 +69,23 @@ skip-else k beyond = go (ltb k 5) refl
     go true e = skip-low k (ltb-true k 5 e)
     go false e = skip-high k (beyond (ltb-false k 5 e))
 
--- a skip is from 1 to that of the last code
-pub skip-in : (k : ℕ) → (1 ≤ skipOf k) × (skipOf k ≤ allOf (mostN - 1))
+-- no skip of a scan is larger than that of the last code
+skip-most : (k : ℕ) → k < codesEnd → skip k ≤ allOf (mostN - 1)
 unfolding skip
-skip-in k = go (ltb k 5) refl (ltb k 7) refl (ltb k codesEnd) refl
+skip-most k h = go (ltb k 5) refl (ltb k 7) refl
   where
-    go : (s : Bool) → ltb k 5 ≡ s → (t : Bool) → ltb k 7 ≡ t → (u : Bool) → ltb k codesEnd ≡ u → (1 ≤ skipOf k) × (skipOf k ≤ allOf (mostN - 1))
-    go true e t f u g = rw (skip-low k (ltb-true k 5 e)) (lit≤ tt, lit≤ tt)
-    go false e t f false g = rw (skip-high k (ltb-false k codesEnd g)) (lit≤ tt, lit≤ tt)
-    go false e true f true g =
-        rw (skip-is k (ltb-true k codesEnd g), e, f, skip)
-        (one-le-pow (k - 4) 4 (omega arith), pow-le-pow-right {n = 4} (omega arith) {i = k - 4} {j = mostN - 1} (omega (arith, ltb-true k 7 f)))
-    go false e false f true g =
-        rw (skip-is k (ltb-true k codesEnd g), e, f, skip)
-        (one-le-pow (k - 5) 4 (omega arith), pow-le-pow-right {n = 4} (omega arith) {i = k - 5} {j = mostN - 1} (omega (arith, ltb-true k codesEnd g)))
+    go : (s : Bool) → ltb k 5 ≡ s → (t : Bool) → ltb k 7 ≡ t → skip k ≤ allOf (mostN - 1)
+    go true e t f = rw (e, skip) (lit≤ tt)
+    go false e true f = rw (e, f, skip) (pow-le-pow-right {n = 4} (omega arith) {i = k - 4} {j = mostN - 1} (omega (arith, ltb-true k 7 f)))
+    go false e false f = rw (e, f, skip) (pow-le-pow-right {n = 4} (omega arith) {i = k - 5} {j = mostN - 1} (omega (arith, h)))
+
+-- a skip is from 1 to that
+pub skip-in : (k : ℕ) → (1 ≤ skipOf k) × (skipOf k ≤ allOf (mostN - 1))
+skip-in k = go (ltb k codesEnd) refl
+  where
+    go : (t : Bool) → ltb k codesEnd ≡ t → (1 ≤ skipOf k) × (skipOf k ≤ allOf (mostN - 1))
+    go true e = let h = ltb-true k codesEnd e in rw (skip-is k h) (skip-pos k, skip-most k h)
+    go false e = rw (skip-high k (ltb-false k codesEnd e)) (lit≤ tt, lit≤ tt)
 
 pub set-skip-in : (k : ℕ) → (1 ≤ setSkipOf k) × (setSkipOf k ≤ allOf (mostN - 1))
 set-skip-in k = go (ltb k 5) refl

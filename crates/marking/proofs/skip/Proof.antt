@@ -1,4 +1,4 @@
-use mathlib.Core.Path.{refl, sym}
+use mathlib.Core.Path.{sym}
 use Rattle.nls.specs.Marks.{skip}
 use Rattle.marking.specs.Marking.{skipOf}
 use Rattle.marking.proofs.Laws.{skip-low, past, skip-else}
