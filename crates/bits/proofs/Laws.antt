@@ -2,20 +2,22 @@
 use mathlib.Core.Path.{_≡_, refl, sym, ap, _∙_}
 use mathlib.Core.Bool.{Bool, true, false, _||_}
 use mathlib.Core.List.{List, [], _∷_, _++_}
+use mathlib.Core.Logic.{_↔_}
 use Prim.Native.Nat.{ℕ, zero, suc, _+_, _*_, _-_, _/_, _%_, _^_, _≤_, _<_, max}
 use native.Mathlib.Nat.{pow-suc, zero-div, div-one, div-eq-of-lt-le, mod-lt}
 use native.Mathlib.Decide.{decLt, ℕ-discrete}
 use native.Mathlib.Omega.{arith}
 use borrow.Author.Tests.{eqb-true, eqb-false, eq-eqb, ne-eqb}
-use lib.Bits.{bitOr, or-step, or-shr}
+use lib.Bits.{bitOr, or-step, or-shr, or-lt, or-add-and, and-le-l, and-le-r}
+use lib.Count.{leadingZeros, leading-length}
 use lib.Dec.{eqb, lit<, lit≤}
 use lib.ListN.{take-append-drop, length, getD, take, drop, length-append, length-set, length-drop, List·getD-append, List·getD-eq-default}
 use lib.Arith.{digits-lt, bin-ind}
-use lib.Pow.{shr-shr, high, low, field, mod-mod-pow, shl-shr, shl-lt, pow-add, pow-pos}
+use lib.Pow.{shr-shr, high, low, field, mod-mod-pow, shl-shr, shl-lt, pow-add, pow-pos, pow-mono}
 use lib.Seq.{length-take-le, getD-set-same, getD-set-other, set-out, drop-set-lt, drop-append-add, drop-drop, getD-at, getD-take, ext-getD}
 use Rattle.sizes.specs.Tables.{table}
 use Rattle.sizes.proofs.Tables.{table-length, table-suc, table-at, table-ext, table-is}
-use Rattle.bits.specs.Bits.{bit, digit, bitAt, bitsOf, bytesFor, number, packed, byteWith, withBit}
+use Rattle.bits.specs.Bits.{bit, orAll, digit, bitAt, bitsOf, bytesFor, number, packed, byteWith, withBit}
 
 -- ---- the bits of a number
 
@@ -114,6 +116,42 @@ module _ (hi k lo : ℕ) (h : lo < 2 ^ k) where
 
   pub bit-join-low : (b : ℕ) → b < k → bit (hi * 2 ^ k + lo) b ≡ bit lo b
   bit-join-low b l = sym (bit-mod (hi * 2 ^ k + lo) k b l) ∙ ap (λ (y : ℕ). bit y b) (low hi k h)
+
+-- ---- the OR of a list, and leading zeros
+
+pub or-assoc : (a b c : ℕ) → bitOr (bitOr a b) c ≡ bitOr a (bitOr b c)
+or-assoc a = bin-ind (λ (a : ℕ). (b c : ℕ) → bitOr (bitOr a b) c ≡ bitOr a (bitOr b c)) (λ b c. refl) (λ n ih b c. step n b c (ih (b / 2) (c / 2))) a
+  where
+    step : (n b c : ℕ) → bitOr (bitOr (n / 2) (b / 2)) (c / 2) ≡ bitOr (n / 2) (bitOr (b / 2) (c / 2)) → bitOr (bitOr n b) c ≡ bitOr n (bitOr b c)
+    step n b c ih =
+        let p : bitOr n b / 2 ≡ bitOr (n / 2) (b / 2) = omega (arith, or-step n b) in
+        let q : bitOr n b % 2 ≡ max (n % 2) (b % 2) = omega (arith, or-step n b) in
+        let r : bitOr b c / 2 ≡ bitOr (b / 2) (c / 2) = omega (arith, or-step b c) in
+        let s : bitOr b c % 2 ≡ max (b % 2) (c % 2) = omega (arith, or-step b c) in
+        or-step (bitOr n b) c ∙ rw (p, q, ih) (sym (or-step n (bitOr b c) ∙ rw (r, s) (omega arith)))
+
+-- the OR of a list is below 2^k exactly if each of its numbers is
+pub or-below : (k : ℕ) (l : List ℕ) → (orAll l < 2 ^ k) ↔ ((i : ℕ) → getD l i 0 < 2 ^ k)
+unfolding orAll
+or-below k [] = ((λ h i. h), (λ h. h 0))
+or-below k (x ∷ l) =
+    let rest = or-below k l in
+    ((λ h i. each i h (rest .0)), (λ h. or-lt k x (orAll l) (h 0) (rest .1 (λ i. h (suc i)))))
+  where
+    each : (i : ℕ) → bitOr x (orAll l) < 2 ^ k → (orAll l < 2 ^ k → (j : ℕ) → getD l j 0 < 2 ^ k) → getD (x ∷ l) i 0 < 2 ^ k
+    each zero h rest = omega (arith, or-add-and x (orAll l), and-le-r x (orAll l))
+    each (suc i) h rest = rest (omega (arith, or-add-and x (orAll l), and-le-l x (orAll l))) i
+
+-- a number of w digits is below 2^k exactly if its leading zeros leave at most k of them
+pub zeros-below : (w x k : ℕ) → x < 2 ^ w → (x < 2 ^ k) ↔ (w - leadingZeros w x ≤ k)
+zeros-below w x k h =
+    let m = leading-length w x h in
+    let own : w - leadingZeros w x ≡ m .0 = omega (arith, m .1) in
+    rw own ((λ l. least (m .0) (m .3) l (decLt k (m .0))), (λ l. omega (arith, m .2, pow-mono {i = m .0} {j = k} l)))
+  where
+    least : (m : ℕ) → 2 ^ m ≤ 2 * x + 1 → x < 2 ^ k → Dec (k < m) → m ≤ k
+    least m g l (yes f) = absurd (omega (arith, pow-mono {i = suc k} {j = m} f, pow-suc 2 k))
+    least m g l (no f) = omega arith
 
 -- ---- a number of given digits
 

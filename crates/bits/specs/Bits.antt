@@ -1,7 +1,7 @@
 -- Bits of a number, and of a body (document 01, "File TXP": "Body bits fill each byte from its highest bit; the last byte is padded with 0").
 use Prim.Native.Nat.{ℕ, zero, suc, _+_, _*_, _-_, _/_, _%_, _^_}
-use mathlib.Core.{Bool.Bool, Bool.true, Bool.false, Bool.cond, List.List}
-use lib.{Dec.ltb, Dec.eqb, ListN.length, ListN.getD, ListN.set}
+use mathlib.Core.{Bool.Bool, Bool.true, Bool.false, Bool.cond, List.List, List.[], List._∷_}
+use lib.{Bits.bitOr, Dec.ltb, Dec.eqb, ListN.length, ListN.getD, ListN.set}
 use Rattle.sizes.specs.Tables.{table}
 use Rattle.bits.specs.{declared.Next.Next, declared.Next.the-variants.Bit, declared.Next.the-variants.NoMore}
 
@@ -13,6 +13,11 @@ bit x b = eqb (x / 2 ^ b % 2) 1
 abbrev pub digit : Bool → ℕ
 digit true = 1
 digit false = 0
+
+-- the bitwise OR of a list of numbers
+unfoldable pub orAll : List ℕ → ℕ
+orAll [] = 0
+orAll (x ∷ rest) = bitOr x (orAll rest)
 
 -- bit number k of a body, and its first n bits
 unfoldable pub bitAt : List ℕ → ℕ → Bool

@@ -1,22 +1,24 @@
 -- Laws of coefficients: sign and magnitude, the first place over the limit, planes, the float.
 use mathlib.Core.Path.{_≡_, refl, sym, ap, _∙_}
 use mathlib.Core.Bool.{Bool, true, false, true≢false, cond}
-use mathlib.Core.List.{List, [], _∷_}
+use mathlib.Core.List.{List, [], _∷_, map}
 use mathlib.Core.Logic.{_⊎_, inl, inr, ⊎-elim}
 use Prim.Native.Nat.{ℕ, zero, suc, _-_, _/_, _≤_, _<_, _^_}
 use native.Mathlib.Nat.{pow-suc, le-antisymm}
 use native.Mathlib.Decide.{decLt}
 use native.Mathlib.Omega.{arith}
 use borrow.Author.Tests.{leb-true}
-use lib.Count.{trailingZeros}
+use lib.Count.{leadingZeros, trailingZeros}
 use lib.Dec.{lit<}
 use lib.Ieee.{fin, binary32, ofInt, round, size, units, odd, span, climb}
 use lib.Ieee.Back.{round-whole}
 use lib.Ieee.Exact.{HasValue}
 use lib.IntN.{ℤ, pos, negsuc}
-use lib.ListN.{length, List·getD-eq-default}
+use lib.ListN.{length, getD, List·getD-eq-default, List·getD-map}
 use lib.Pow.{pow-pos}
 use Rattle.sizes.specs.Sizes.{limit, mostPlanes}
+use Rattle.bits.specs.Bits.{orAll}
+use Rattle.bits.proofs.Laws.{or-below, zeros-below}
 use Rattle.coef.specs.Coef.{negative, magnitude, signed, within, at, magAt, partedOf, joinedOf, firstOver, IsPlanes, largest, digits, planesOf}
 use Rattle.coef.specs.declared.Signed.{Signed}
 use Rattle.coef.specs.declared.Parted.the-variants as parted
@@ -165,9 +167,20 @@ digits-least (suc f) (suc x) zero h = absurd (omega (arith, h))
 digits-least (suc f) (suc x) (suc k) h = omega (arith, digits-least f (suc x / 2) k (omega (arith, pow-suc 2 k)))
 
 -- the least P with the largest magnitude below 2^P is the array's planes
-pub planes-by : (A : List ℤ) (m P : ℕ) → ((i : ℕ) → magAt A i ≤ m) → ((n : ℕ) → ((i : ℕ) → magAt A i ≤ n) → m ≤ n) → m < 2 ^ P → ((k : ℕ) → m < 2 ^ k → P ≤ k) → IsPlanes A P
+planes-by : (A : List ℤ) (m P : ℕ) → ((i : ℕ) → magAt A i ≤ m) → ((n : ℕ) → ((i : ℕ) → magAt A i ≤ n) → m ≤ n) → m < 2 ^ P → ((k : ℕ) → m < 2 ^ k → P ≤ k) → IsPlanes A P
 planes-by A m P above least high low =
     record { below = λ i. omega (arith, above i); least = λ R h. low R (omega (arith, least (2 ^ R - 1) (λ i. omega (arith, h i)), pow-pos R)) }
+
+-- and so is what the leading zeros of the OR of all magnitudes leave of w digits, if it has no more than w
+pub planes-or : (A : List ℤ) (w x : ℕ) → x ≡ orAll (map (λ z. magnitude z) A) → x < 2 ^ w → IsPlanes A (w - leadingZeros w x)
+planes-or A w x e h =
+    let sizes = map (λ z. magnitude z) A in
+    let P = w - leadingZeros w x in
+    let own : (i : ℕ) → getD sizes i 0 ≡ magAt A i = λ i. List·getD-map (λ z. magnitude z) A i (pos 0) in
+    record {
+      below = λ i. omega (arith, own i, or-below P sizes .0 (omega (arith, e, zeros-below w x P h .1 (omega arith))) i);
+      least = λ R f. zeros-below w x R h .0 (omega (arith, e, or-below R sizes .1 (λ i. omega (arith, own i, f i))));
+    }
 
 -- every array has planes
 pub planes-of : (A : List ℤ) → IsPlanes A (planesOf A)

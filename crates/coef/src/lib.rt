@@ -2,11 +2,13 @@
 use refusals::Refusal;
 use sizes::LIMIT;
 ghost use mathlib.Core.Path.{_≡_};
-ghost use Prim.Native.Nat.{ℕ, _≤_, _<_, _^_, max};
+ghost use mathlib.Core.List.{map};
+ghost use Prim.Native.Nat.{_≤_, _<_, _^_};
 ghost use lib.Dec.{eqb};
 ghost use lib.ListN.{length};
 ghost use Rattle.sizes.specs.Sizes.{limit};
-ghost use Rattle.coef.specs.Coef.{negative, magnitude, signed, within, magAt, partedOf, joinedOf, firstOver, IsPlanes, floatOf, Exactly};
+ghost use Rattle.bits.specs.Bits.{orAll};
+ghost use Rattle.coef.specs.Coef.{negative, magnitude, signed, within, partedOf, joinedOf, firstOver, IsPlanes, floatOf, Exactly};
 
 pub struct Signed {
     pub negative: bool,
@@ -140,50 +142,25 @@ pub fn first_over(a: &[i32]) -> usize
     i
 }
 
-// The larger of two.
-fn larger(a: u32, b: u32) -> u32
-    ensures { λ r. ⌜ r ≡ max a b ⌝ }
+// The OR of all magnitudes. The walk has no branch, so that several entries are taken at a time.
+fn magnitudes_or(a: &[i32]) -> u32
+    ensures { λ r. ⌜ r ≡ orAll (map (λ z. magnitude z) (now (a .entry))) ⌝ }
 {
-    if a < b {
-        return b;
-    }
-    a
-}
-
-// The largest magnitude.
-fn largest(a: &[i32]) -> u32
-    ensures above { λ r. ⌜ ((i : ℕ) → magAt (now (a .entry)) i ≤ r) ⌝ }
-    ensures least { λ r. ⌜ ((m : ℕ) → ((i : ℕ) → magAt (now (a .entry)) i ≤ m) → r ≤ m) ⌝ }
-{
-    let mut most = 0u32;
+    let mut all = 0u32;
     let mut i = 0;
     while i < a.len() {
         let x = a[i];
-        most = larger(most, magnitude(x));
+        all = all | magnitude(x);
         i += 1;
     }
-    most
-}
-
-// The least k with x below 2^k.
-fn width(x: u32) -> u32
-    ensures above { λ r. ⌜ x < 2 ^ r ⌝ }
-    ensures least { λ r. ⌜ ((k : ℕ) → x < 2 ^ k → r ≤ k) ⌝ }
-{
-    let mut k = 0u32;
-    let mut left = x;
-    while 0 < left {
-        left = left / 2;
-        k += 1;
-    }
-    k
+    all
 }
 
 // The planes of an array: the least P with every magnitude below 2^P.
 pub fn planes(a: &[i32]) -> u32
     ensures { λ r. ⌜ IsPlanes (now (a .entry)) r ⌝ }
 {
-    width(largest(a))
+    32 - u32::leading_zeros(magnitudes_or(a))
 }
 
 // A coefficient as a float, which is exactly that whole number; 0 gives plus zero.

@@ -13,9 +13,10 @@ use lib.ListN.{getD, List·getD-eq-default}
 use lib.Pow.{pow-pos}
 use Rattle.sizes.specs.Sizes.{allOf, Sized}
 use Rattle.sizes.proofs.Tables.{table-length, table-at}
+use Rattle.bits.specs.Bits.{orAll}
 use Rattle.coef.specs.Coef.{magAt}
 use Rattle.tree.specs.Tree.{desc, grand, anyIn}
-use Rattle.tree.specs.Summaries.{orAll, descOr, grandOr, descTable, grandTable}
+use Rattle.tree.specs.Summaries.{descOr, grandOr, descTable, grandTable}
 use Rattle.tree.proofs.Laws.{desc-high, grand-high}
 use Rattle.nls.specs.Parts.{found, descSplit, grandSplit}
 

@@ -6,11 +6,11 @@ use lib.ListN.{replicate}
 use native.Mathlib.Omega.{arith}
 use Rattle.sizes.specs.Tables.{table}
 use Rattle.sizes.specs.Sizes.{Sized}
-use Rattle.bits.specs.Bits.{bit, packed, number}
+use Rattle.bits.specs.Bits.{bit, orAll, packed, number}
 use Rattle.places.specs.Order.{linearly, toRaster, rowOf, colOf}
 use Rattle.coef.specs.Coef.{planesOf, largest, digits}
 use Rattle.tree.specs.Tree.{children, descendants, desc, grand, anyIn}
-use Rattle.tree.specs.Summaries.{orAll, descOr, grandOr}
+use Rattle.tree.specs.Summaries.{descOr, grandOr}
 use Rattle.nls.specs.Marks.{skip, setSkip, pushFrom, pushRoots, startMarks}
 use Rattle.nls.specs.Scan.{silently, settle, ask, next, reach, start}
 use Rattle.nls.specs.Stream.{answer, answers, worstBody, stream, during}

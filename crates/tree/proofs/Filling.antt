@@ -8,8 +8,8 @@ use lib.ListN.{length, getD, take, drop, set, length-append, length-drop, take-a
 use lib.Seq.{length-take-le, take-suc, drop-cons, set-at, drop-at, getD-append-add, getD-drop, getD-take, take-append-le, take-take, drop-append-le, drop-append-add, drop-drop, ext-getD}
 use Rattle.sizes.specs.Tables.{table}
 use Rattle.sizes.proofs.Tables.{table-length, table-at, table-is}
+use Rattle.bits.specs.Bits.{orAll}
 use Rattle.tree.specs.Tree.{fours}
-use Rattle.tree.specs.Summaries.{orAll}
 use Rattle.tree.specs.Filling.{filledFrom}
 
 pub or-four : (f : ℕ → ℕ) (i : ℕ) → bitOr (f (4 * i)) (bitOr (f (4 * i + 1)) (bitOr (f (4 * i + 2)) (f (4 * i + 3)))) ≡ orAll (map f (fours i))

@@ -8,10 +8,9 @@ use borrow.Author.Tests.{leb-true, leb-false}
 use lib.Arith.{bin-ind}
 use lib.Bits.{bitOr, or-step}
 use lib.Dec.{leb}
-use Rattle.bits.specs.Bits.{bit}
-use Rattle.bits.proofs.Laws.{bit-none, bit-or, bit-top, bit-high}
+use Rattle.bits.specs.Bits.{bit, orAll}
+use Rattle.bits.proofs.Laws.{bit-none, bit-or, bit-top, bit-high, or-assoc}
 use Rattle.tree.specs.Tree.{fours, anyIn}
-use Rattle.tree.specs.Summaries.{orAll}
 
 -- every member of a list has P
 unfoldable pub Each : (ℕ → Type 0) → List ℕ → Type 0
@@ -128,17 +127,6 @@ each-four P i h = (
 )
 
 -- ---- the bitwise OR
-
-pub or-assoc : (a b c : ℕ) → bitOr (bitOr a b) c ≡ bitOr a (bitOr b c)
-or-assoc a = bin-ind (λ (a : ℕ). (b c : ℕ) → bitOr (bitOr a b) c ≡ bitOr a (bitOr b c)) (λ b c. refl) (λ n ih b c. step n b c (ih (b / 2) (c / 2))) a
-  where
-    step : (n b c : ℕ) → bitOr (bitOr (n / 2) (b / 2)) (c / 2) ≡ bitOr (n / 2) (bitOr (b / 2) (c / 2)) → bitOr (bitOr n b) c ≡ bitOr n (bitOr b c)
-    step n b c ih =
-        let p : bitOr n b / 2 ≡ bitOr (n / 2) (b / 2) = omega (arith, or-step n b) in
-        let q : bitOr n b % 2 ≡ max (n % 2) (b % 2) = omega (arith, or-step n b) in
-        let r : bitOr b c / 2 ≡ bitOr (b / 2) (c / 2) = omega (arith, or-step b c) in
-        let s : bitOr b c % 2 ≡ max (b % 2) (c % 2) = omega (arith, or-step b c) in
-        or-step (bitOr n b) c ∙ rw (p, q, ih) (sym (or-step n (bitOr b c) ∙ rw (r, s) (omega arith)))
 
 module _ (f : ℕ → ℕ) where
   pub or-append : (s t : List ℕ) → orAll (map f (s ++ t)) ≡ bitOr (orAll (map f s)) (orAll (map f t))

@@ -10,10 +10,10 @@ use lib.IntN.{ℤ}
 use lib.ListN.{getD}
 use Rattle.sizes.specs.Sizes.{allOf, coarsestOf, Sized}
 use Rattle.sizes.proofs.Laws.{coarsest-least}
-use Rattle.bits.specs.Bits.{bit}
+use Rattle.bits.specs.Bits.{bit, orAll}
 use Rattle.coef.specs.Coef.{magAt}
 use Rattle.tree.specs.Tree.{fours, desc, grand, anyIn}
-use Rattle.tree.specs.Summaries.{orAll, descOr, grandOr}
+use Rattle.tree.specs.Summaries.{descOr, grandOr}
 use Rattle.tree.specs.Filling.{childrenOr, entriesOr}
 use Rattle.tree.proofs.Lists.{each-four, or-append, or-flat, or-same, all-bit, all-top}
 use Rattle.tree.proofs.Laws.{children-some, desc-is, desc-low, grand-low, grand-high}

@@ -7,9 +7,9 @@ use lib.IntN.{ℤ}
 use lib.ListN.{length, getD, take, drop}
 use Rattle.sizes.specs.Sizes.{allOf, sideFits, levelsFit}
 use Rattle.sizes.specs.Tables.{table}
+use Rattle.bits.specs.Bits.{orAll}
 use Rattle.coef.specs.Coef.{magAt}
 use Rattle.tree.specs.Tree.{fours}
-use Rattle.tree.specs.Summaries.{orAll}
 
 -- the OR of the magnitudes of the children of place i, and of a table's entries at them
 abbrev pub childrenOr : List ℤ → ℕ → ℕ

@@ -2,16 +2,12 @@
 -- and the checks of the call that fills them ("Summaries: 1 to 5").
 use Prim.Native.Nat.{ℕ, _/_}
 use mathlib.Core.{Bool._&&_, List.List, List.[], List._∷_, List.map}
-use lib.{Bits.bitOr, Dec.leb, Dec.eqb, IntN.ℤ, ListN.length}
+use lib.{Dec.leb, Dec.eqb, IntN.ℤ, ListN.length}
 use Rattle.refusals.specs.{declared.Refusal.the-variants.Side, declared.Refusal.the-variants.Levels, declared.Refusal.the-variants.Length, declared.Refusal.the-variants.Lent, Checks.Check, Checks.need}
 use Rattle.sizes.specs.{Sizes.allOf, Sizes.sideFits, Sizes.levelsFit, Tables.table}
+use Rattle.bits.specs.Bits.{orAll}
 use Rattle.coef.specs.Coef.{magAt, coefficientCheck}
 use Rattle.tree.specs.Tree.{desc, grand}
-
--- the bitwise OR of a list of numbers
-unfoldable pub orAll : List ℕ → ℕ
-orAll [] = 0
-orAll (x ∷ rest) = bitOr x (orAll rest)
 
 -- the summary of the magnitudes of A at place i
 unfoldable pub descOr : ℕ → ℕ → List ℤ → ℕ → ℕ

@@ -2,10 +2,10 @@
 use mathlib.Core.Path.{refl}
 use mathlib.Core.List.{flatMap}
 use Rattle.sizes.specs.Tables.{table}
-use Rattle.bits.specs.Bits.{bit, packed, number}
+use Rattle.bits.specs.Bits.{bit, orAll, packed, number}
 use Rattle.coef.specs.Coef.{planesOf, largest, digits}
 use Rattle.tree.specs.Tree.{children, descendants, desc, grand}
-use Rattle.tree.specs.Summaries.{orAll, descOr, grandOr}
+use Rattle.tree.specs.Summaries.{descOr, grandOr}
 use Rattle.nls.specs.Marks.{skip, setSkip, pushFrom, pushRoots, startMarks}
 use Rattle.nls.specs.Scan.{silently, settle, ask, next, start}
 use Rattle.nls.specs.Stream.{answer, answers, stream}

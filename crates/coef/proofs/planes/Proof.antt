@@ -1,17 +1,18 @@
+use native.Mathlib.Omega.{arith}
 use borrow.Author.Needs.{needs}
-use Rattle.coef.proofs.Laws.{planes-by}
+use lib.Count.{leading-le}
+use Rattle.coef.proofs.Laws.{planes-or}
 use Rattle.coef.proofs.planes.Statement.{statement}
 use Rattle.coef.proofs.planes.Tie as tie
 
-largest-requires : tie.Need-largest-requires
-largest-requires c κs = search needs
+magnitudes-or-requires : tie.Need-magnitudes-or-requires
+magnitudes-or-requires c κs = search needs
 
-width-requires : tie.Need-width-requires
-width-requires c κs = search needs
+sub-result : tie.Need-sub-result
+sub-result c = leading-le 32 (c .magnitudes-or .result)
 
 returns : tie.Need-returns
-returns c =
-    planes-by (c .before .before .args .a .now) (c .before .largest .result) (c .width .result) (c .before .largest .ensures .0) (c .before .largest .ensures .1) (c .width .ensures .0) (c .width .ensures .1)
+returns c = planes-or (c .before .args .a .now) 32 (c .magnitudes-or .result) (c .magnitudes-or .ensures) (omega arith)
 
 pub planes-spec : {M : Type 1} → statement M
-planes-spec = tie.close (tie.spec largest-requires width-requires returns)
+planes-spec = tie.close (tie.spec magnitudes-or-requires sub-result returns)
