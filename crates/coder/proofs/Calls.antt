@@ -36,7 +36,7 @@ use Rattle.encoder.specs.declared.body.WriteAnswer.the-variants as encode
 use Rattle.decoder.specs.declared.body.ReadTo.{ReadTo}
 use Rattle.decoder.specs.declared.body.ReadAnswer.{ReadAnswer}
 use Rattle.decoder.specs.declared.body.ReadAnswer.the-variants as decode
-use Rattle.encoder.proofs.EncodeLaws.{planes-so}
+use Rattle.encoder.proofs.EncodeLaws.{planes-near}
 
 -- ---- a call of `decode` whose checks hold
 
@@ -138,7 +138,7 @@ module _ (N L : ℕ) (A : List ℤ) (offset budget : ℕ) (held left : Loan) (wr
     so : BodyRead N L P u given read after
     so =
         let planes : w .planes ≡ P = ap (λ (x : Written). x .planes) (checked .1) in
-        let few = planes-so N L A (length (held .descs)) (length (held .grands)) (length (held .out) - offset) budget (ready .0) P (planes-of A) .1 in
+        let few = planes-near N L A (length (held .descs)) (length (held .grands)) (length (held .out) - offset) budget (ready .0) in
         let well : firstOf (readChecks N L P (length (given .values)) (length (given .precisions)) (length (given .marks))) ≡ outcome.Done =
         sym (decode-well N L P (length (given .values)) (length (given .precisions)) (length (given .marks)) (ready .0 .side) (ready .0 .levels) few hv hp hm) in
         subst (λ (o : Outcome). ReadsTo o N L P u given read after) well

@@ -8,16 +8,16 @@ use lib.ListN.{length, getD, take, drop, length-take, length-drop, List·getD-ap
 use lib.Seq.{take-all, drop-drop, drop-length}
 use Rattle.refusals.specs.Checks.{firstOf, lentAfter}
 use Rattle.refusals.specs.declared.Outcome.{Outcome}
-use Rattle.refusals.specs.declared.Outcome.the-variants.{Done}
+use Rattle.refusals.proofs.Laws.{lent-done}
 use Rattle.sizes.specs.Sizes.{mostPlanes, allOf, coarsestOf, Sized}
 use Rattle.sizes.specs.Tables.{table}
 use Rattle.sizes.proofs.Laws.{side-least, side-most, sized, coarsest-least, all-sixteen}
 use Rattle.sizes.proofs.Tables.{table-length, table-at}
 use Rattle.bits.specs.Bits.{bytesFor, packed}
-use Rattle.coef.specs.Coef.{IsPlanes, planesOf}
-use Rattle.coef.proofs.Laws.{first-all, planes-one, planes-most, planes-of}
-use Rattle.tree.specs.Summaries.{descOr, grandOr, descTable, grandTable, summaryChecks}
-use Rattle.tree.proofs.Checks.{all-well}
+use Rattle.coef.specs.Coef.{planesOf}
+use Rattle.coef.proofs.Laws.{first-all, planes-most, planes-of}
+use Rattle.tree.specs.Summaries.{descOr, grandOr, descTable, grandTable, fillChecks}
+use Rattle.tree.proofs.Checks.{fill-well}
 use Rattle.nls.specs.Marks.{startMarks}
 use Rattle.nls.specs.Stream.{stream, worstBody}
 use Rattle.room.specs.Ready.{EncodeReady}
@@ -41,19 +41,19 @@ module _ (N L : ℕ) (A : List ℤ) (descs grands outs budget : ℕ) (ready : En
   z : Sized N L
   z = sized N L (ready .levels)
 
-  -- the planes are those of the array, and no more than there may be
-  pub planes-so : (P : ℕ) → IsPlanes A P → (P ≡ planesOf A) × (P ≤ mostPlanes)
-  planes-so P p = (planes-one p (planes-of A), planes-most p (first-all A (ready .limited)))
+  -- the array has no more planes than there may be
+  pub planes-near : planesOf A ≤ mostPlanes
+  planes-near = planes-most (planes-of A) (first-all A (ready .limited))
 
   -- the summaries are filled
-  pub filled : (r : Outcome) (own held now : List ℕ) → r ≡ firstOf (summaryChecks N L A descs grands) → now ≡ lentAfter r own held → now ≡ own ++ drop (length own) held
-  filled r own held now is e =
-      let done : r ≡ Done = is ∙ sym (all-well N L A descs grands (ready .side) (ready .levels) (ready .whole) (omega (arith, ready .limited)) (ready .descRoom) (ready .grandRoom)) in
-      e ∙ ap (λ (x : Outcome). lentAfter x own held) done
+  pub filled : {r : Outcome} (own held now : List ℕ) → r ≡ firstOf (fillChecks N L (length A) descs grands) → now ≡ lentAfter r own held → now ≡ own ++ drop (length own) held
+  filled {r} own held now is e =
+      let done = fill-well N L A descs grands (record { side = ready .side; levels = ready .levels; whole = ready .whole; descRoom = ready .descRoom; grandRoom = ready .grandRoom }) in
+      e ∙ lent-done r own held (is ∙ done)
 
   -- the bytes have room for every bit under the cap
-  pub room-so : (P cap : ℕ) → P ≡ planesOf A → cap ≡ min budget (worstBody N L P) → cap ≤ 8 * outs
-  room-so P cap ep ek = let cut : cap ≡ min budget (worstBody N L (planesOf A)) = ek ∙ ap (λ (x : ℕ). min budget (worstBody N L x)) ep in omega (arith, cut, ready .outRoom)
+  pub room-so : (cap : ℕ) → cap ≡ min budget (worstBody N L (planesOf A)) → cap ≤ 8 * outs
+  room-so cap ek = omega (arith, ek, ready .outRoom)
 
   pub tables-so : (all : ℕ) (d g : List ℕ) → all ≡ allOf N → length d ≡ descs → length g ≡ grands → Summed d g all
   tables-so all d g ea ed eg =
@@ -68,16 +68,15 @@ module _ (N L : ℕ) (A : List ℤ) (descs grands outs budget : ℕ) (ready : En
         }
 
     module _ (m₀ out₀ m out : List ℕ) (n P cap all coarsest : ℕ) (eo : length out₀ ≡ outs) (ep : P ≡ planesOf A) (ea : all ≡ allOf N) (ec : coarsest ≡ coarsestOf N L)
-        (ek : cap ≡ min budget (worstBody N L P)) (em : m₀ ≡ startMarks all coarsest) where
+        (ek : cap ≡ min budget (worstBody N L (planesOf A))) (em : m₀ ≡ startMarks all coarsest) where
       -- the bits, the marks and the bytes are those of the stream, cut at the budget
       pub written : Holds (planes (scanOf (writer A d g cap) all) P (st m₀ out₀ 0)) n m out
           → (n ≡ length (sentBits N L A budget)) × (m ≡ sentMarks N L A budget) × (out ≡ packed (sentBits N L A budget) ++ drop (bytesFor (length (sentBits N L A budget))) out₀)
       written h =
-          let cut : cap ≡ min budget (worstBody N L (planesOf A)) = ek ∙ ap (λ (x : ℕ). min budget (worstBody N L x)) ep in
           let begun : m₀ ≡ startMarks (allOf N) (coarsestOf N L) = em ∙ rw (ea, ec) in
           let same : planes (scanOf (writer A d g cap) all) P (st m₀ out₀ 0) ≡ planes (scanOf (writer A d g cap) (allOf N)) (planesOf A) (st (startMarks (allOf N) (coarsestOf N L)) out₀ 0) = rw (ea, ep, begun) in
           let p =
-          sends N L (planesOf A) A d g says cap out₀ (omega (arith, cut, eo, ready .outRoom)) z (planes-of A) budget cut
+          sends N L (planesOf A) A d g says cap out₀ (omega (arith, ek, eo, ready .outRoom)) z (planes-of A) budget ek
           (omega (arith, side-least N (ready .side))) (side-most N (ready .side)) (coarsest-least N L z) in (
             h .count ∙ ap (λ (x : Ran (Sv Bytes)). last x .rest .n) same ∙ p .count,
             h .marked ∙ ap (λ (x : Ran (Sv Bytes)). last x .marks) same ∙ p .marked,

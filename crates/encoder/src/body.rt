@@ -23,7 +23,7 @@ pub enum WriteAnswer {
     Refused(Refusal),
 }
 
-// Writes the body of an array whose checks hold: fills the summaries and the I marks, and puts the bits from the first byte on.
+// Writes the body of an array of so many planes, whose checks hold: fills the summaries and the I marks, and puts the bits from the first byte on.
 fn write(
     n: u32,
     l: u32,
@@ -33,19 +33,19 @@ fn write(
     marks: &mut [u8],
     out: &mut [u8],
     budget: u32,
+    planes: u32,
 ) -> Written
-    requires { ⌜ EncodeReady n l (now coefs) (length (now desc)) (length (now grand)) (length (now out)) budget × (length (now marks) ≡ allOf n) ⌝ }
+    requires { ⌜ EncodeReady n l (now coefs) (length (now desc)) (length (now grand)) (length (now out)) budget × (length (now marks) ≡ allOf n) × (planes ≡ planesOf (now coefs)) ⌝ }
     ensures { λ r. ⌜ r ≡ record { planes = planesOf (now (coefs .entry)); bits = length (sentBits n l (now (coefs .entry)) budget) } ⌝ }
     ensures { λ r. ⌜ now (desc .exit) ≡ descTable n l (now (coefs .entry)) ++ drop (length (descTable n l (now (coefs .entry)))) (now (desc .entry)) ⌝ }
     ensures { λ r. ⌜ now (grand .exit) ≡ grandTable n l (now (coefs .entry)) ++ drop (length (grandTable n l (now (coefs .entry)))) (now (grand .entry)) ⌝ }
     ensures { λ r. ⌜ now (marks .exit) ≡ sentMarks n l (now (coefs .entry)) budget ⌝ }
     ensures { λ r. ⌜ now (out .exit) ≡ packed (sentBits n l (now (coefs .entry)) budget) ++ drop (bytesFor (length (sentBits n l (now (coefs .entry)) budget))) (now (out .entry)) ⌝ }
 {
-    tree::summaries(n, l, coefs, desc, grand);
+    let most = room::most_bits(n, l, planes, budget);
+    tree::fill(n, l, coefs, desc, grand);
     let all = sizes::all_of(n);
     marking::start(marks, sizes::coarsest_of(n, l));
-    let planes = coef::planes(coefs);
-    let most = room::most_bits(n, l, planes, budget);
     let bits = crate::writing::scan(
         coefs,
         &desc[..],
@@ -65,6 +65,7 @@ fn write(
 
 // Writes the body of a linear array of coefficients from `offset` on, at most `budget` bits of it.
 // The tables are filled from whatever they held: I/4, I/16 and I entries.
+// The checks of the summaries come first; then P is found, once, and enters those of the marks and the output.
 pub fn encode(
     n: u32,
     l: u32,
@@ -78,31 +79,26 @@ pub fn encode(
 ) -> WriteAnswer
     ensures { λ r. ⌜ Writes n l (now (coefs .entry)) offset budget (loan (now (desc .entry)) (now (grand .entry)) (now (marks .entry)) (now (out .entry))) r (loan (now (desc .exit)) (now (grand .exit)) (now (marks .exit)) (now (out .exit))) ⌝ }
 {
-    match room::check_encode(
+    let first = tree::check(n, l, coefs, desc.len(), grand.len());
+    if let Outcome::Refused(why) = first {
+        return WriteAnswer::Refused(why);
+    }
+    let planes = coef::planes(coefs);
+    let rest = room::check_encode(n, l, planes, marks.len(), out.len(), offset, budget);
+    if let Outcome::Refused(why) = rest {
+        return WriteAnswer::Refused(why);
+    }
+    let all = sizes::all_of(n);
+    let written = write(
         n,
         l,
         coefs,
-        desc.len(),
-        grand.len(),
-        marks.len(),
-        out.len(),
-        offset,
+        desc,
+        grand,
+        &mut marks[..all],
+        &mut out[offset..],
         budget,
-    ) {
-        Outcome::Done => {
-            let all = sizes::all_of(n);
-            let written = write(
-                n,
-                l,
-                coefs,
-                desc,
-                grand,
-                &mut marks[..all],
-                &mut out[offset..],
-                budget,
-            );
-            WriteAnswer::Done(written)
-        }
-        Outcome::Refused(why) => WriteAnswer::Refused(why),
-    }
+        planes,
+    );
+    WriteAnswer::Done(written)
 }

@@ -77,6 +77,14 @@ first-then-refused (check ∷ rest) more why e = tell (check .holds) refl (λ f.
     tell false h later =
         first-fails (check .holds) (check .otherwise) (rest ++ more) h ∙ sym (first-fails (check .holds) (check .otherwise) rest h) ∙ e
 
+-- the same by the outcome of the first list
+module _ (first more : List Check) {r : Outcome} (is : r ≡ firstOf first) where
+  pub refused-first : (why : Refusal) → r ≡ Refused why → Refused why ≡ firstOf (first ++ more)
+  refused-first why e = sym (first-then-refused first more why (sym is ∙ e))
+
+  pub then-more : r ≡ Done → {w : Outcome} → w ≡ firstOf more → w ≡ firstOf (first ++ more)
+  then-more e v = v ∙ sym (first-then-done first more (sym is ∙ e))
+
 -- a lent table after a call that is done, and after one that is refused
 module _ {A : Type 0} (answer : Outcome) (own held : List A) where
   pub lent-done : answer ≡ Done → lentAfter answer own held ≡ own ++ drop (length own) held

@@ -15,11 +15,12 @@ use Rattle.refusals.specs.declared.Refusal.{Refusal}
 use Rattle.refusals.specs.declared.Refusal.the-variants.{Side, Levels, Lent, Output, Planes}
 use Rattle.refusals.specs.declared.Outcome.{Outcome}
 use Rattle.refusals.specs.declared.Outcome.the-variants.{Done, Refused}
-use Rattle.refusals.proofs.Laws.{first-then-done, first-then-refused, AllHold, passed}
+use Rattle.refusals.proofs.Laws.{first-then-done, refused-first, then-more, AllHold, passed}
 use Rattle.sizes.specs.Sizes.{mostN, allOf, coarsestOf, sideFits, levelsFit, mostPlanes}
 use Rattle.sizes.proofs.Laws.{both-left, both-right, sized, side-most, all-most, coarsest-least, coarsest-all, coarsest-four}
 use Rattle.bits.specs.Bits.{bytesFor}
-use Rattle.coef.specs.Coef.{firstOver, planesOf}
+use Rattle.coef.specs.Coef.{firstOver, IsPlanes, planesOf}
+use Rattle.coef.proofs.Laws.{first-all, planes-one, planes-most, planes-of}
 use Rattle.nls.specs.Stream.{worstBody}
 use Rattle.nls.proofs.Worst.{worst-none, worst-some}
 use Rattle.room.specs.Ready.{EncodeReady}
@@ -56,15 +57,6 @@ module _ (N L P : ℕ) where
 pub most-so : (N L P budget : ℕ) → sideFits N ≡ true → levelsFit N L ≡ true → P ≤ mostPlanes → mostBits budget (worstAnswer N L P (firstOf (worstChecks N L P))) ≡ min budget (worstBody N L P)
 most-so N L P budget s l p = sym (ap (λ (o : Outcome). mostBits budget (worstAnswer N L P o)) (worst-well N L P s l p))
 
--- ---- one list of checks after another
-
-module _ (first more : List Check) {r : Outcome} (is : r ≡ firstOf first) where
-  pub refused-first : (why : Refusal) → r ≡ Refused why → Refused why ≡ firstOf (first ++ more)
-  refused-first why e = sym (first-then-refused first more why (sym is ∙ e))
-
-  pub then-more : r ≡ Done → {w : Outcome} → w ≡ firstOf more → w ≡ firstOf (first ++ more)
-  then-more e v = v ∙ sym (first-then-done first more (sym is ∙ e))
-
 -- ---- decoding
 
 module _ (N L P values precisions marks : ℕ) where
@@ -99,25 +91,34 @@ module _ (N L P values precisions marks : ℕ) where
 
 -- ---- encoding
 
-module _ (N L : ℕ) (A : List ℤ) (marks out offset budget : ℕ) where
-  pub no-marks : marks < allOf N → Refused Lent ≡ firstOf (roomChecks N L A marks out offset budget)
+module _ (N L P marks out offset budget : ℕ) where
+  pub no-marks : marks < allOf N → Refused Lent ≡ firstOf (roomChecks N L P marks out offset budget)
   unfolding firstOf
   no-marks m = rw (lt-leb (allOf N) marks m)
 
   module _ (m : allOf N ≤ marks) where
-    pub no-output : leb (offset + bytesFor (min budget (worstBody N L (planesOf A)))) out ≡ false → Refused Output ≡ firstOf (roomChecks N L A marks out offset budget)
+    pub no-output : leb (offset + bytesFor (min budget (worstBody N L P))) out ≡ false → Refused Output ≡ firstOf (roomChecks N L P marks out offset budget)
     unfolding firstOf
     no-output r = rw (le-leb (allOf N) marks m, r)
 
-    pub room-well : leb (offset + bytesFor (min budget (worstBody N L (planesOf A)))) out ≡ true → Done ≡ firstOf (roomChecks N L A marks out offset budget)
+    pub room-well : leb (offset + bytesFor (min budget (worstBody N L P))) out ≡ true → Done ≡ firstOf (roomChecks N L P marks out offset budget)
     unfolding firstOf
     room-well r = rw (le-leb (allOf N) marks m, r)
 
 module _ (N L : ℕ) (A : List ℤ) (descs grands marks out offset budget : ℕ) where
-  -- what holds where the summaries' checks do
-  pub summaries-met : firstOf (summaryChecks N L A descs grands) ≡ Done → (sideFits N ≡ true) × (levelsFit N L ≡ true) × (firstOver A ≡ length A)
+  -- the checks of the summaries, then those of a body of the array's planes
+  pub checked-first : {r : Outcome} → r ≡ firstOf (summaryChecks N L A descs grands) → (why : Refusal) → r ≡ Refused why → Refused why ≡ firstOf (writeChecks N L A descs grands marks out offset budget)
+  checked-first is why e = refused-first (summaryChecks N L A descs grands) (roomChecks N L (planesOf A) marks out offset budget) is why e
+
+  pub checked-then : {r : Outcome} → r ≡ firstOf (summaryChecks N L A descs grands) → r ≡ Done → {P : ℕ} → IsPlanes A P
+      → {w : Outcome} → w ≡ firstOf (worstChecks N L P ++ roomChecks N L P marks out offset budget) → w ≡ firstOf (writeChecks N L A descs grands marks out offset budget)
   unfolding AllHold
-  summaries-met is = let all = passed (summaryChecks N L A descs grands) is in (all .0, all .1 .0, eqb-true (firstOver A) (length A) (all .1 .1 .1 .0))
+  checked-then is e {P} p {w} v =
+      let all = passed (summaryChecks N L A descs grands) (sym is ∙ e) in
+      let few = planes-most p (first-all A (eqb-true (firstOver A) (length A) (all .1 .1 .1 .0))) in
+      let room : w ≡ firstOf (roomChecks N L P marks out offset budget) = v ∙ first-then-done (worstChecks N L P) (roomChecks N L P marks out offset budget) (sym (worst-well N L P (all .0) (all .1 .0) few)) in
+      then-more (summaryChecks N L A descs grands) (roomChecks N L (planesOf A) marks out offset budget) is e
+      (room ∙ ap (λ (x : ℕ). firstOf (roomChecks N L x marks out offset budget)) (planes-one p (planes-of A)))
 
   pub encode-ready : Done ≡ firstOf (writeChecks N L A descs grands marks out offset budget) → EncodeReady N L A descs grands (out - offset) budget × (allOf N ≤ marks) × (offset ≤ out)
   unfolding AllHold

@@ -30,12 +30,12 @@ mostBits budget (worst.Refused why) = budget
 
 -- "Encoding checks 1 to 6 in that order.": those of the summaries, then the marks and the output.
 -- `descs`, `grands`, `marks` and `out` are the lengths of what is lent; the body begins at `offset`.
-abbrev pub roomChecks : ℕ → ℕ → List ℤ → ℕ → ℕ → ℕ → ℕ → List Check
-roomChecks N L A marks out offset budget =
-    need (leb (allOf N) marks) Lent ∷ need (leb (offset + bytesFor (min budget (worstBody N L (planesOf A)))) out) Output ∷ []
+abbrev pub roomChecks : ℕ → ℕ → ℕ → ℕ → ℕ → ℕ → ℕ → List Check
+roomChecks N L P marks out offset budget =
+    need (leb (allOf N) marks) Lent ∷ need (leb (offset + bytesFor (min budget (worstBody N L P))) out) Output ∷ []
 
 abbrev pub writeChecks : ℕ → ℕ → List ℤ → ℕ → ℕ → ℕ → ℕ → ℕ → ℕ → List Check
-writeChecks N L A descs grands marks out offset budget = summaryChecks N L A descs grands ++ roomChecks N L A marks out offset budget
+writeChecks N L A descs grands marks out offset budget = summaryChecks N L A descs grands ++ roomChecks N L (planesOf A) marks out offset budget
 
 -- ---- decoding
 

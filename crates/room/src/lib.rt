@@ -3,15 +3,14 @@ use refusals::Outcome;
 use refusals::Refusal;
 ghost use mathlib.Core.Path.{_≡_};
 ghost use mathlib.Core.Bool.{true};
+ghost use mathlib.Core.List.{_++_};
 ghost use Prim.Native.Nat.{_+_, _*_, _≤_, min};
 ghost use lib.Dec.{leb};
-ghost use lib.ListN.{length};
 ghost use Rattle.refusals.specs.Checks.{firstOf};
 ghost use Rattle.sizes.specs.Sizes.{sideFits, levelsFit, mostPlanes};
 ghost use Rattle.bits.specs.Bits.{bytesFor};
 ghost use Rattle.nls.specs.Stream.{worstBody};
-ghost use Rattle.coef.specs.Coef.{firstOver};
-ghost use Rattle.room.specs.Room.{worstChecks, worstAnswer, mostBits, roomChecks, writeChecks, tableChecks, readChecks};
+ghost use Rattle.room.specs.Room.{worstChecks, worstAnswer, mostBits, roomChecks, tableChecks, readChecks};
 
 // What `worst_body` answers.
 pub enum WorstAnswer {
@@ -88,49 +87,43 @@ pub fn most_bits(n: u32, l: u32, p: u32, budget: u32) -> u32
     }
 }
 
-// The refusal of marks or an output that are too short, after the checks of the summaries.
+// The refusal of marks or an output that are too short, for sizes in range.
 fn check_room(
     n: u32,
     l: u32,
-    coefs: &[i32],
+    p: u32,
     marks: usize,
     out: usize,
     offset: usize,
     budget: u32,
 ) -> Outcome
-    requires { ⌜ (sideFits n ≡ true) × (levelsFit n l ≡ true) × (firstOver (now coefs) ≡ length (now coefs)) ⌝ }
-    ensures { λ r. ⌜ r ≡ firstOf (roomChecks n l (now (coefs .entry)) marks out offset budget) ⌝ }
+    requires { ⌜ (sideFits n ≡ true) × (levelsFit n l ≡ true) × (p ≤ mostPlanes) ⌝ }
+    ensures { λ r. ⌜ r ≡ firstOf (roomChecks n l p marks out offset budget) ⌝ }
 {
     if marks < sizes::all_of(n) {
         return Outcome::Refused(Refusal::Lent);
     }
-    if !has_room(
-        out,
-        offset,
-        sizes::smaller(budget, worst_of(n, l, coef::planes(coefs))),
-    ) {
+    if !has_room(out, offset, sizes::smaller(budget, worst_of(n, l, p))) {
         return Outcome::Refused(Refusal::Output);
     }
     Outcome::Done
 }
 
-// The first of refusals 1 to 6 that holds, if any.
+// The first of refusals 1, 2, 9, 5 and 6 that holds, if any, for the marks and the output of an array of p planes.
 pub fn check_encode(
     n: u32,
     l: u32,
-    coefs: &[i32],
-    descs: usize,
-    grands: usize,
+    p: u32,
     marks: usize,
     out: usize,
     offset: usize,
     budget: u32,
 ) -> Outcome
-    ensures { λ r. ⌜ r ≡ firstOf (writeChecks n l (now (coefs .entry)) descs grands marks out offset budget) ⌝ }
+    ensures { λ r. ⌜ r ≡ firstOf (worstChecks n l p ++ roomChecks n l p marks out offset budget) ⌝ }
 {
-    let checked = tree::check(n, l, coefs, descs, grands);
+    let checked = check_worst(n, l, p);
     match checked {
-        Outcome::Done => check_room(n, l, coefs, marks, out, offset, budget),
+        Outcome::Done => check_room(n, l, p, marks, out, offset, budget),
         Outcome::Refused(why) => Outcome::Refused(why),
     }
 }

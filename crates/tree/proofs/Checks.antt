@@ -1,7 +1,7 @@
--- The answer of the checks of `summaries`, for each check that may fail first and for none; and what they say where they are passed.
-use mathlib.Core.Path.{_≡_, sym, _∙_}
+-- The answers of the checks of `summaries` and of `fill`, for each check that may fail first and for none; and what they say where they are passed.
+use mathlib.Core.Path.{_≡_, sym, ap, _∙_}
 use mathlib.Core.Bool.{true, false}
-use mathlib.Core.List.{List}
+use mathlib.Core.List.{List, _∷_}
 use Prim.Native.Nat.{ℕ, _/_, _≤_, _<_}
 use native.Mathlib.Omega.{arith}
 use borrow.Author.Tests.{eqb-true, eq-eqb, ne-eqb, leb-true, le-leb, lt-leb}
@@ -12,57 +12,76 @@ use Rattle.refusals.specs.Checks.{firstOf}
 use Rattle.refusals.specs.declared.Refusal.the-variants.{Side, Levels, Length, Coefficient, Lent}
 use Rattle.refusals.specs.declared.Outcome.{Outcome}
 use Rattle.refusals.specs.declared.Outcome.the-variants.{Done, Refused}
-use Rattle.refusals.proofs.Laws.{AllHold, passed}
+use Rattle.refusals.proofs.Laws.{first-holds, first-fails, then-more, AllHold, passed, all-pass}
 use Rattle.sizes.specs.Sizes.{allOf, sideFits, levelsFit}
-use Rattle.sizes.proofs.Laws.{both-left, both-right}
-use Rattle.coef.specs.Coef.{firstOver}
+use Rattle.sizes.proofs.Laws.{both-left, both-right, both}
+use Rattle.coef.specs.Coef.{firstOver, coefficientCheck}
 use Rattle.coef.proofs.Laws.{first-le}
-use Rattle.tree.specs.Summaries.{summaryChecks}
+use Rattle.tree.specs.Summaries.{sizeChecks, lentChecks, summaryChecks, fillChecks}
 use Rattle.tree.specs.Filling.{Ready}
 
-module _ (N L : ℕ) (A : List ℤ) (descs grands : ℕ) where
-  pub no-side : sideFits N ≡ false → Refused Side ≡ firstOf (summaryChecks N L A descs grands)
+-- ---- numbers 1 to 3
+
+module _ (N L count : ℕ) where
+  pub no-side : sideFits N ≡ false → Refused Side ≡ firstOf (sizeChecks N L count)
   unfolding firstOf
   no-side s = rw s
 
   module _ (s : sideFits N ≡ true) where
-    pub no-levels : levelsFit N L ≡ false → Refused Levels ≡ firstOf (summaryChecks N L A descs grands)
+    pub no-levels : levelsFit N L ≡ false → Refused Levels ≡ firstOf (sizeChecks N L count)
     unfolding firstOf
     no-levels l = rw (s, l)
 
     module _ (l : levelsFit N L ≡ true) where
-      pub no-length : (length A ≡ allOf N → ⊥) → Refused Length ≡ firstOf (summaryChecks N L A descs grands)
+      pub no-length : (count ≡ allOf N → ⊥) → Refused Length ≡ firstOf (sizeChecks N L count)
       unfolding firstOf
-      no-length w = rw (s, l, ne-eqb (length A) (allOf N) w)
+      no-length w = rw (s, l, ne-eqb count (allOf N) w)
 
-      module _ (w : length A ≡ allOf N) where
-        pub no-coefficient : firstOver A < length A → Refused (Coefficient (firstOver A)) ≡ firstOf (summaryChecks N L A descs grands)
-        unfolding firstOf
-        no-coefficient o = rw (s, l, eq-eqb (length A) (allOf N) w, ne-eqb (firstOver A) (length A) (λ (e : firstOver A ≡ length A). omega arith))
+      pub sizes-well : count ≡ allOf N → Done ≡ firstOf (sizeChecks N L count)
+      unfolding firstOf
+      sizes-well w = rw (s, l, eq-eqb count (allOf N) w)
 
-        module _ (o : length A ≤ firstOver A) where
-          within-limit : eqb (firstOver A) (length A) ≡ true
-          within-limit = eq-eqb (firstOver A) (length A) (omega (arith, first-le A))
-
-          pub no-desc : descs < allOf N / 4 → Refused Lent ≡ firstOf (summaryChecks N L A descs grands)
-          unfolding firstOf
-          no-desc d = rw (s, l, eq-eqb (length A) (allOf N) w, within-limit, lt-leb (allOf N / 4) descs d)
-
-          module _ (d : allOf N / 4 ≤ descs) where
-            pub no-grand : grands < allOf N / 16 → Refused Lent ≡ firstOf (summaryChecks N L A descs grands)
-            unfolding firstOf
-            no-grand g = rw (s, l, eq-eqb (length A) (allOf N) w, within-limit, le-leb (allOf N / 4) descs d, lt-leb (allOf N / 16) grands g)
-
-            pub all-well : allOf N / 16 ≤ grands → Done ≡ firstOf (summaryChecks N L A descs grands)
-            unfolding firstOf
-            all-well g = rw (s, l, eq-eqb (length A) (allOf N) w, within-limit, le-leb (allOf N / 4) descs d, le-leb (allOf N / 16) grands g)
-
-  -- passed, they say what the fill asks
-  pub ready : (r : Outcome) → r ≡ firstOf (summaryChecks N L A descs grands) → r ≡ Done → Ready N L A descs grands
+  pub sizes-met : {r : Outcome} → r ≡ firstOf (sizeChecks N L count) → r ≡ Done → (sideFits N ≡ true) × (levelsFit N L ≡ true) × (count ≡ allOf N)
   unfolding AllHold
-  ready r is done =
-      let all = passed (summaryChecks N L A descs grands) (sym is ∙ done) in
-      let rooms = all .1 .1 .1 .1 .0 in
+  sizes-met is e = let all = passed (sizeChecks N L count) (sym is ∙ e) in (all .0, all .1 .0, eqb-true count (allOf N) (all .1 .1 .0))
+
+-- ---- number 5
+
+module _ (all descs grands : ℕ) where
+  pub no-desc : descs < all / 4 → Refused Lent ≡ firstOf (lentChecks all descs grands)
+  unfolding firstOf
+  no-desc d = rw (lt-leb (all / 4) descs d)
+
+  module _ (d : all / 4 ≤ descs) where
+    pub no-grand : grands < all / 16 → Refused Lent ≡ firstOf (lentChecks all descs grands)
+    unfolding firstOf
+    no-grand g = rw (le-leb (all / 4) descs d, lt-leb (all / 16) grands g)
+
+    pub lent-well : all / 16 ≤ grands → Done ≡ firstOf (lentChecks all descs grands)
+    unfolding firstOf
+    lent-well g = rw (le-leb (all / 4) descs d, le-leb (all / 16) grands g)
+
+module _ (N L : ℕ) (A : List ℤ) (descs grands : ℕ) where
+  -- ---- number 4, between them
+  module _ {r : Outcome} (is : r ≡ firstOf (sizeChecks N L (length A))) (done : r ≡ Done) where
+    pub no-coefficient : firstOver A < length A → Refused (Coefficient (firstOver A)) ≡ firstOf (summaryChecks N L A descs grands)
+    no-coefficient o =
+        then-more (sizeChecks N L (length A)) (coefficientCheck A ∷ lentChecks (allOf N) descs grands) is done
+        (sym (first-fails (eqb (firstOver A) (length A)) (Coefficient (firstOver A)) (lentChecks (allOf N) descs grands) (ne-eqb (firstOver A) (length A) (λ (e : firstOver A ≡ length A). omega arith))))
+
+    pub within-limit : length A ≤ firstOver A → {w : Outcome} → w ≡ firstOf (lentChecks (length A) descs grands) → w ≡ firstOf (summaryChecks N L A descs grands)
+    within-limit o v =
+        then-more (sizeChecks N L (length A)) (coefficientCheck A ∷ lentChecks (allOf N) descs grands) is done
+        (v ∙ ap (λ (x : ℕ). firstOf (lentChecks x descs grands)) (sizes-met N L (length A) is done .2)
+        ∙ sym (first-holds (eqb (firstOver A) (length A)) (Coefficient (firstOver A)) (lentChecks (allOf N) descs grands) (eq-eqb (firstOver A) (length A) (omega (arith, first-le A)))))
+
+  -- ---- where they are passed
+
+  -- those of `fill` say what the fill asks, and nothing more
+  asks : AllHold (fillChecks N L (length A) descs grands) → Ready N L A descs grands
+  unfolding AllHold
+  asks all =
+      let rooms = all .1 .1 .1 .0 in
       record {
         side = all .0;
         levels = all .1 .0;
@@ -70,3 +89,19 @@ module _ (N L : ℕ) (A : List ℤ) (descs grands : ℕ) where
         descRoom = leb-true (allOf N / 4) descs (both-left (leb (allOf N / 4) descs) (leb (allOf N / 16) grands) rooms);
         grandRoom = leb-true (allOf N / 16) grands (both-right (leb (allOf N / 4) descs) (leb (allOf N / 16) grands) rooms);
       }
+
+  pub fill-ready : {r : Outcome} → r ≡ firstOf (fillChecks N L (length A) descs grands) → r ≡ Done → Ready N L A descs grands
+  fill-ready is done = asks (passed (fillChecks N L (length A) descs grands) (sym is ∙ done))
+
+  pub fill-well : Ready N L A descs grands → firstOf (fillChecks N L (length A) descs grands) ≡ Done
+  unfolding AllHold
+  fill-well r =
+      all-pass (fillChecks N L (length A) descs grands)
+      (r .side, (r .levels, (eq-eqb (length A) (allOf N) (r .whole), (both (le-leb (allOf N / 4) descs (r .descRoom)) (le-leb (allOf N / 16) grands (r .grandRoom)), tt))))
+
+  -- those of `summaries` say that too
+  pub ready : {r : Outcome} → r ≡ firstOf (summaryChecks N L A descs grands) → r ≡ Done → Ready N L A descs grands
+  unfolding AllHold
+  ready is done =
+      let all = passed (summaryChecks N L A descs grands) (sym is ∙ done) in
+      asks (all .0, (all .1 .0, (all .1 .1 .0, (all .1 .1 .1 .1 .0, tt))))

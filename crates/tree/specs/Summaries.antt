@@ -1,7 +1,7 @@
 -- The summaries (document 01: "the bitwise OR of magnitudes over DESC(i) and GRAND(i): I/4 and I/16 numbers"),
 -- and the checks of the call that fills them ("Summaries: 1 to 5").
 use Prim.Native.Nat.{ℕ, _/_}
-use mathlib.Core.{Bool._&&_, List.List, List.[], List._∷_, List.map}
+use mathlib.Core.{Bool._&&_, List.List, List.[], List._∷_, List._++_, List.map}
 use lib.{Dec.leb, Dec.eqb, IntN.ℤ, ListN.length}
 use Rattle.refusals.specs.{declared.Refusal.the-variants.Side, declared.Refusal.the-variants.Levels, declared.Refusal.the-variants.Length, declared.Refusal.the-variants.Lent, Checks.Check, Checks.need}
 use Rattle.sizes.specs.{Sizes.allOf, Sizes.sideFits, Sizes.levelsFit, Tables.table}
@@ -23,8 +23,18 @@ descTable N L A = table (allOf N / 4) (λ i. descOr N L A i)
 abbrev pub grandTable : ℕ → ℕ → List ℤ → List ℕ
 grandTable N L A = table (allOf N / 16) (λ i. grandOr N L A i)
 
+-- numbers 1 to 3: sizes in range, and a coefficient for each place
+abbrev pub sizeChecks : ℕ → ℕ → ℕ → List Check
+sizeChecks N L count = need (sideFits N) Side ∷ need (levelsFit N L) Levels ∷ need (eqb count (allOf N)) Length ∷ []
+
+-- number 5: the lengths of the two lent tables, for `all` coefficients
+abbrev pub lentChecks : ℕ → ℕ → ℕ → List Check
+lentChecks all descs grands = need (leb (all / 4) descs && leb (all / 16) grands) Lent ∷ []
+
 -- the coefficients, and the lengths of the two lent tables
 abbrev pub summaryChecks : ℕ → ℕ → List ℤ → ℕ → ℕ → List Check
-summaryChecks N L A descs grands =
-    need (sideFits N) Side ∷ need (levelsFit N L) Levels ∷ need (eqb (length A) (allOf N)) Length ∷ coefficientCheck A
-    ∷ need (leb (allOf N / 4) descs && leb (allOf N / 16) grands) Lent ∷ []
+summaryChecks N L A descs grands = sizeChecks N L (length A) ++ (coefficientCheck A ∷ lentChecks (allOf N) descs grands)
+
+-- those that ask nothing of a coefficient: the tables can be filled whatever the magnitudes
+abbrev pub fillChecks : ℕ → ℕ → ℕ → ℕ → ℕ → List Check
+fillChecks N L count descs grands = sizeChecks N L count ++ lentChecks (allOf N) descs grands

@@ -9,7 +9,7 @@ ghost use Rattle.refusals.specs.Checks.{firstOf, lentAfter};
 ghost use Rattle.sizes.specs.Sizes.{allOf, coarsestOf};
 ghost use Rattle.sizes.specs.Tables.{table};
 ghost use Rattle.coef.specs.Coef.{magAt};
-ghost use Rattle.tree.specs.Summaries.{descTable, grandTable, summaryChecks};
+ghost use Rattle.tree.specs.Summaries.{descTable, grandTable, sizeChecks, lentChecks, summaryChecks, fillChecks};
 ghost use Rattle.tree.specs.Filling.{childrenOr, childrenTable, entriesOr, filledFrom, Ready};
 
 // The magnitude of the coefficient at place j.
@@ -89,7 +89,7 @@ fn clear(held: &mut [u32], count: usize)
 }
 
 // Fills both tables, from whatever they held.
-fn fill(n: u32, l: u32, coefs: &[i32], desc: &mut [u32], grand: &mut [u32])
+fn fill_both(n: u32, l: u32, coefs: &[i32], desc: &mut [u32], grand: &mut [u32])
     requires { ⌜ Ready n l (now coefs) (length (now desc)) (length (now grand)) ⌝ }
     ensures { λ r. ⌜ now (desc .exit) ≡ filledFrom 0 (descTable n l (now (coefs .entry))) (now (desc .entry)) ⌝ }
     ensures { λ r. ⌜ now (grand .exit) ≡ filledFrom 0 (grandTable n l (now (coefs .entry))) (now (grand .entry)) ⌝ }
@@ -101,9 +101,9 @@ fn fill(n: u32, l: u32, coefs: &[i32], desc: &mut [u32], grand: &mut [u32])
     clear(grand, low);
 }
 
-// The checks of `summaries`, 1 to 5 in order: the refusal of the first that fails, if any.
-pub fn check(n: u32, l: u32, coefs: &[i32], descs: usize, grands: usize) -> Outcome
-    ensures { λ r. ⌜ r ≡ firstOf (summaryChecks n l (now (coefs .entry)) descs grands) ⌝ }
+// The refusal of sizes out of range, or of coefficients that are not one for each place.
+fn check_sizes(n: u32, l: u32, count: usize) -> Outcome
+    ensures { λ r. ⌜ r ≡ firstOf (sizeChecks n l count) ⌝ }
 {
     if !sizes::side_fits(n) {
         return Outcome::Refused(Refusal::Side);
@@ -111,14 +111,16 @@ pub fn check(n: u32, l: u32, coefs: &[i32], descs: usize, grands: usize) -> Outc
     if !sizes::levels_fit(n, l) {
         return Outcome::Refused(Refusal::Levels);
     }
-    let all = sizes::all_of(n);
-    if coefs.len() != all {
+    if count != sizes::all_of(n) {
         return Outcome::Refused(Refusal::Length);
     }
-    let over = coef::first_over(coefs);
-    if over < all {
-        return Outcome::Refused(Refusal::Coefficient(over as u32));
-    }
+    Outcome::Done
+}
+
+// The refusal of tables that are too short for this many coefficients.
+fn check_lent(all: usize, descs: usize, grands: usize) -> Outcome
+    ensures { λ r. ⌜ r ≡ firstOf (lentChecks all descs grands) ⌝ }
+{
     if descs < all / 4 {
         return Outcome::Refused(Refusal::Lent);
     }
@@ -128,7 +130,49 @@ pub fn check(n: u32, l: u32, coefs: &[i32], descs: usize, grands: usize) -> Outc
     Outcome::Done
 }
 
-// Fills DESC and GRAND for a linear array of coefficients: I/4 and I/16 entries.
+// The checks of `summaries`, 1 to 5 in order: the refusal of the first that fails, if any.
+pub fn check(n: u32, l: u32, coefs: &[i32], descs: usize, grands: usize) -> Outcome
+    ensures { λ r. ⌜ r ≡ firstOf (summaryChecks n l (now (coefs .entry)) descs grands) ⌝ }
+{
+    let sized = check_sizes(n, l, coefs.len());
+    if let Outcome::Refused(why) = sized {
+        return Outcome::Refused(why);
+    }
+    let over = coef::first_over(coefs);
+    if over < coefs.len() {
+        return Outcome::Refused(Refusal::Coefficient(over as u32));
+    }
+    check_lent(coefs.len(), descs, grands)
+}
+
+// The checks of `fill`: those of `summaries` without number 4.
+fn check_fill(n: u32, l: u32, count: usize, descs: usize, grands: usize) -> Outcome
+    ensures { λ r. ⌜ r ≡ firstOf (fillChecks n l count descs grands) ⌝ }
+{
+    let sized = check_sizes(n, l, count);
+    match sized {
+        Outcome::Done => check_lent(count, descs, grands),
+        Outcome::Refused(why) => Outcome::Refused(why),
+    }
+}
+
+// Fills DESC and GRAND for a linear array of coefficients of any magnitude: I/4 and I/16 entries.
+pub fn fill(n: u32, l: u32, coefs: &[i32], desc: &mut [u32], grand: &mut [u32]) -> Outcome
+    ensures answer { λ r. ⌜ r ≡ firstOf (fillChecks n l (length (now (coefs .entry))) (length (now (desc .entry))) (length (now (grand .entry)))) ⌝ }
+    ensures descs { λ r. ⌜ now (desc .exit) ≡ lentAfter r (descTable n l (now (coefs .entry))) (now (desc .entry)) ⌝ }
+    ensures grands { λ r. ⌜ now (grand .exit) ≡ lentAfter r (grandTable n l (now (coefs .entry))) (now (grand .entry)) ⌝ }
+{
+    let checked = check_fill(n, l, coefs.len(), desc.len(), grand.len());
+    match checked {
+        Outcome::Done => {
+            fill_both(n, l, coefs, desc, grand);
+            Outcome::Done
+        }
+        Outcome::Refused(why) => Outcome::Refused(why),
+    }
+}
+
+// The same for coefficients that have to be within the limit.
 pub fn summaries(n: u32, l: u32, coefs: &[i32], desc: &mut [u32], grand: &mut [u32]) -> Outcome
     ensures answer { λ r. ⌜ r ≡ firstOf (summaryChecks n l (now (coefs .entry)) (length (now (desc .entry))) (length (now (grand .entry)))) ⌝ }
     ensures descs { λ r. ⌜ now (desc .exit) ≡ lentAfter r (descTable n l (now (coefs .entry))) (now (desc .entry)) ⌝ }
@@ -136,10 +180,7 @@ pub fn summaries(n: u32, l: u32, coefs: &[i32], desc: &mut [u32], grand: &mut [u
 {
     let checked = check(n, l, coefs, desc.len(), grand.len());
     match checked {
-        Outcome::Done => {
-            fill(n, l, coefs, desc, grand);
-            Outcome::Done
-        }
+        Outcome::Done => fill(n, l, coefs, desc, grand),
         Outcome::Refused(why) => Outcome::Refused(why),
     }
 }

@@ -4,7 +4,8 @@ use borrow.Author.Needs.{needs}
 use Rattle.refusals.specs.Checks.{firstOf}
 use Rattle.sizes.specs.Sizes.{allOf}
 use Rattle.room.specs.Room.{worstChecks, tableChecks}
-use Rattle.room.proofs.Laws.{refused-first, then-more, worst-ready}
+use Rattle.refusals.proofs.Laws.{refused-first, then-more}
+use Rattle.room.proofs.Laws.{worst-ready}
 use Rattle.room.proofs.check_decode.Statement.{statement}
 use Rattle.room.proofs.check_decode.Tie as tie
 

@@ -4,10 +4,8 @@ use native.Mathlib.Omega.{arith}
 use borrow.Author.Tests.{not-true, not-false}
 use borrow.Author.Needs.{needs}
 use lib.Dec.{leb}
-use Rattle.sizes.specs.Sizes.{allOf, mostPlanes}
+use Rattle.sizes.specs.Sizes.{allOf}
 use Rattle.bits.specs.Bits.{bytesFor}
-use Rattle.coef.specs.Coef.{planesOf}
-use Rattle.coef.proofs.Laws.{first-all, planes-most, planes-one, planes-of}
 use Rattle.nls.specs.Stream.{worstBody}
 use Rattle.room.proofs.Laws.{no-marks, no-output, room-well}
 use Rattle.room.proofs.check_room.Statement.{statement}
@@ -22,19 +20,10 @@ all-of-requires c κs = search needs
 returns : tie.Need-returns
 returns c =
     let a = c .before .before .args in
-    no-marks (a .n) (a .l) (a .coefs .now) (a .marks) (a .out) (a .offset) (a .budget) (omega (arith, c .if1 .taken, all-so (c .before)))
-
-planes-requires : tie.Need-planes-requires
-planes-requires c κs = search needs
-
--- the planes are those of the array, and there are not too many
-planes-so : (c : tie.After-planes) → (c .planes .result ≡ planesOf (c .before .before .before .args .coefs .now)) × (c .planes .result ≤ mostPlanes)
-planes-so c =
-    let A = c .before .before .before .args .coefs .now in
-    (planes-one (c .planes .ensures) (planes-of A), planes-most (c .planes .ensures) (first-all A (c .before .before .before .pre .2)))
+    no-marks (a .n) (a .l) (a .p) (a .marks) (a .out) (a .offset) (a .budget) (omega (arith, c .if1 .taken, all-so (c .before)))
 
 worst-of-requires : tie.Need-worst-of-requires
-worst-of-requires c κs = (c .before .before .before .pre .0, c .before .before .before .pre .1, planes-so c .1)
+worst-of-requires c κs = c .before .before .pre
 
 smaller-requires : tie.Need-smaller-requires
 smaller-requires c κs = search needs
@@ -43,24 +32,24 @@ has-room-requires : tie.Need-has-room-requires
 has-room-requires c κs = search needs
 
 -- what is compared with the room
-room-so : (c : tie.After-has-room) → let a = c .before .before .before .before .before .before .args in
-    c .has-room .result ≡ leb (a .offset + bytesFor (min (a .budget) (worstBody (a .n) (a .l) (planesOf (a .coefs .now))))) (a .out)
+room-so : (c : tie.After-has-room) → let a = c .before .before .before .before .before .args in
+    c .has-room .result ≡ leb (a .offset + bytesFor (min (a .budget) (worstBody (a .n) (a .l) (a .p)))) (a .out)
 room-so c =
-    let a = c .before .before .before .before .before .before .args in
+    let a = c .before .before .before .before .before .args in
     c .has-room .ensures
     ∙ ap (λ (x : ℕ). leb (a .offset + bytesFor x) (a .out))
-    (c .before .smaller .ensures ∙ ap (λ (x : ℕ). min (a .budget) x) (c .before .before .worst-of .ensures ∙ ap (λ (x : ℕ). worstBody (a .n) (a .l) x) (planes-so (c .before .before .before) .0)))
+    (c .before .smaller .ensures ∙ ap (λ (x : ℕ). min (a .budget) x) (c .before .before .worst-of .ensures))
 
 returns-2 : tie.Need-returns-2
 returns-2 c =
-    let a = c .before .before .before .before .before .before .before .args in
-    no-output (a .n) (a .l) (a .coefs .now) (a .marks) (a .out) (a .offset) (a .budget) (omega (arith, c .before .before .before .before .before .if1 .left, all-so (c .before .before .before .before .before .before)))
+    let a = c .before .before .before .before .before .before .args in
+    no-output (a .n) (a .l) (a .p) (a .marks) (a .out) (a .offset) (a .budget) (omega (arith, c .before .before .before .before .if1 .left, all-so (c .before .before .before .before .before)))
     (sym (room-so (c .before)) ∙ not-true (c .before .has-room .result) (c .if2 .taken))
 
 returns-3 : tie.Need-returns-3
 returns-3 c =
-    let a = c .before .before .before .before .before .before .before .args in
-    room-well (a .n) (a .l) (a .coefs .now) (a .marks) (a .out) (a .offset) (a .budget) (omega (arith, c .before .before .before .before .before .if1 .left, all-so (c .before .before .before .before .before .before)))
+    let a = c .before .before .before .before .before .before .args in
+    room-well (a .n) (a .l) (a .p) (a .marks) (a .out) (a .offset) (a .budget) (omega (arith, c .before .before .before .before .if1 .left, all-so (c .before .before .before .before .before)))
     (sym (room-so (c .before)) ∙ not-false (c .before .has-room .result) (c .if2 .left))
 
 pub check-room-spec : {M : Type 1} → statement M
@@ -69,7 +58,6 @@ check-room-spec =
     (tie.spec
     all-of-requires
     returns
-    planes-requires
     worst-of-requires
     smaller-requires
     has-room-requires

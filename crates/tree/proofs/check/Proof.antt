@@ -1,96 +1,64 @@
-use mathlib.Core.Path.{ap, _≡_, sym, _∙_}
-use mathlib.Core.Bool.{true}
-use Prim.Native.Nat.{ℕ, _≤_, _/_}
+use mathlib.Core.Path.{_≡_, ap, _∙_}
+use Prim.Native.Nat.{ℕ, _≤_}
 use native.Mathlib.Omega.{arith}
-use borrow.Author.Tests.{not-true, not-false}
 use borrow.Author.Needs.{needs}
 use lib.ListN.{length}
 use Rattle.refusals.specs.declared.Refusal.the-variants.{Coefficient}
 use Rattle.refusals.specs.declared.Outcome.the-variants.{Refused}
-use Rattle.sizes.specs.Sizes.{sideFits, levelsFit, allOf}
+use Rattle.refusals.proofs.Laws.{refused-first}
 use Rattle.sizes.proofs.Laws.{side-most, all-most}
-use Rattle.coef.specs.Coef.{firstOver}
-use Rattle.tree.proofs.Checks.{no-side, no-levels, no-length, no-coefficient, no-desc, no-grand, all-well}
+use Rattle.tree.specs.Summaries.{sizeChecks}
+use Rattle.tree.proofs.Checks.{sizes-met, no-coefficient, within-limit}
 use Rattle.tree.proofs.check.Statement.{statement}
 use Rattle.tree.proofs.check.Tie as tie
 
--- what each check that holds says
-side-so : (c : tie.Else1) → sideFits (c .before .before .args .n) ≡ true
-side-so c = sym (c .before .side-fits .ensures) ∙ not-false (c .before .side-fits .result) (c .if1 .left)
+check-sizes-requires : tie.Need-check-sizes-requires
+check-sizes-requires c κs = search needs
 
-levels-so : (c : tie.Else2) → levelsFit (c .before .before .before .before .args .n) (c .before .before .before .before .args .l) ≡ true
-levels-so c = sym (c .before .levels-fit .ensures) ∙ not-false (c .before .levels-fit .result) (c .if2 .left)
-
-all-so : (c : tie.After-all-of) → c .all-of .result ≡ allOf (c .before .before .before .before .before .args .n)
-all-so c = c .all-of .ensures ∙ rw (side-so (c .before .before .before))
-
-length-so : (c : tie.Else3) → length (c .before .before .before .before .before .before .args .coefs .now) ≡ allOf (c .before .before .before .before .before .before .args .n)
-length-so c = c .if3 .left ∙ all-so (c .before)
-
-limit-so : (c : tie.Else4) → length (c .before .before .before .before .before .before .before .before .args .coefs .now) ≤ firstOver (c .before .before .before .before .before .before .before .before .args .coefs .now)
-limit-so c = omega (arith, c .before .first-over .ensures, c .if4 .left, length-so (c .before .before), all-so (c .before .before .before))
-
-desc-so : (c : tie.Else5) → allOf (c .before .before .before .before .before .before .before .before .before .args .n) / 4 ≤ c .before .before .before .before .before .before .before .before .before .args .descs
-desc-so c = omega (arith, c .if5 .left, all-so (c .before .before .before .before))
-
-side-fits-requires : tie.Need-side-fits-requires
-side-fits-requires c κs = search needs
+enum-known-sized : tie.Need-enum-known-sized
+enum-known-sized c = search needs
 
 returns : tie.Need-returns
 returns c =
-    no-side (c .before .before .args .n) (c .before .before .args .l) (c .before .before .args .coefs .now) (c .before .before .args .descs) (c .before .before .args .grands) (sym (c .before .side-fits .ensures) ∙ not-true (c .before .side-fits .result) (c .if1 .taken))
+    let a = c .before .before .before .before .args in
+    refused-first (sizeChecks (a .n) (a .l) (length (a .coefs .now))) _ (c .before .before .before .check-sizes .ensures) _ (c .before .sized .given .1)
 
-levels-fit-requires : tie.Need-levels-fit-requires
-levels-fit-requires c κs = search needs
-
-returns-2 : tie.Need-returns-2
-returns-2 c =
-    no-levels (c .before .before .before .before .args .n) (c .before .before .before .before .args .l) (c .before .before .before .before .args .coefs .now) (c .before .before .before .before .args .descs) (c .before .before .before .before .args .grands) (side-so (c .before .before)) (sym (c .before .levels-fit .ensures) ∙ not-true (c .before .levels-fit .result) (c .if2 .taken))
-
-all-of-requires : tie.Need-all-of-requires
-all-of-requires c κs = search needs
-
-returns-3 : tie.Need-returns-3
-returns-3 c =
-    no-length (c .before .before .before .before .before .before .args .n) (c .before .before .before .before .before .before .args .l) (c .before .before .before .before .before .before .args .coefs .now) (c .before .before .before .before .before .before .args .descs) (c .before .before .before .before .before .before .args .grands) (side-so (c .before .before .before .before)) (levels-so (c .before .before)) (λ (w : length (c .before .before .before .before .before .before .args .coefs .now) ≡ allOf (c .before .before .before .before .before .before .args .n)). c .if3 .taken (w ∙ sym (all-so (c .before))))
+enum-told : tie.Need-enum-told
+enum-told c = search needs
 
 first-over-requires : tie.Need-first-over-requires
 first-over-requires c κs = search needs
 
-cast-t14 : tie.Need-cast-t14
-cast-t14 c =
-    record { fits = omega (arith, all-most (c .before .before .before .before .before .before .before .before .args .n) (side-most (c .before .before .before .before .before .before .before .before .args .n) (side-so (c .before .before .before .before .before .before))), all-so (c .before .before .before), c .if4 .taken) }
+cast-t11 : tie.Need-cast-t11
+cast-t11 c =
+    let a = c .before .before .before .before .before .args in
+    let m = sizes-met (a .n) (a .l) (length (a .coefs .now)) (c .before .before .before .before .check-sizes .ensures) (c .before .before .enum-told .given .1) in
+    record { fits = omega (arith, all-most (a .n) (side-most (a .n) (m .0)), m .2, c .if1 .taken) }
 
-returns-4 : tie.Need-returns-4
-returns-4 c =
+returns-2 : tie.Need-returns-2
+returns-2 c =
+    let a = c .before .before .before .before .before .args in
     ap (λ (x : ℕ). Refused (Coefficient x)) (c .before .first-over .ensures)
-    ∙ no-coefficient (c .before .before .before .before .before .before .before .before .args .n) (c .before .before .before .before .before .before .before .before .args .l) (c .before .before .before .before .before .before .before .before .args .coefs .now) (c .before .before .before .before .before .before .before .before .args .descs) (c .before .before .before .before .before .before .before .before .args .grands) (side-so (c .before .before .before .before .before .before)) (levels-so (c .before .before .before .before)) (length-so (c .before .before)) (omega (arith, c .before .first-over .ensures, c .if4 .taken, length-so (c .before .before), all-so (c .before .before .before)))
+    ∙ no-coefficient (a .n) (a .l) (a .coefs .now) (a .descs) (a .grands) (c .before .before .before .before .check-sizes .ensures) (c .before .before .enum-told .given .1) (omega (arith, c .before .first-over .ensures, c .if1 .taken))
 
-returns-5 : tie.Need-returns-5
-returns-5 c =
-    no-desc (c .before .before .before .before .before .before .before .before .before .args .n) (c .before .before .before .before .before .before .before .before .before .args .l) (c .before .before .before .before .before .before .before .before .before .args .coefs .now) (c .before .before .before .before .before .before .before .before .before .args .descs) (c .before .before .before .before .before .before .before .before .before .args .grands) (side-so (c .before .before .before .before .before .before .before)) (levels-so (c .before .before .before .before .before)) (length-so (c .before .before .before)) (limit-so (c .before)) (omega (arith, c .if5 .taken, all-so (c .before .before .before .before)))
+check-lent-requires : tie.Need-check-lent-requires
+check-lent-requires c κs = search needs
 
-returns-6 : tie.Need-returns-6
-returns-6 c =
-    no-grand (c .before .before .before .before .before .before .before .before .before .before .args .n) (c .before .before .before .before .before .before .before .before .before .before .args .l) (c .before .before .before .before .before .before .before .before .before .before .args .coefs .now) (c .before .before .before .before .before .before .before .before .before .before .args .descs) (c .before .before .before .before .before .before .before .before .before .before .args .grands) (side-so (c .before .before .before .before .before .before .before .before)) (levels-so (c .before .before .before .before .before .before)) (length-so (c .before .before .before .before)) (limit-so (c .before .before)) (desc-so (c .before)) (omega (arith, c .if6 .taken, all-so (c .before .before .before .before .before)))
-
-returns-7 : tie.Need-returns-7
-returns-7 c =
-    all-well (c .before .before .before .before .before .before .before .before .before .before .args .n) (c .before .before .before .before .before .before .before .before .before .before .args .l) (c .before .before .before .before .before .before .before .before .before .before .args .coefs .now) (c .before .before .before .before .before .before .before .before .before .before .args .descs) (c .before .before .before .before .before .before .before .before .before .before .args .grands) (side-so (c .before .before .before .before .before .before .before .before)) (levels-so (c .before .before .before .before .before .before)) (length-so (c .before .before .before .before)) (limit-so (c .before .before)) (desc-so (c .before)) (omega (arith, c .if6 .left, all-so (c .before .before .before .before .before)))
+returns-3 : tie.Need-returns-3
+returns-3 c =
+    let a = c .before .before .before .before .before .before .args in
+    within-limit (a .n) (a .l) (a .coefs .now) (a .descs) (a .grands) (c .before .before .before .before .before .check-sizes .ensures) (c .before .before .before .enum-told .given .1) (omega (arith, c .before .before .first-over .ensures, c .before .if1 .left)) (c .check-lent .ensures)
 
 pub check-spec : {M : Type 1} → statement M
 check-spec =
     tie.close
     (tie.spec
-    side-fits-requires
+    check-sizes-requires
+    enum-known-sized
     returns
-    levels-fit-requires
-    returns-2
-    all-of-requires
-    returns-3
+    enum-told
     first-over-requires
-    cast-t14
-    returns-4
-    returns-5
-    returns-6
-    returns-7)
+    cast-t11
+    returns-2
+    check-lent-requires
+    returns-3)

@@ -1,41 +1,23 @@
-use mathlib.Core.Path.{_≡_, ap, _∙_}
-use Prim.Native.Nat.{ℕ, _/_}
-use native.Mathlib.Omega.{arith}
+use mathlib.Core.Path.{refl, sym, _∙_}
 use borrow.Author.Needs.{needs}
-use Rattle.sizes.specs.Sizes.{coarsestOf}
-use Rattle.sizes.proofs.Laws.{sized}
-use Rattle.tree.proofs.Parts.{low-most, last-fixed, desc-all, grand-all}
+use lib.ListN.{length}
+use Rattle.tree.proofs.Checks.{fill-ready}
 use Rattle.tree.proofs.fill.Statement.{statement}
 use Rattle.tree.proofs.fill.Tie as tie
 
-fill-last-requires : tie.Need-fill-last-requires
-fill-last-requires c κs = search needs
+check-fill-requires : tie.Need-check-fill-requires
+check-fill-requires c κs = search needs
 
-fill-inner-requires : tie.Need-fill-inner-requires
-fill-inner-requires c κs =
-    let a = c .before .before .before .before .before .before .before .before .args in
-    let p = c .before .before .before .before .before .before .before .before .pre in
-    let z = sized (a .n) (a .l) (p .levels) in (
-      record { side = p .side; levels = p .levels; whole = p .whole; descRoom = omega (arith, p .descRoom, c .before .before .before .before .fill-last .kept .1 .0); grandRoom = p .grandRoom },
-      last-fixed (a .n) (a .l) (a .coefs .now) z (p .whole) (a .desc .now) (p .descRoom) (c .before .before .before .before .fill-last .last .1 .0) (c .before .before .before .before .fill-last .ensures),
-    )
+enum-told : tie.Need-enum-told
+enum-told c = search needs
 
-coarsest-of-requires : tie.Need-coarsest-of-requires
-coarsest-of-requires c κs = search needs
+fill-both-requires : tie.Need-fill-both-requires
+fill-both-requires c κs =
+    let a = c .before .before .before .before .before .before .before .args in
+    fill-ready (a .n) (a .l) (a .coefs .now) (length (a .desc .now)) (length (a .grand .now)) (c .before .before .before .before .check-fill .ensures) (c .before .before .enum-told .given .1)
 
-clear-requires : tie.Need-clear-requires
-clear-requires c κs =
-    let a = c .before .before .before .before .before .before .before .before .before .before .before .before .before .before .before .args in
-    let p = c .before .before .before .before .before .before .before .before .before .before .before .before .before .before .before .pre in
-    let d : c .before .coarsest-of .result ≡ coarsestOf (a .n) (a .l) = c .before .coarsest-of .ensures ∙ rw (p .side, p .levels) in
-    omega (arith, low-most (a .n) (a .l) (a .coefs .now) (sized (a .n) (a .l) (p .levels)), p .descRoom, c .before .before .before .before .before .before .before .before .before .before .before .fill-last .kept .1 .0, c .before .before .before .before .before .before .fill-inner .kept .1 .1 .1 .0)
-
-clear-requires-2 : tie.Need-clear-requires-2
-clear-requires-2 c κs =
-    let a = c .before .before .before .before .before .before .before .before .before .before .before .before .before .before .before .before .before .before .before .args in
-    let p = c .before .before .before .before .before .before .before .before .before .before .before .before .before .before .before .before .before .before .before .pre in
-    let d : c .before .before .before .before .before .coarsest-of .result ≡ coarsestOf (a .n) (a .l) = c .before .before .before .before .before .coarsest-of .ensures ∙ rw (p .side, p .levels) in
-    omega (arith, low-most (a .n) (a .l) (a .coefs .now) (sized (a .n) (a .l) (p .levels)), p .grandRoom, c .before .before .before .before .before .before .before .before .before .before .fill-inner .kept .1 .1 .1 .1 .0)
+enum-known-checked : tie.Need-enum-known-checked
+enum-known-checked c = search needs
 
 same-length : tie.Need-same-length
 same-length c = search needs
@@ -44,25 +26,20 @@ same-length-2 : tie.Need-same-length-2
 same-length-2 c = search needs
 
 returns : tie.Need-returns
-returns c =
-    let a = c .before .before .before .before .before .before .before .before .before .before .before .before .before .before .before .before .before .before .before .before .before .before .args in
-    let p = c .before .before .before .before .before .before .before .before .before .before .before .before .before .before .before .before .before .before .before .before .before .before .pre in
-    let z = sized (a .n) (a .l) (p .levels) in
-    let d : c .before .before .before .before .before .before .before .before .coarsest-of .result ≡ coarsestOf (a .n) (a .l) = c .before .before .before .before .before .before .before .before .coarsest-of .ensures ∙ rw (p .side, p .levels) in
-    let low : c .before .before .before .before .before .before .before .before .coarsest-of .result / 4 ≡ coarsestOf (a .n) (a .l) / 4 = ap (λ (x : ℕ). x / 4) d in (
-      desc-all (a .n) (a .l) (a .coefs .now) z (p .whole) (a .desc .now) (p .descRoom) (c .before .before .before .before .before .before .before .before .before .before .before .before .before .before .before .before .before .before .fill-last .last .1 .0) (c .before .before .before .before .before .before .before .before .before .before .before .before .before .before .before .before .before .before .fill-last .ensures) (c .before .before .before .before .before .before .before .before .before .before .before .before .before .fill-inner .last .1 .1 .1 .0) (c .before .before .before .before .before .before .clear .last .0) (c .before .before .before .before .before .before .before .before .coarsest-of .result / 4) (c .before .before .before .before .before .before .before .before .before .before .before .before .before .fill-inner .ensures .0) low (c .before .before .before .before .before .before .clear .ensures),
-      grand-all (a .n) (a .l) (a .coefs .now) z (a .grand .now) (c .before .before .before .before .before .before .before .before .before .before .before .before .before .fill-inner .last .1 .1 .1 .1 .0) (c .before .before .clear2 .last .0) (c .before .before .before .before .before .before .before .before .coarsest-of .result / 4) (p .grandRoom) (c .before .before .before .before .before .before .before .before .before .before .before .before .before .fill-inner .ensures .1) low (c .before .before .clear2 .ensures),
-    )
+returns c = (sym (c .before .before .before .before .before .before .before .enum-told .given .1) ∙ c .before .before .before .before .before .before .before .before .before .check-fill .ensures, (c .before .before .before .before .fill-both .ensures .0, c .before .before .before .before .fill-both .ensures .1))
+
+returns-2 : tie.Need-returns-2
+returns-2 c = (sym (c .before .checked .given .1) ∙ c .before .before .before .check-fill .ensures, (refl, refl))
 
 pub fill-spec : {M : Type 1} → statement M
 fill-spec =
     tie.close
     (tie.spec
-    fill-last-requires
-    fill-inner-requires
-    coarsest-of-requires
-    clear-requires
-    clear-requires-2
+    check-fill-requires
+    enum-told
+    fill-both-requires
+    enum-known-checked
     same-length
     same-length-2
-    returns)
+    returns
+    returns-2)

@@ -1,7 +1,7 @@
 use mathlib.Core.Path.{refl, sym, _∙_}
 use borrow.Author.Needs.{needs}
 use lib.ListN.{length}
-use Rattle.tree.proofs.Checks.{ready}
+use Rattle.tree.proofs.Checks.{fill-well, ready}
 use Rattle.tree.proofs.summaries.Statement.{statement}
 use Rattle.tree.proofs.summaries.Tie as tie
 
@@ -12,9 +12,7 @@ enum-told : tie.Need-enum-told
 enum-told c = search needs
 
 fill-requires : tie.Need-fill-requires
-fill-requires c κs =
-    let a = c .before .before .before .before .before .before .before .args in
-    ready (a .n) (a .l) (a .coefs .now) (length (a .desc .now)) (length (a .grand .now)) (c .before .before .before .before .check .result) (c .before .before .before .before .check .ensures) (c .before .before .enum-told .given .1)
+fill-requires c κs = search needs
 
 enum-known-checked : tie.Need-enum-known-checked
 enum-known-checked c = search needs
@@ -25,8 +23,14 @@ same-length c = search needs
 same-length-2 : tie.Need-same-length-2
 same-length-2 c = search needs
 
+-- the checks hold, so those of `fill` do
 returns : tie.Need-returns
-returns c = (sym (c .before .before .before .before .before .before .before .enum-told .given .1) ∙ c .before .before .before .before .before .before .before .before .before .check .ensures, (c .before .before .before .before .fill .ensures .0, c .before .before .before .before .fill .ensures .1))
+returns c =
+    let a = c .before .before .before .before .before .before .before .before .before .before .before .before .args in
+    let first = c .before .before .before .before .before .before .before .before .before .check .ensures in
+    let done = c .before .before .before .before .before .before .before .enum-told .given .1 in
+    let filled = fill-well (a .n) (a .l) (a .coefs .now) (length (a .desc .now)) (length (a .grand .now)) (ready (a .n) (a .l) (a .coefs .now) (length (a .desc .now)) (length (a .grand .now)) first done) in
+    (c .before .before .before .before .fill .ensures .0 ∙ filled ∙ sym done ∙ first, c .before .before .before .before .fill .ensures .1)
 
 returns-2 : tie.Need-returns-2
 returns-2 c = (sym (c .before .checked .given .1) ∙ c .before .before .before .check .ensures, (refl, refl))
