@@ -164,6 +164,23 @@ FIGURE_1 = '''
 32 33 36 37 48 49 52 53'''.split()
 
 
+def top_planes():
+    """P, "the least P with every magnitude below 2^P", is what document 02
+    has for it (T-03): "OR the magnitudes together and count the leading zeros
+    once"."""
+    rng = random.Random(8)
+    arrays = list(product((0, 1, -2, 3, 4, -5, 8, -15), repeat=3))
+    arrays += [[rng.randint(-2 ** k, 2 ** k - 1) for _ in range(k % 7 + 1)]
+               for k in range(32) for _ in range(20)]
+    for A in arrays:
+        joined = 0
+        for x in A:
+            joined |= abs(x)
+        digits = format(joined, '032b')
+        zeros = len(digits) - len(digits.lstrip('0'))
+        equal(plane_count(A), 32 - zeros, 'planes of %s' % (A,))
+
+
 def trees():
     """Linear order, children, DESC, GRAND and the summaries, from the rules."""
     for raster, wanted in enumerate(FIGURE_1):
@@ -546,6 +563,7 @@ def run(full=False):
     started = time.time()
     samples()
     ezw()
+    top_planes()
     trees()
     random_arrays(6000 if full else 1200)
     large_arrays()

@@ -680,10 +680,29 @@ def number_cases(seed):
             joined = () if refused else [-size if negative else size]
             yield 'taken', case('J', (negative, size), answer(refused),
                                 values=(1, joined))
-    for A in ([], [0], [1], [-1, 0], [2 ** 31 - 1], [-2 ** 31, 5],
-              [7, -8, 3], SAMPLE):
+    for A in planes_arrays(rng):
         P = second.plane_count(A) if A else 0
         yield 'any', case('P', (), answer(planes=P), A)
+
+
+def planes_arrays(rng):
+    """Arrays of any length for their planes: for each number of planes the
+    least and the largest number that has as many, twice, and among smaller
+    ones at some place of arrays of many lengths."""
+    yield from ([], [0], [1], [-1, 0], [2 ** 31 - 1], [-2 ** 31, 5],
+                [7, -8, 3], SAMPLE, [0] * 37)
+    for P in range(1, 33):
+        low = 2 ** (P - 1)
+        for top in sorted({low, 2 ** P - 1} if P < 32 else {low}):
+            signs = (1, -1) if P < 32 else (-1,)
+            for sign in signs:
+                yield [sign * top] * 2
+                yield [sign * top, rng.choice(signs) * top, top - low]
+            for count in (1, 3, 4, 7, 8, 9, 16, 17, 31):
+                A = [rng.choice((1, -1)) * rng.randrange(low)
+                     for _ in range(count)]
+                A[rng.randrange(count)] = rng.choice(signs) * top
+                yield A
 
 
 def one_number(x, taken):
