@@ -1,9 +1,12 @@
-// Whole streams of 2^N x 2^N coefficients, L levels, through plain C, C written for speed, and the proved library; and the
-// change between the two orders of such an array, in plain C and in the proved library.
+// Whole streams of 2^N x 2^N coefficients, L levels, through plain C, C written for speed, and the proved library; what
+// encoding them costs before the first bits; and the planes of such an array and the change between its two orders, in
+// plain C and in the proved library.
 //   bench count N L 12|20    each coder encodes and decodes once: what callgrind counts (bench.sh)
+//   bench open N L 12|20 M   each coder encodes once with a budget of M thousandths of the stream: the same
+//   bench planes N L 12|20   the planes once, by each code: the same
 //   bench order N            both changes of order once, by each code: the same
 //   bench figures N L        the figures of each plane by itself, and of all at once: the same
-//   bench time N L REPS      the best time of each coder, in ns for each coded bit
+//   bench time N L REPS      the best time of each coder, in ns for each coded bit, and of encode with no bits, in us
 #define _GNU_SOURCE
 #include "../include/txp.h"
 #include "gen.h"
@@ -37,6 +40,12 @@ static const struct { const char *name; nls_encoder *encode; nls_decoder *decode
     {"fast", nls_fast_encode, nls_fast_decode},
     {"txp", txp_bench_encode, txp_bench_decode},
 };
+
+__attribute__((noinline)) unsigned txp_bench_planes(const int32_t *c, unsigned n) {
+    txp_answer a;
+    txp_planes(c, TXP_ENTRIES(n), &a);
+    return a.planes;
+}
 
 __attribute__((noinline)) void txp_bench_linear(const int32_t *from, unsigned n, int32_t *to) {
     txp_answer a;
@@ -128,6 +137,44 @@ static int count(unsigned n, unsigned l, unsigned planes) {
     return printf("%u\n", bits), 0;
 }
 
+// Each coder encodes with a budget; the answer, the body and every table are those of plain C, which comes first.
+static int opening(unsigned n, unsigned l, unsigned planes, unsigned thousandths) {
+    static uint8_t first[sizeof body], first_marks[I];
+    static uint32_t first_desc[I / 4], first_grand[I / 16];
+    uint32_t all = TXP_ENTRIES(n), whole = 0;
+    data(n, l, planes);
+    for (unsigned b = 0; b < planes; b++) {
+        txp_answer f;
+        txp_figures(n, l, coef, all, b, desc, I / 4, grand, I / 16, &f);
+        whole += f.bits;
+    }
+    uint32_t budget = (uint32_t)((uint64_t)whole * thousandths / 1000);
+    for (unsigned k = 0; k < 3; k++) {
+        memset(body, 1, sizeof body);
+        memset(marks, 1, all);
+        memset(desc, 1, all);
+        memset(grand, 1, all / 4);
+        nls_result e = coders[k].encode(coef, n, l, budget, desc, grand, marks, body);
+        if (k == 0) {
+            memcpy(first, body, sizeof body);
+            memcpy(first_marks, marks, all);
+            memcpy(first_desc, desc, all);
+            memcpy(first_grand, grand, all / 4);
+        }
+        if (e.no || e.planes != planes || e.bits != budget || memcmp(first, body, sizeof body) || memcmp(first_marks, marks, all)
+            || memcmp(first_desc, desc, all) || memcmp(first_grand, grand, all / 4))
+            return printf("%s, N = %u, L = %u, P = %u, budget %u: wrong\n", coders[k].name, n, l, planes, budget), 1;
+    }
+    return printf("%u\n", budget), 0;
+}
+
+static int tops(unsigned n, unsigned l, unsigned planes) {
+    data(n, l, planes);
+    if (nls_plain_planes(coef, n) != planes || txp_bench_planes(coef, n) != planes)
+        return printf("planes, N = %u, L = %u, P = %u: wrong\n", n, l, planes), 1;
+    return 0;
+}
+
 static int times(unsigned n, unsigned l, unsigned reps) {
     uint32_t bits;
     double enc, dec;
@@ -135,7 +182,14 @@ static int times(unsigned n, unsigned l, unsigned reps) {
         data(n, l, planes);
         for (unsigned k = 0; k < 3; k++) {
             if (run(k, n, l, planes, reps, &bits, &enc, &dec)) return 1;
-            printf("P = %u  %-6s encode %6.2f ns/bit  decode %6.2f ns/bit\n", planes, coders[k].name, enc / bits, dec / bits);
+            double none = 1e30;
+            for (unsigned r = 0; r < reps; r++) {
+                double t = now();
+                coders[k].encode(coef, n, l, 0, desc, grand, marks, body);
+                double u = now();
+                if (u - t < none) none = u - t;
+            }
+            printf("P = %u  %-6s encode %6.2f ns/bit  decode %6.2f ns/bit  no bit %6.2f us\n", planes, coders[k].name, enc / bits, dec / bits, none / 1000);
         }
     }
     return 0;
@@ -146,9 +200,11 @@ int main(int argc, char **argv) {
     unsigned last = argc > 4 ? (unsigned)atoi(argv[4]) : 0;
     if (n > 1 && n <= NLS_MAX_N && l > 0 && l < n) {
         if (argc == 5 && !strcmp(argv[1], "count") && (last == 12 || last == 20)) return count(n, l, last);
+        if (argc == 6 && !strcmp(argv[1], "open") && (last == 12 || last == 20)) return opening(n, l, last, (unsigned)atoi(argv[5]));
+        if (argc == 5 && !strcmp(argv[1], "planes") && (last == 12 || last == 20)) return tops(n, l, last);
         if (argc == 3 && !strcmp(argv[1], "order")) return order(n);
         if (argc == 4 && !strcmp(argv[1], "figures")) return figures(n, l);
         if (argc == 5 && !strcmp(argv[1], "time") && last > 0) return times(n, l, last);
     }
-    return fprintf(stderr, "usage: bench count N L 12|20, bench order N, bench figures N L, or bench time N L REPS\n"), 2;
+    return fprintf(stderr, "usage: bench count N L 12|20, bench open N L 12|20 THOUSANDTHS, bench planes N L 12|20, bench order N, bench figures N L, or bench time N L REPS\n"), 2;
 }

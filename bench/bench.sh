@@ -1,7 +1,8 @@
 #!/bin/sh
 # Counts the instructions that encode and decode execute on a whole stream, in plain C, in C written for speed, and in
-# the proved library through its C interface; those of the change between the two orders of a whole array, in plain C and
-# in the library; those of the figures of one plane and of all; then the coders' times on this machine.
+# the proved library through its C interface; those of encode with a budget of no bits and of one per cent of the stream,
+# by the same three; those of the planes and of the change between the two orders of a whole array, in plain C and in the
+# library; those of the figures of one plane and of all; then the coders' times on this machine.
 # The streams are of 256 by 256 and of 1,024 by 1,024, the latter with two numbers of levels.
 #   sh bench/bench.sh [REPS]
 # Needs gcc and valgrind. On a machine that is not x86-64 it needs gcc, Debian's gcc-x86-64-linux-gnu and qemu-user: the
@@ -17,7 +18,7 @@ cc=gcc
 $cc -std=gnu11 -O2 -ffp-contract=off bench/bench.c bench/nls_summaries.c bench/nls_plain.c bench/nls_fast.c bench/nls_orders.c target/staticlib/libctxp.a -o "$room/bench"
 if [ "$cc" != gcc ]; then
     gcc -O2 -fPIC -shared bench/count.c -o "$room/count.so"
-    named=$(x86_64-linux-gnu-nm "$room/bench" | awk '$3 ~ /^(txp_bench|nls_(plain|fast))_(encode|decode|linear|raster|one|all)$/ { printf ",%s=%s", $3, $1 }')
+    named=$(x86_64-linux-gnu-nm "$room/bench" | awk '$3 ~ /^(txp_bench|nls_(plain|fast))_(encode|decode|planes|linear|raster|one|all)$/ { printf ",%s=%s", $3, $1 }')
 fi
 run() { # ARGUMENTS of the program; what the functions that it ran executed is left in $room/text
     if [ "$cc" = gcc ]; then
@@ -28,6 +29,7 @@ run() { # ARGUMENTS of the program; what the functions that it ran executed is l
     fi
 }
 count() { grep -E "[:*]$1( |\$)" "$room/text" | head -1 | sed -e 's/^ *\([0-9,]*\).*/\1/' -e 's/,//g'; }
+counted() { case $1 in txp) count "txp_bench_$2" ;; *) count "nls_$1_$2" ;; esac; } # CODER CALL
 ratio() { echo "$1 $2" | awk '{printf "%.3f", $1 / $2}'; }
 columns() { # UNITS 'A UNIT' CALL CALL: what stands above the rows
     printf '%4s %2s %-6s %-5s %9s %13s %6s %8s %6s %13s %6s %8s %6s\n' side L planes coder "$1" "$3 insns" 'to C' "$2" 'to 256' "$4 insns" 'to C' "$2" 'to 256'
@@ -35,8 +37,7 @@ columns() { # UNITS 'A UNIT' CALL CALL: what stands above the rows
 # N L PLANES CODER UNITS CALL CALL: a row. For each call its instructions, their ratio to those of plain C, how many they
 # are a unit (a coded bit, an entry), and the ratio of that to the same coder's at 256 by 256.
 row() {
-    case $4 in txp) f=txp_bench ;; *) f=nls_$4 ;; esac
-    echo "$1 $2 $3 $4 $5 $(count "${f}_$6") $(count "${f}_$7")" >>"$room/rows"
+    echo "$1 $2 $3 $4 $5 $(counted "$4" "$6") $(counted "$4" "$7")" >>"$room/rows"
     awk '{ kind = $3 $4; x = $6 / $5; y = $7 / $5 }
         $4 == "plain" { cx = $6; cy = $7 }
         $1 == 8 { x8[kind] = x; y8[kind] = y }
@@ -48,16 +49,35 @@ streams() { # N L: the rows of such streams
         for coder in plain fast txp; do row "$1" "$2" $planes $coder "$bits" encode decode; done
     done
 }
+opens() { # N L: the rows of encode with a small budget, in thousandths of the stream
+    for planes in 12 20; do
+        for part in 0 10; do
+            bits=$(run open "$1" "$2" $planes $part)
+            for coder in plain fast txp; do
+                x=$(counted $coder encode)
+                printf '%4d %2s %-6s %-5s %9d %13d %6s\n' $((1 << $1)) "$2" $planes $coder "$bits" "$x" "$(ratio "$x" "$(counted plain encode)")"
+            done
+        done
+    done
+}
 columns bits 'a bit' encode decode
 streams 8 5
 streams 10 7
 streams 10 9
+printf '%4s %2s %-6s %-5s %9s %13s %6s\n' side L planes coder budget 'encode insns' 'to C'
+opens 8 5
+opens 10 7
+for n in 8 10; do
+    run planes $n 5 12
+    x=$(counted txp planes) y=$(counted plain planes)
+    printf 'planes of %d by %d, %d insns, in plain C %d insns, ratio %s\n' $((1 << n)) $((1 << n)) "$x" "$y" "$(ratio "$x" "$y")"
+done
 columns entries 'an entry' linear raster
 for n in 8 10; do
     run order $n
     for coder in plain txp; do row $n - - $coder $((1 << 2 * n)) linear raster; done
 done
 run figures 8 5
-x=$(($(count txp_bench_one) / 24)) y=$(count txp_bench_all)
+x=$(($(counted txp one) / 24)) y=$(counted txp all)
 printf 'figures of one plane, on average, %d insns, of all 24 at once %d insns, ratio %s\n' "$x" "$y" "$(ratio "$y" "$x")"
 [ "$cc" != gcc ] || "$room/bench" time 8 5 "${1:-20}"

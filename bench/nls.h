@@ -26,6 +26,9 @@ nls_decoder nls_plain_decode, nls_fast_decode;
 // OR of magnitudes over DESC and GRAND; returns the OR of all magnitudes.
 uint32_t nls_summaries(const int32_t *coef, unsigned N, unsigned L, uint32_t *desc, uint32_t *grand);
 
+// The planes of an array of 4^N coefficients.
+unsigned nls_plain_planes(const int32_t *coef, unsigned N);
+
 // An array of 4^N entries in the other order.
 typedef void nls_order(const int32_t *from, unsigned N, int32_t *to);
 nls_order nls_plain_linear, nls_plain_raster;

@@ -1,4 +1,4 @@
-// The summaries.
+// The summaries, and the planes.
 #include "nls.h"
 
 static inline uint32_t mag(int32_t v) { return v < 0 ? 0u - (uint32_t)v : (uint32_t)v; }
@@ -18,4 +18,12 @@ uint32_t nls_summaries(const int32_t *coef, unsigned N, unsigned L, uint32_t *de
     for (uint32_t i = 0; i < D; i++) all |= mag(coef[i]);
     for (uint32_t i = D / 4; i < D; i++) all |= desc[i];
     return all;
+}
+
+unsigned nls_plain_planes(const int32_t *coef, unsigned N) {
+    uint32_t all = 0;
+    unsigned planes = 0;
+    for (uint32_t i = 0; i < 1u << 2 * N; i++) all |= mag(coef[i]);
+    while (all >> planes) planes++;
+    return planes;
 }
