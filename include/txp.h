@@ -193,8 +193,8 @@ uint32_t txp_raster_place(uint32_t n, uint32_t place, txp_answer *answer);
 
 /* ---- coefficients */
 
-/* P, the planes of an array of any length and any numbers: the least P with every magnitude below 2^P. No refusal.
- * Answer: planes. */
+/* P, the planes of an array of any length and any numbers: the least P with every magnitude below 2^P. It is 0 for zeros
+ * and for no number at all, and 32 where one is -2^31. No refusal. Answer: planes. */
 uint32_t txp_planes(const int32_t *coefs, size_t coefs_len, txp_answer *answer);
 
 /* Whether x is below 0. No refusal. Answer: value, 1 or 0. */
