@@ -7,10 +7,10 @@ use Prim.Native.Nat.{ℕ, zero, suc, _+_, _*_, _-_, _/_, _%_, _^_, _≤_, _<_, m
 use native.Mathlib.Nat.{pow-suc, zero-div, div-one, div-eq-of-lt-le, mod-lt}
 use native.Mathlib.Decide.{decLt, ℕ-discrete}
 use native.Mathlib.Omega.{arith}
-use borrow.Author.Tests.{eqb-true, eqb-false, eq-eqb, ne-eqb}
+use borrow.Author.Tests.{eqb-true, eqb-false, eq-eqb, ne-eqb, leb-true, leb-false, le-leb, lt-leb}
 use lib.Bits.{bitOr, or-step, or-shr, or-lt, or-add-and, and-le-l, and-le-r}
 use lib.Count.{leadingZeros, leading-length}
-use lib.Dec.{eqb, lit<, lit≤}
+use lib.Dec.{leb, eqb, lit<, lit≤}
 use lib.ListN.{take-append-drop, length, getD, take, drop, length-append, length-set, length-drop, List·getD-append, List·getD-eq-default}
 use lib.Arith.{digits-lt, bin-ind}
 use lib.Pow.{shr-shr, high, low, field, mod-mod-pow, shl-shr, shl-lt, pow-add, pow-pos, pow-mono}
@@ -117,7 +117,25 @@ module _ (hi k lo : ℕ) (h : lo < 2 ^ k) where
   pub bit-join-low : (b : ℕ) → b < k → bit (hi * 2 ^ k + lo) b ≡ bit lo b
   bit-join-low b l = sym (bit-mod (hi * 2 ^ k + lo) k b l) ∙ ap (λ (y : ℕ). bit y b) (low hi k h)
 
--- ---- the OR of a list, and leading zeros
+-- ---- the OR of numbers, and leading zeros
+
+-- neither of two numbers is above their OR, which reaches 2^k exactly if one of them does
+pub or-ge-l : (x y : ℕ) → x ≤ bitOr x y
+or-ge-l x y = omega (arith, or-add-and x y, and-le-r x y)
+
+pub or-ge-r : (x y : ℕ) → y ≤ bitOr x y
+or-ge-r x y = omega (arith, or-add-and x y, and-le-l x y)
+
+pub or-reaches : (k x y : ℕ) → leb (2 ^ k) (bitOr x y) ≡ (leb (2 ^ k) x || leb (2 ^ k) y)
+or-reaches k x y = tell (leb (2 ^ k) x) (leb (2 ^ k) y) refl refl
+  where
+    tell : (s t : Bool) → leb (2 ^ k) x ≡ s → leb (2 ^ k) y ≡ t → leb (2 ^ k) (bitOr x y) ≡ (s || t)
+    tell true t e f = le-leb (2 ^ k) (bitOr x y) (omega (arith, leb-true (2 ^ k) x e, or-ge-l x y))
+    tell false true e f = le-leb (2 ^ k) (bitOr x y) (omega (arith, leb-true (2 ^ k) y f, or-ge-r x y))
+    tell false false e f = lt-leb (2 ^ k) (bitOr x y) (or-lt k x y (leb-false (2 ^ k) x e) (leb-false (2 ^ k) y f))
+
+pub zero-below : (k : ℕ) → leb (2 ^ k) 0 ≡ false
+zero-below k = lt-leb (2 ^ k) 0 (pow-pos k)
 
 pub or-assoc : (a b c : ℕ) → bitOr (bitOr a b) c ≡ bitOr a (bitOr b c)
 or-assoc a = bin-ind (λ (a : ℕ). (b c : ℕ) → bitOr (bitOr a b) c ≡ bitOr a (bitOr b c)) (λ b c. refl) (λ n ih b c. step n b c (ih (b / 2) (c / 2))) a
@@ -139,8 +157,8 @@ or-below k (x ∷ l) =
     ((λ h i. each i h (rest .0)), (λ h. or-lt k x (orAll l) (h 0) (rest .1 (λ i. h (suc i)))))
   where
     each : (i : ℕ) → bitOr x (orAll l) < 2 ^ k → (orAll l < 2 ^ k → (j : ℕ) → getD l j 0 < 2 ^ k) → getD (x ∷ l) i 0 < 2 ^ k
-    each zero h rest = omega (arith, or-add-and x (orAll l), and-le-r x (orAll l))
-    each (suc i) h rest = rest (omega (arith, or-add-and x (orAll l), and-le-l x (orAll l))) i
+    each zero h rest = omega (arith, or-ge-l x (orAll l))
+    each (suc i) h rest = rest (omega (arith, or-ge-r x (orAll l))) i
 
 -- a number of w digits is below 2^k exactly if its leading zeros leave at most k of them
 pub zeros-below : (w x k : ℕ) → x < 2 ^ w → (x < 2 ^ k) ↔ (w - leadingZeros w x ≤ k)

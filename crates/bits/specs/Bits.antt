@@ -14,7 +14,7 @@ abbrev pub digit : Bool → ℕ
 digit true = 1
 digit false = 0
 
--- the bitwise OR of a list of numbers
+-- the bitwise OR of a list of numbers ("the bitwise OR of magnitudes"; document 02, T-03: "OR the magnitudes together")
 unfoldable pub orAll : List ℕ → ℕ
 orAll [] = 0
 orAll (x ∷ rest) = bitOr x (orAll rest)

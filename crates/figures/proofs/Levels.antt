@@ -1,35 +1,22 @@
 -- What the summaries say of a level: an OR is at least 2^b exactly if some member is.
-use mathlib.Core.Path.{_≡_, refl, sym, ap, _∙_}
-use mathlib.Core.Bool.{Bool, true, false, _||_}
+use mathlib.Core.Path.{_≡_, sym, ap, _∙_}
+use mathlib.Core.Bool.{Bool, _||_}
 use mathlib.Core.List.{List, [], _∷_, map}
 use Prim.Native.Nat.{ℕ, _/_, _^_, _≤_, _<_}
 use native.Mathlib.Decide.{decLt}
 use native.Mathlib.Omega.{arith}
-use borrow.Author.Tests.{leb-true, leb-false, le-leb, lt-leb}
-use lib.Bits.{bitOr, or-lt, or-add-and, and-le-l, and-le-r}
 use lib.Dec.{leb}
 use lib.IntN.{ℤ}
 use lib.ListN.{getD, List·getD-eq-default}
-use lib.Pow.{pow-pos}
 use Rattle.sizes.specs.Sizes.{allOf, Sized}
 use Rattle.sizes.proofs.Tables.{table-length, table-at}
 use Rattle.bits.specs.Bits.{orAll}
+use Rattle.bits.proofs.Laws.{or-reaches, zero-below}
 use Rattle.coef.specs.Coef.{magAt}
 use Rattle.tree.specs.Tree.{desc, grand, anyIn}
 use Rattle.tree.specs.Summaries.{descOr, grandOr, descTable, grandTable}
 use Rattle.tree.proofs.Laws.{desc-high, grand-high}
 use Rattle.nls.specs.Parts.{found, descSplit, grandSplit}
-
-or-reaches : (b x y : ℕ) → leb (2 ^ b) (bitOr x y) ≡ (leb (2 ^ b) x || leb (2 ^ b) y)
-or-reaches b x y = tell (leb (2 ^ b) x) (leb (2 ^ b) y) refl refl
-  where
-    tell : (s t : Bool) → leb (2 ^ b) x ≡ s → leb (2 ^ b) y ≡ t → leb (2 ^ b) (bitOr x y) ≡ (s || t)
-    tell true t e f = le-leb (2 ^ b) (bitOr x y) (omega (arith, leb-true (2 ^ b) x e, or-add-and x y, and-le-r x y))
-    tell false true e f = le-leb (2 ^ b) (bitOr x y) (omega (arith, leb-true (2 ^ b) y f, or-add-and x y, and-le-l x y))
-    tell false false e f = lt-leb (2 ^ b) (bitOr x y) (or-lt b x y (leb-false (2 ^ b) x e) (leb-false (2 ^ b) y f))
-
-zero-below : (b : ℕ) → leb (2 ^ b) 0 ≡ false
-zero-below b = lt-leb (2 ^ b) 0 (pow-pos b)
 
 -- an OR is at least 2^b exactly if some member is
 pub all-reaches : (b : ℕ) (f : ℕ → ℕ) (l : List ℕ) → leb (2 ^ b) (orAll (map f l)) ≡ anyIn (λ j. leb (2 ^ b) (f j)) l

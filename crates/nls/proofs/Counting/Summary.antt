@@ -3,11 +3,11 @@ use Prim.Native.Nat.{ℕ, zero, suc, _+_, _*_, _^_}
 use mathlib.Core.Path.{_≡_, refl, sym, _∙_}
 use mathlib.Core.Bool.{Bool, true, false, _||_, cond}
 use native.Mathlib.Omega.{arith}
-use borrow.Author.Tests.{lt-ltb, le-ltb, ltb-true, ltb-false, leb-true, leb-false, le-leb, lt-leb}
+use borrow.Author.Tests.{lt-ltb, le-ltb, ltb-true, ltb-false}
 use lib.Dec.{ltb, leb}
-use lib.Pow.{pow-pos}
-use lib.Bits.{bitOr, or-lt, or-add-and, and-le-l, and-le-r}
+use lib.Bits.{bitOr}
 use Rattle.bits.specs.Bits.{bit}
+use Rattle.bits.proofs.Laws.{or-reaches, zero-below}
 use Rattle.nls.proofs.Counting.Sums.{sum}
 use Rattle.nls.proofs.Counting.Tree.{Size, I, tree, within, desc, grand}
 use Rattle.nls.proofs.Counting.Parts.{ι, big, split-desc, split-grand, top-bit}
@@ -27,14 +27,6 @@ or-desc z g i = or-tree (z .deep) (within z g) i
 unfoldable pub or-grand : Size → (ℕ → ℕ) → ℕ → ℕ
 or-grand z g i = join (4 * i) 4 (λ c. or-desc z g c)
 
-or-big : (n x y : ℕ) → leb (2 ^ n) (bitOr x y) ≡ (leb (2 ^ n) x || leb (2 ^ n) y)
-or-big n x y = tell (leb (2 ^ n) x) (leb (2 ^ n) y) refl refl
-  where
-    tell : (s t : Bool) → leb (2 ^ n) x ≡ s → leb (2 ^ n) y ≡ t → leb (2 ^ n) (bitOr x y) ≡ (leb (2 ^ n) x || leb (2 ^ n) y)
-    tell true t p q = rw p (le-leb (2 ^ n) (bitOr x y) (omega (arith, leb-true (2 ^ n) x p, or-add-and x y, and-le-r x y)))
-    tell false true p q = rw (p, q) (le-leb (2 ^ n) (bitOr x y) (omega (arith, leb-true (2 ^ n) y q, or-add-and x y, and-le-l x y)))
-    tell false false p q = rw (p, q) (lt-leb (2 ^ n) (bitOr x y) (or-lt n x y (leb-false (2 ^ n) x p) (leb-false (2 ^ n) y q)))
-
 pos-add : (x y : ℕ) → ltb 0 (x + y) ≡ (ltb 0 x || ltb 0 y)
 pos-add x y = tell (ltb 0 x) (ltb 0 y) refl refl
   where
@@ -43,20 +35,17 @@ pos-add x y = tell (ltb 0 x) (ltb 0 y) refl refl
     tell false true p q = rw (p, q) (lt-ltb 0 (x + y) (omega (arith, ltb-true 0 y q)))
     tell false false p q = rw (p, q) (le-ltb 0 (x + y) (omega (arith, ltb-false 0 x p, ltb-false 0 y q)))
 
-zero-small : (n : ℕ) → leb (2 ^ n) 0 ≡ false
-zero-small n = lt-leb (2 ^ n) 0 (pow-pos n)
-
 join-big : (n a k : ℕ) (f h : ℕ → ℕ) → ((c : ℕ) → leb (2 ^ n) (f c) ≡ ltb 0 (h c)) → leb (2 ^ n) (join a k f) ≡ ltb 0 (sum a k h)
 unfolding join sum
-join-big n a zero f h e = zero-small n
-join-big n a (suc k) f h e = or-big n (f a) (join (suc a) k f) ∙ rw (e a, join-big n (suc a) k f h e) (sym (pos-add (h a) (sum (suc a) k h)))
+join-big n a zero f h e = zero-below n
+join-big n a (suc k) f h e = or-reaches n (f a) (join (suc a) k f) ∙ rw (e a, join-big n (suc a) k f h e) (sym (pos-add (h a) (sum (suc a) k h)))
 
 tree-big : (n d : ℕ) (g h : ℕ → ℕ) → ((c : ℕ) → leb (2 ^ n) (g c) ≡ ltb 0 (h c)) → (i : ℕ) → leb (2 ^ n) (or-tree d g i) ≡ ltb 0 (tree d h i)
 unfolding or-tree tree
-tree-big n zero g h e i = zero-small n
+tree-big n zero g h e i = zero-below n
 tree-big n (suc d) g h e i =
     join-big n (4 * i) 4 (λ c. bitOr (g c) (or-tree d g c)) (λ c. h c + tree d h c)
-    (λ c. or-big n (g c) (or-tree d g c) ∙ rw (e c, tree-big n d g h e c) (sym (pos-add (h c) (tree d h c))))
+    (λ c. or-reaches n (g c) (or-tree d g c) ∙ rw (e c, tree-big n d g h e c) (sym (pos-add (h c) (tree d h c))))
 
 module _ (z : Size) (mag : ℕ → ℕ) where
   within-big : (n c : ℕ) → leb (2 ^ n) (within z mag c) ≡ ltb 0 (within z (λ k. ι (big mag n k)) c)
@@ -66,7 +55,7 @@ module _ (z : Size) (mag : ℕ → ℕ) where
       tell : (t s : Bool) → leb (2 ^ n) (mag c) ≡ s → leb (2 ^ n) (cond t (mag c) 0) ≡ ltb 0 (cond t (ι (leb (2 ^ n) (mag c))) 0)
       tell true true e = rw e
       tell true false e = rw e
-      tell false s e = zero-small n
+      tell false s e = zero-below n
 
   pub desc-summary : (n i : ℕ) → leb (2 ^ n) (or-desc z mag i) ≡ split-desc z mag n i
   unfolding or-desc split-desc desc
