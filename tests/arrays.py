@@ -38,6 +38,11 @@ def random_array(rng, N, P, style):
     return [-m if rng.getrandbits(1) else m for m in size]
 
 
+def placed(N, coefficients):
+    """A linear array with these coefficients, by place, and 0 elsewhere."""
+    return [coefficients.get(i, 0) for i in range(4 ** N)]
+
+
 def scattered(rng, N, P):
     """A linear array of exactly P planes with a few coefficients in each
     generation and in the last place, and none below the first roots: some sets

@@ -126,12 +126,27 @@ def encode(N, L, A, budget):
     return P, bits, mark
 
 
+def generations(I, what, i):
+    """The places held by the set that is tested at place i, as the first and
+    the count of each generation: DESC(i/4) begins with the 4 places from i on,
+    GRAND(i/16) with 16."""
+    count = 4 if what == 'desc' else 16
+    while i < I:
+        yield i, count
+        i, count = 4 * i, 4 * count
+
+
 def decode(N, L, P, bits):
     """Values, precisions, marks and the last finished plane (or P) after the
-    scan reads bits that begin some array's stream. Nothing is refused."""
+    scan reads bits that begin some array's stream. Nothing is refused.
+
+    A precision is the last finished plane (or P) or, where that is lower, the
+    last plane in which the place's own bit was read or, in document 02, "a set
+    that holds it was tested 0".
+    """
     I = 4 ** N
     size, sign = [0] * I, [1] * I
-    own = [P] * I          # the plane of the last own bit read
+    read = [P] * I         # the last plane in which either came
     used, last = 0, P
 
     def next_bit(what, i, b, _):
@@ -141,11 +156,14 @@ def decode(N, L, P, bits):
         bit = bits[used]
         used += 1
         if what == 'sign':
-            size[i], sign[i], own[i] = 1 << b, 1 - 2 * bit, b
+            size[i], sign[i], read[i] = 1 << b, 1 - 2 * bit, b
         elif what == 'refine':
-            size[i], own[i] = size[i] | bit << b, b
+            size[i], read[i] = size[i] | bit << b, b
         elif what == 'own' and bit == 0:
-            own[i] = b
+            read[i] = b
+        elif what in ('desc', 'grand') and bit == 0:
+            for first, count in generations(I, what, i):
+                read[first:first + count] = [b] * count
         return bit
 
     def plane_end(b):
@@ -153,7 +171,7 @@ def decode(N, L, P, bits):
         last = b
 
     mark = scan(N, L, P, next_bit, plane_end)
-    precision = [min(k, last) for k in own]
+    precision = [min(k, last) for k in read]
     values = [s * (m + 2 ** k // 2) if m else 0
               for s, m, k in zip(sign, size, precision)]
     return values, precision, mark, last

@@ -56,7 +56,7 @@ def main():
     page = read("docs", "PROMISES.md")
     counts = [0, 0, 0]
     for line in page.split("\n"):
-        for m in re.finditer(rf"((?:{WORD}(?:, | and )?)+) \((\w+)/(\w+)\)", line):
+        for m in re.finditer(rf"((?:{WORD}(?:, | and )?)+) \((\w+)/([\w/]+)\)", line):
             if m[2] not in ("crate", "CRATE"):
                 counts[0] += theory(re.findall(r"[\w'-]+", m[1].replace(" and ", " ")), m[2], m[3])
         if line.startswith("|"):

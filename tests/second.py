@@ -1,6 +1,6 @@
 #!/usr/bin/env python3
 """A second coder for the texture stream of document 01 (docs/01-scope.md), with
-the sizes of document 02's request T-02.
+the sizes of document 02's request T-02 and the precisions of its T-04.
 
 It reaches the answers of document 01 by other means than the scan with marks,
 so that a coder written from the marks can be compared with it.
@@ -367,8 +367,9 @@ class Decoder:
     standing: the sets, as (kind, i); unfound: the coefficients that stand
     alone and are not found; found: the plane in which each other one was
     found. In the plane b in progress: read holds the coefficients whose own
-    bit was read, fresh those of a set split in it whose own bit was not, and
-    the refinement pass has passed all places below passed.
+    bit was read, fresh those of a set split in it whose own bit was not, zero
+    the sets tested 0, and the refinement pass has passed all places below
+    passed.
     """
 
     def __init__(self, N, L, P, bits, ceiling=None):
@@ -381,7 +382,7 @@ class Decoder:
         D = self.shape.D
         self.unfound, self.found = set(range(D)), {}
         self.standing = {(DESC, i) for i in range(D // 4, D)}
-        self.read, self.fresh = set(), set()
+        self.read, self.fresh, self.zero = set(), set(), []
         self.question = None
 
     def next_bit(self):
@@ -429,7 +430,7 @@ class Decoder:
     def plane(self, b):
         """Plane b: the pixel pass, the set pass and the refinement pass."""
         self.b, self.passed = b, 0
-        self.read, self.fresh = set(), set()
+        self.read, self.fresh, self.zero = set(), set(), []
         self.greatest.start(b)
         start = self.used
         found_before = sorted(self.found)
@@ -444,6 +445,8 @@ class Decoder:
             elif self.answer(kind, i):
                 for kind, i in self.split(kind, i):
                     heappush(queue, (STEP[kind] * i, kind, i))
+            else:
+                self.zero.append((kind, i))
         for i in found_before:
             self.passed = i
             self.known[i] |= self.answer(PIXEL, i) << b
@@ -470,17 +473,22 @@ class Decoder:
     def precisions(self):
         """Each coefficient's precision k: "b if its own bit of the plane b in
         progress was read (with its sign, where one follows); else the number
-        of the last finished plane, or P if none"."""
+        of the last finished plane, or P if none". Document 02: "A coefficient
+        also has precision b when a set that holds it was tested 0 in the plane
+        in progress"."""
         precisions = [self.last_plane()] * self.shape.I
         for i in self.read:
             precisions[i] = self.b
+        for kind, i in self.zero:
+            for m in self.shape.members(kind, i):
+                precisions[m] = self.b
         return precisions
 
-    def values(self):
+    def values(self, precisions):
         """Each value from the bits k and above of the magnitude: "Known bits
         m: if m is 0 the value is 0, else m + 2^(k-1) with its sign; for k = 0
         it is m". Where no coefficient was found nothing is known."""
-        values, precisions = [0] * self.shape.I, self.precisions()
+        values = [0] * self.shape.I
         for i in self.found:
             k = precisions[i]
             m = self.known[i] >> k << k
@@ -524,7 +532,8 @@ def decode(N, L, P, bits, ceiling=None):
     decoder, refused = ran(N, L, P, tuple(bits), ceiling and tuple(ceiling))
     if refused:
         return refused
-    return Decoded(decoder.values(), decoder.precisions(), decoder.marks(),
+    precisions = decoder.precisions()
+    return Decoded(decoder.values(precisions), precisions, decoder.marks(),
                    decoder.used, decoder.finished,
                    2 ** decoder.last_plane() - 1, decoder.plane_bits)
 

@@ -6,16 +6,18 @@ on small cases and random comparisons with the literal scan.
 
 import random
 import time
+from collections import namedtuple
 from itertools import product
+from operator import le
 
 import literal
-from arrays import STYLES, random_array, random_bits, scattered
+from arrays import STYLES, placed, random_array, random_bits, scattered
 from second import (
-    DESC, GRAND, N_LIMIT, PIXEL, Decoder, Encoded, Refused, decode, decode_file,
-    encode, encode_file, linear_place, linear_places, marks_after,
-    output_bytes, pack, parts_after, plane_count, plane_figures, read_file,
-    shape_of, show, stream_by_plane, summaries, to_linear, to_raster,
-    worst_body, write_file)
+    DESC, GRAND, N_LIMIT, PIXEL, STEP, Decoder, Encoded, Refused, decode,
+    decode_file, encode, encode_file, linear_place, linear_places,
+    marks_after, output_bytes, pack, parts_after, plane_count, plane_figures,
+    read_file, shape_of, show, stream_by_plane, summaries, to_linear,
+    to_raster, worst_body, write_file)
 
 NO_BUDGET = 2 ** 32 - 1
 
@@ -38,6 +40,18 @@ EZW = [int(word) for word in '''
 15 14 3 -12 5 -7 3 9 -9 -7 -14 8 4 -2 3 2
 -5 9 -1 47 4 6 -2 2 3 0 -3 2 3 -2 0 4
 2 -3 6 -4 3 6 3 6 5 11 5 6 0 3 -4 4'''.split()]
+
+# N, L and arrays with small streams, whose every cut is compared here and is
+# one of the vectors. Where L is over 1, a GRAND is tested 0 in the plane that
+# finds a child, and in a later one before the child is refined.
+SMALL = (
+    (2, 1, SAMPLE),
+    (3, 1, placed(3, {0: 5, 3: -2, 9: 1, 17: 4, 18: -1, 40: -2, 63: 1})),
+    (3, 2, placed(3, {0: -6, 2: 3, 5: 4, 7: -1, 9: 2, 21: 1, 50: -5, 63: 1})),
+    (4, 2, placed(4, {1: 3, 14: -4, 17: 5, 25: 2, 70: -1, 200: -6, 203: 2,
+                      255: 1})),
+    (4, 3, placed(4, {0: 7, 3: -1, 6: -4, 8: 1, 27: 2, 36: 5, 37: -2, 109: -1,
+                      255: -3})))
 
 checks = 0
 
@@ -150,8 +164,7 @@ def ezw():
     # with DESC(8), DESC(9) with 47, DESC(10), DESC(11).
     words = '10 11 0 0 1 10 0 0 0 1 0 0 0 0 0 0 1 0 1 0 10 0 0 0 0'
     equal(planes[0], bits_of(words.replace(' ', '')), 'its first plane')
-    for cut in range(sum(map(len, planes)) + 1):
-        compare_cut(3, 2, A, cut)
+    every_cut(3, 2, A)
 
 
 # Index layer.
@@ -222,11 +235,67 @@ def trees():
                   'entries below D/4')
 
 
+# Answers one by one.
+
+Asked = namedtuple('Asked', 'b stage what place bit')
+
+
+def asked(N, L, P, bits):
+    """What each bit of a stream's beginning answers, by the literal scan: its
+    plane and pass, what is asked at which place, and the bit."""
+    answers = []
+
+    def next_bit(what, place, b, mark):
+        if len(answers) == len(bits):
+            raise literal.NoNextBit
+        stage = ('refinement' if what == 'refine' else
+                 'pixel' if mark[place] == literal.MIP else 'set')
+        answers.append(Asked(b, stage, what, place, bits[len(answers)]))
+        return answers[-1].bit
+
+    literal.scan(N, L, P, next_bit)
+    return answers
+
+
+def own_read(answers, b):
+    """The coefficients whose own bit of plane b was read, with its sign where
+    one follows."""
+    return [one.place for one in answers if one.b == b
+            and (one.what in ('sign', 'refine')
+                 or one.what == 'own' and one.bit == 0)]
+
+
+def set_zeros(shape, answers, b):
+    """The members of the sets tested 0 in plane b, set after set."""
+    members = []
+    for one in answers:
+        if one.b == b and one.bit == 0 and one.what in ('desc', 'grand'):
+            kind = DESC if one.what == 'desc' else GRAND
+            members += shape.members(kind, one.place // STEP[kind])
+    return members
+
+
+def own_map(shape, answers, last):
+    """The precisions of own bits alone, as document 01 has them; last is the
+    last finished plane, or P."""
+    precisions = [last] * shape.I
+    for i in own_read(answers, last - 1):
+        precisions[i] = last - 1
+    return precisions
+
+
+def midpoint(a, k):
+    """The value of a coefficient that is known to precision k."""
+    m = abs(a) >> k << k
+    size = m + (1 << k >> 1) if m else 0
+    return -size if a < 0 else size
+
+
 # Comparisons on random arrays.
 
 def compare_cut(N, L, A, budget):
     """One cut: bits, marks, values and precisions against the literal scan,
-    and the bounds on the error."""
+    and the bounds on the error. Gives the answer."""
     P, bits, mark = literal.encode(N, L, A, budget)
     equal(encode(N, L, A, budget), (P, bits), 'bits')
     answer = decode(N, L, P, bits)
@@ -242,16 +311,41 @@ def compare_cut(N, L, A, budget):
           'worst error')
     equal(all(abs(a) >> k == abs(v) >> k and (v == 0 or (a < 0) == (v < 0))
               for a, v, k in zip(A, values, precisions)), True, 'known bits')
+    # document 02: "each coefficient is wrong by less than 2^k of its own k",
+    # and "Values don't change"
+    equal(all(abs(a - v) < 2 ** k for a, v, k in zip(A, values, precisions)),
+          True, 'own error')
+    before = own_map(shape_of(N, L), asked(N, L, P, bits), last)
+    equal(values, list(map(midpoint, A, before)), 'values of own bits alone')
+    return answer
+
+
+def every_cut(N, L, A):
+    """All cuts of a stream in turn. No bit makes a precision larger, and the
+    last bit of a plane leaves its number everywhere."""
+    ends = [0]
+    for plane in stream_by_plane(N, L, A):
+        ends.append(ends[-1] + len(plane))
+    P = plane_count(A)
+    last = [P] * 4 ** N
+    for cut in range(ends[-1] + 1):
+        precisions = compare_cut(N, L, A, cut).precisions
+        equal(all(map(le, precisions, last)), True, 'no precision is larger')
+        if cut in ends:
+            equal(precisions, [P - ends.index(cut)] * 4 ** N, 'end of a plane')
+        last = precisions
 
 
 def compare_planes(N, L, A):
     """Plane by plane: the count of bits from the parts that stand, the sizes of
-    the parts, and the bound."""
+    the parts, and the bound; and each coefficient's precision from the answers
+    of the plane alone, so that its end changes none."""
     shape = shape_of(N, L)
     P = plane_count(A)
     planes = stream_by_plane(N, L, A)
     whole = [bit for plane in planes for bit in plane]
     answer = decode(N, L, P, whole)
+    answers = asked(N, L, P, whole)
     equal(answer.values, A, 'whole stream')
     equal(answer.plane_bits, [len(plane) for plane in planes], 'bits by plane')
     total_parts = total_split = 0
@@ -262,6 +356,9 @@ def compare_planes(N, L, A):
                 + sum(len(shape.members(DESC, i)) for i in parts.desc)
                 + sum(len(shape.members(GRAND, i)) for i in parts.grand))
         equal(size, shape.I, 'sizes add up to I')
+        # its own bit was read, or else one set that holds it tested 0
+        equal(sorted(own_read(answers, b) + set_zeros(shape, answers, b)),
+              list(range(shape.I)), 'answers of a plane')
         standing, split = plane_figures(N, L, A, b)
         found = sum(2 ** b <= abs(a) < 2 ** (b + 1) for a in A)
         equal(len(plane), standing + split + found, 'bits of a plane')
@@ -293,6 +390,14 @@ def random_arrays(count):
         compare_planes(N, L, A)
         length = sum(map(len, stream_by_plane(N, L, A)))
         compare_cut(N, L, A, rng.randint(0, length))
+
+
+def small_streams():
+    """Every cut of small streams."""
+    rng = random.Random(9)
+    for N, L, A in SMALL:
+        every_cut(N, L, A)
+        every_cut(N, L, scattered(rng, N, 3))
 
 
 def large_arrays():
@@ -474,6 +579,11 @@ def random_bodies(count):
         A = [-a if negative else a for a, negative
              in zip(decoder.greatest.array(), decoder.negative)]
         equal(encode(N, L, A, len(bits)), (P, bits), 'an array fits')
+        # It has every bit below a precision, and those known from there on.
+        answer = decode(N, L, P, bits)
+        equal([abs(v) >> k << k | (1 << k) - 1 for v, k
+               in zip(answer.values, answer.precisions)],
+              list(map(abs, A)), 'no more is known')
     for kind in kinds:
         equal(kinds[kind] > 0, True, 'kind ' + kind)
 
@@ -566,6 +676,7 @@ def run(full=False):
     top_planes()
     trees()
     random_arrays(6000 if full else 1200)
+    small_streams()
     large_arrays()
     worst_bodies()
     all_small(full)

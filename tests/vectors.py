@@ -23,7 +23,8 @@ import second
 from arrays import (STYLES, random_array, random_bits, scattered, stretched,
                     tiled)
 from second import Decoder, Refused, encode, write_file
-from selftest import EZW, NO_BUDGET, SAMPLE, clash_kind
+from selftest import (EZW, NO_BUDGET, SAMPLE, SMALL, asked, clash_kind,
+                      own_map)
 
 # A case: the letter of its call, the numbers that go in, the answer, the
 # lengths lent of the TABLES, the arrays that go in, and what the first entries
@@ -332,6 +333,78 @@ def decode_cases(seed):
         yield from contradictions(rng, N, L, 20)
         yield from lent_lengths(rng, N, L)
     yield from damaged_headers(rng)
+
+
+def every_bit_cases():
+    """(kind, case) of the cuts of small streams after every bit. Those of the
+    sample are among the decode cases."""
+    for N, L, A in SMALL[1:]:
+        P, bits = encode(N, L, A, NO_BUDGET)
+        for count in range(len(bits) + 1):
+            data = write_file(N, L, P, count, bits[:count])
+            yield 'every bit', decode_case(data)
+
+
+# What is told apart among the cuts of the small streams.
+CUT_KINDS = ('inside the pixel pass', 'inside the set pass',
+             'inside the refinement pass', 'before the last bit of a set pass',
+             'after the last bit of a set pass', 'after a DESC of 0',
+             'after a GRAND of 0', 'after a GRAND of 0 with a child to refine',
+             'before a sign', 'with a precision by a set alone')
+
+
+def cut_kinds(answers, count):
+    """The kinds of a stream's cut after so many bits, by what the bits
+    answer."""
+    last, ahead, later = ([None] + answers + [None] * 2)[count:count + 3]
+
+    def together(one, other):
+        """Are these bits of one pass of one plane?"""
+        return one and other and (one.b, one.stage) == (other.b, other.stage)
+
+    if together(last, ahead):
+        yield 'inside the %s pass' % last.stage
+    for when, one, other in (('before', ahead, later),
+                             ('after', last, ahead)):
+        if one and one.stage == 'set' and not together(one, other):
+            yield when + ' the last bit of a set pass'
+    if last and last.what in ('desc', 'grand') and last.bit == 0:
+        yield 'after a %s of 0' % last.what.upper()
+        if last.what == 'grand' and any(
+                one.what == 'sign' and one.b > last.b
+                and one.place // 4 == last.place // 16
+                for one in answers[:count]):
+            yield 'after a GRAND of 0 with a child to refine'
+    if ahead and ahead.what == 'sign':
+        yield 'before a sign'
+
+
+def cut_counts(cases):
+    """The number of cuts of each kind of the small streams. Every cut has to
+    be among the cases, and every kind among the cuts of each stream, but for
+    those of a GRAND where there is one level."""
+    stored = {one.file: one for _, one in cases
+              if one.letter == 'D' and not one.answer[0]}
+    counts, marks = Counter(), set()
+    for N, L, A in SMALL:
+        P, bits = encode(N, L, A, NO_BUDGET)
+        answers, here = asked(N, L, P, bits), Counter()
+        for count in range(len(bits) + 1):
+            one = stored.get(write_file(N, L, P, count, bits[:count]))
+            if one is None:
+                raise SystemExit('a cut of a small stream is not stored')
+            here.update(cut_kinds(answers, count))
+            last = P - one.answer[ANSWER.index('finished')]
+            here['with a precision by a set alone'] += one.bytes != own_map(
+                second.shape_of(N, L), answers[:count], last)
+            marks.update(one.marks)
+        for kind in CUT_KINDS:
+            if not here[kind] and (L > 1 or 'GRAND' not in kind):
+                raise SystemExit('N %d L %d: no cut %s' % (N, L, kind))
+        counts += here
+    if not marks >= set(range(second.MN(3) + 1)):
+        raise SystemExit('a mark is missing in the small streams')
+    return counts
 
 
 def absent_body(rng, N, L):
@@ -1085,8 +1158,12 @@ def write(directory, seed):
         write_show(number, kind, data)
     cases = list(coder_cases(seed, decodes))
     for more in (worst_cases(), place_cases(seed), order_cases(seed),
-                 number_cases(seed), small_cases(), stored_cases(seed)):
+                 number_cases(seed), small_cases(), stored_cases(seed),
+                 every_bit_cases()):
         cases += more
+    counts = cut_counts(cases)
+    for kind in CUT_KINDS:
+        print('cuts %s: %d' % (kind, counts[kind]))
     good = remarked(cases, True)
     wrong = remarked(damaged_cases(cases), True)
     wrong += remarked(damaged_wide(STORED_N), True)

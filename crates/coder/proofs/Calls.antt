@@ -1,12 +1,12 @@
 -- What the contracts of `encode` and `decode` give together: demand 2 at the level of the calls. The hypotheses are the two contracts.
-use Prim.Native.Nat.{ℕ, _+_, _*_, _-_, _≤_, _<_, min}
+use Prim.Native.Nat.{ℕ, _+_, _*_, _-_, _^_, _≤_, _<_, min}
 use mathlib.Core.Path.{_≡_, refl, sym, ap, subst, _∙_}
 use mathlib.Core.Bool.{Bool}
 use mathlib.Core.List.{List, _++_}
 use native.Mathlib.Decide.{decLt}
 use native.Mathlib.Omega.{arith}
 use lib.IntN.{ℤ, pos, natAbs, _-ℤ_}
-use lib.ListN.{length, take, drop, replicate, length-append, length-take, List·getD-append}
+use lib.ListN.{length, getD, take, drop, replicate, length-append, length-take, List·getD-append}
 use lib.Seq.{take-all, length-take-le, drop-at}
 use Rattle.refusals.specs.Checks.{firstOf}
 use Rattle.refusals.specs.declared.Refusal.the-variants.{Contradiction, Beyond}
@@ -15,7 +15,7 @@ use Rattle.refusals.specs.declared.Outcome.the-variants as outcome
 use Rattle.sizes.specs.Sizes.{allOf, Sized}
 use Rattle.sizes.specs.Tables.{table}
 use Rattle.sizes.proofs.Laws.{sized}
-use Rattle.sizes.proofs.Tables.{table-length}
+use Rattle.sizes.proofs.Tables.{table-length, table-front}
 use Rattle.bits.specs.Bits.{packed}
 use Rattle.bits.proofs.Laws.{packed-length, bitsOf-append, bitsOf-packed}
 use Rattle.coef.specs.Coef.{at, planesOf}
@@ -24,6 +24,7 @@ use Rattle.nls.specs.Stream.{stream}
 use Rattle.nls.specs.Reading.{midpoint, valueBy, highBits, precisionAt, valuesBy, precisions, planesFinished, worstError}
 use Rattle.nls.specs.Judging.{Begins, Fits, Contradicts, IsBeyond, Verdict, taken, contradiction, beyond, Judged}
 use Rattle.nls.proofs.Demands as demands
+use Rattle.nls.proofs.Values.{midpoint-between}
 use Rattle.nls.proofs.Verdicts.{judged-only}
 use Rattle.room.specs.Room.{readChecks, bodyBits}
 use Rattle.room.specs.Ready.{EncodeReady}
@@ -75,17 +76,26 @@ module _ (N L P : ℕ) (z : Sized N L) (u : List Bool) (held : Tables) (answer :
       go (contradiction n) j f = absurd (let z : _≡_ {A = ℕ} 0 1 = cc in omega arith)
       go (beyond n) j f = let e : n ≡ k = cc in subst (λ (x : ℕ). IsBeyond N L P u x) e j
 
-  -- CUT: for every array whose stream begins so, the values are the rule's at its own bits and the precisions, and none is further off than the worst error
+  -- CUT: for every array whose stream begins so, the values are the rule's at its own bits and the precisions, and none is further off than the worst error,
+  -- nor as far as its own precision says
   module _ (A : List ℤ) (b : Begins N L P A u) where
     pub cut : left .values ≡ table (allOf N) (λ i. valueBy midpoint (precisionAt N L P u i) (highBits (precisionAt N L P u i) (at A i))) ++ drop (allOf N) (held .values)
     cut = ap (λ (t : Tables). t .values) (taken-so (A, b) .1) ∙ ap (λ (l : List ℤ). l ++ drop (allOf N) (held .values)) (demands.cut N L P z A u b)
 
-    pub near : (i : ℕ) → i < allOf N → natAbs (at (left .values) i -ℤ at A i) ≤ worstError N L P u
-    near i h =
+    -- the value at i, of the entries that decoding fills
+    value-at : (i : ℕ) → i < allOf N → at (left .values) i ≡ at (valuesBy N L P u midpoint) i
+    value-at i h =
         let long : length (valuesBy N L P u midpoint) ≡ allOf N = table-length (allOf N) _ in
-        subst (λ (y : ℤ). natAbs (y -ℤ at A i) ≤ worstError N L P u)
-        (sym (ap (λ (t : Tables). at (t .values) i) (taken-so (A, b) .1) ∙ List·getD-append (valuesBy N L P u midpoint) (drop (allOf N) (held .values)) (pos 0) i (omega (arith, h, long))))
-        (demands.near N L P z A u b i h)
+        ap (λ (t : Tables). at (t .values) i) (taken-so (A, b) .1) ∙ List·getD-append (valuesBy N L P u midpoint) (drop (allOf N) (held .values)) (pos 0) i (omega (arith, h, long))
+
+    pub near : (i : ℕ) → i < allOf N → natAbs (at (left .values) i -ℤ at A i) ≤ worstError N L P u
+    near i h = subst (λ (y : ℤ). natAbs (y -ℤ at A i) ≤ worstError N L P u) (sym (value-at i h)) (demands.near N L P z A u b i h)
+
+    -- "each coefficient is wrong by less than 2^k of its own k", k as the call leaves it in the lent precisions
+    pub own-near : (i : ℕ) → i < allOf N → natAbs (at (left .values) i -ℤ at A i) < 2 ^ getD (left .precisions) i 0
+    own-near i h =
+        let k : getD (left .precisions) i 0 ≡ precisionAt N L P u i = ap (λ (t : Tables). getD (t .precisions) i 0) (taken-so (A, b) .1) ∙ table-front (allOf N) _ _ i 0 h in
+        rw (value-at i h, k) (demands.own-near N L P z A u b midpoint midpoint-between i h)
 
 -- ---- `decode` of what `encode` wrote
 

@@ -20,20 +20,10 @@ use Rattle.coef.specs.Coef.{magnitude, negative, signed}
 use Rattle.coef.specs.Coef as coef
 use Rattle.coef.proofs.Laws.{magnitude-signed, negative-signed}
 use Rattle.nls.specs.Scan.{Question, bitOf, signOf, inDesc, inGrand, Pass, pixels, sets, refining, asks, look, lookRefining}
-use Rattle.nls.specs.Reading.{Known, noted, learn}
-use Rattle.nls.proofs.Known.{Sound, lower-round}
-use Rattle.decoder.specs.Reading.{newCode, moreCode, plainOf, keep}
+use Rattle.nls.specs.Reading.{Known, learn}
+use Rattle.nls.proofs.Known.{Sound}
+use Rattle.decoder.specs.Reading.{coded, codes, newCode, moreCode, plainOf, keep}
 use Rattle.walk.proofs.Good.{state}
-
-abbrev pub coded : ℤ → ℤ
-coded z = pos (2 * magnitude z + digit (negative z))
-
-unfoldable pub codes : List ℤ → List ℤ
-codes [] = []
-codes (z ∷ rest) = coded z ∷ codes rest
-
-abbrev pub inCodes : Known → Known
-inCodes k = record { bits = codes (k .bits); planes = k .planes }
 
 pub codes-at : (l : List ℤ) (i : ℕ) → coef.at (codes l) i ≡ coded (coef.at l i)
 unfolding codes
@@ -112,9 +102,6 @@ code-more z x b e h l = go x ∙ sym (code-sum z (digit x * 2 ^ b))
         ∙ ap (λ (k : ℕ). toZ w32 k) (or-zero-r (2 * magnitude z + s) ∙ w)
         ∙ toZ-pos w32 (omega (arith, h, digit-le (negative z)))
 
-noted-codes : (i : ℕ) (w z : ℤ) (b : ℕ) (k : Known) → w ≡ coded z → noted i w b (inCodes k) ≡ inCodes (noted i z b k)
-noted-codes i w z b k e = ap {B = Known} (λ (l : List ℤ). record { bits = l; planes = set (k .planes) i b }) (ap (λ (y : ℤ). set (codes (k .bits)) i y) e ∙ codes-set (k .bits) i z)
-
 -- what is kept of an answer is the code of what is learned
 module _ (I P : ℕ) (b i : ℕ) (m : List ℕ) (k : Known) (h : i < I) where
   refined-there : (x s w : Bool) (j c : ℕ) → lookRefining b i m x s w ≡ asks (bitOf j c) → eqb (getD m i 0) 3 ≡ s → (i ≡ j) × (getD m i 0 ≡ 3)
@@ -126,36 +113,39 @@ module _ (I P : ℕ) (b i : ℕ) (m : List ℕ) (k : Known) (h : i < I) where
   refined-code : (e a : Bool) → Sound I P (state (suc b) refining i e m) k → P ≤ 24 → getD m i 0 ≡ 3
       → moreCode a b (coef.at (codes (k .bits)) i) ≡ coded (signed (negative (coef.at (k .bits) i)) (magnitude (coef.at (k .bits) i) + digit a * 2 ^ b))
   refined-code e a f t three =
-      let own : suc b ≤ getD (k .planes) i 0 = f .fresh i h three (omega arith) in
+      let s : suc b ≡ b + 1 = omega arith in
+      let own : magnitude (coef.at (k .bits) i) % 2 ^ (b + 1) ≡ 0 = subst (λ (x : ℕ). magnitude (coef.at (k .bits) i) % 2 ^ x ≡ 0) s (f .fresh i h three (omega arith)) in
       let small : magnitude (coef.at (k .bits) i) < 2 ^ 24 = omega (arith, f .range i h, pow-mono {i = P} {j = 24} t) in
-      ap (λ (z : ℤ). moreCode a b z) (codes-at (k .bits) i)
-      ∙ code-more (coef.at (k .bits) i) a b (lower-round (b + 1) (getD (k .planes) i 0) (magnitude (coef.at (k .bits) i)) (omega (arith, own)) (f .round i h)) small (omega (arith, f .left, t))
+      ap (λ (z : ℤ). moreCode a b z) (codes-at (k .bits) i) ∙ code-more (coef.at (k .bits) i) a b own small (omega (arith, f .left, t))
 
-  pub learn-is : (p : Pass) (e : Bool) (a : Bool) (q : Question) → look I (state (suc b) p i e m) ≡ asks q → Sound I P (state (suc b) p i e m) k → P ≤ 24
-      → keep p b q a (inCodes k) ≡ inCodes (learn p b q a k)
-  learn-is pixels false a (bitOf j c) l f t = go a
-    where
-      go : (a : Bool) → keep pixels b (bitOf j c) a (inCodes k) ≡ inCodes (learn pixels b (bitOf j c) a k)
-      go true = refl
-      go false = refl
-  learn-is sets false a (bitOf j c) l f t = go a
-    where
-      go : (a : Bool) → keep sets b (bitOf j c) a (inCodes k) ≡ inCodes (learn sets b (bitOf j c) a k)
-      go true = refl
-      go false = refl
-  learn-is refining false a (bitOf j c) l f t =
+  set-codes : (j : ℕ) (w z : ℤ) → w ≡ coded z → set (codes (k .bits)) j w ≡ codes (set (k .bits) j z)
+  set-codes j w z e = ap (λ (y : ℤ). set (codes (k .bits)) j y) e ∙ codes-set (k .bits) j z
+
+  pub learn-is : (N L : ℕ) (p : Pass) (e : Bool) (a : Bool) (q : Question) → look I (state (suc b) p i e m) ≡ asks q → Sound I P (state (suc b) p i e m) k → P ≤ 24
+      → keep p b q a (codes (k .bits)) ≡ codes (learn N L p b q a k .bits)
+  learn-is N L pixels false false (bitOf j c) l f t = refl
+  learn-is N L pixels false true (bitOf j c) l f t = refl
+  learn-is N L sets false false (bitOf j c) l f t = refl
+  learn-is N L sets false true (bitOf j c) l f t = refl
+  learn-is N L refining false a (bitOf j c) l f t =
       let y : (i ≡ j) × (getD m i 0 ≡ 3) = refined-there (ltb i I) (eqb (getD m i 0) 3) (eqb (getD m i 0) 2) j c l refl in
-      subst (λ (x : ℕ). keep refining b (bitOf x c) a (inCodes k) ≡ inCodes (learn refining b (bitOf x c) a k)) (y .0)
-      (noted-codes i _ (signed (negative (coef.at (k .bits) i)) (magnitude (coef.at (k .bits) i) + digit a * 2 ^ b)) b k (refined-code false a f t (y .1)))
-  learn-is refining true a (bitOf j c) l f t = let z : _≡_ {A = ℕ} 0 1 = cc in absurd (omega (arith, z))
-  learn-is pixels true a (bitOf j c) l f t = let z : _≡_ {A = ℕ} 0 1 = cc in absurd (omega (arith, z))
-  learn-is sets true a (bitOf j c) l f t = let z : _≡_ {A = ℕ} 0 1 = cc in absurd (omega (arith, z))
-  learn-is pixels e a (signOf j) l f t = noted-codes j (newCode a b) (signed a (2 ^ b)) b k (code-found a b)
-  learn-is sets e a (signOf j) l f t = noted-codes j (newCode a b) (signed a (2 ^ b)) b k (code-found a b)
-  learn-is refining e a (signOf j) l f t = noted-codes j (newCode a b) (signed a (2 ^ b)) b k (code-found a b)
-  learn-is pixels e a (inDesc g c) l f t = refl
-  learn-is sets e a (inDesc g c) l f t = refl
-  learn-is refining e a (inDesc g c) l f t = refl
-  learn-is pixels e a (inGrand g c) l f t = refl
-  learn-is sets e a (inGrand g c) l f t = refl
-  learn-is refining e a (inGrand g c) l f t = refl
+      subst (λ (x : ℕ). keep refining b (bitOf x c) a (codes (k .bits)) ≡ codes (learn N L refining b (bitOf x c) a k .bits)) (y .0)
+      (set-codes i _ (signed (negative (coef.at (k .bits) i)) (magnitude (coef.at (k .bits) i) + digit a * 2 ^ b)) (refined-code false a f t (y .1)))
+  learn-is N L refining true a (bitOf j c) l f t = let z : _≡_ {A = ℕ} 0 1 = cc in absurd (omega (arith, z))
+  learn-is N L pixels true a (bitOf j c) l f t = let z : _≡_ {A = ℕ} 0 1 = cc in absurd (omega (arith, z))
+  learn-is N L sets true a (bitOf j c) l f t = let z : _≡_ {A = ℕ} 0 1 = cc in absurd (omega (arith, z))
+  learn-is N L pixels e a (signOf j) l f t = set-codes j (newCode a b) (signed a (2 ^ b)) (code-found a b)
+  learn-is N L sets e a (signOf j) l f t = set-codes j (newCode a b) (signed a (2 ^ b)) (code-found a b)
+  learn-is N L refining e a (signOf j) l f t = set-codes j (newCode a b) (signed a (2 ^ b)) (code-found a b)
+  learn-is N L pixels e false (inDesc g c) l f t = refl
+  learn-is N L pixels e true (inDesc g c) l f t = refl
+  learn-is N L pixels e false (inGrand g c) l f t = refl
+  learn-is N L pixels e true (inGrand g c) l f t = refl
+  learn-is N L sets e false (inDesc g c) l f t = refl
+  learn-is N L sets e true (inDesc g c) l f t = refl
+  learn-is N L sets e false (inGrand g c) l f t = refl
+  learn-is N L sets e true (inGrand g c) l f t = refl
+  learn-is N L refining e false (inDesc g c) l f t = refl
+  learn-is N L refining e true (inDesc g c) l f t = refl
+  learn-is N L refining e false (inGrand g c) l f t = refl
+  learn-is N L refining e true (inGrand g c) l f t = refl

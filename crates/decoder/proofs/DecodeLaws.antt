@@ -6,33 +6,33 @@ use mathlib.Core.List.{List, _++_}
 use native.Mathlib.Nat.{one-le-pow}
 use native.Mathlib.Omega.{arith}
 use lib.IntN.{ℤ, pos}
-use lib.ListN.{length, getD, take, drop, replicate}
+use lib.ListN.{length, take, drop, replicate}
 use lib.Seq.{length-take-le}
 use lib.Pow.{pow-mono}
 use Rattle.refusals.specs.declared.Refusal.the-variants.{Contradiction, Beyond}
-use Rattle.sizes.specs.Sizes.{limit, mostPlanes, allOf, coarsestOf, Sized}
+use Rattle.sizes.specs.Sizes.{mostPlanes, allOf, coarsestOf, Sized}
 use Rattle.sizes.specs.Tables.{table}
 use Rattle.sizes.proofs.Laws.{side-least, side-most, sized, coarsest-least}
 use Rattle.bits.specs.Bits.{bitsOf}
 use Rattle.bits.proofs.Laws.{bitsOf-length}
-use Rattle.coef.specs.Coef.{at, magnitude, negative}
+use Rattle.coef.specs.Coef.{at}
 use Rattle.nls.specs.Marks.{startMarks}
 use Rattle.nls.specs.Stream.{after}
-use Rattle.nls.specs.Reading.{Known, known, midpoint, valueBy, lastPlane}
+use Rattle.nls.specs.Reading.{known, midpoint, valueBy, lastPlane}
+use Rattle.nls.specs.Turns.{standing, precisionBy}
 use Rattle.nls.specs.Judging.{Verdict, taken, contradiction, beyond, Judged}
 use Rattle.nls.proofs.Known.{left-most}
-use Rattle.nls.proofs.Values.{midpoint-between, value-range}
 use Rattle.nls.proofs.Verdicts.{verdict, verdict-judged}
 use Rattle.room.specs.Room.{bodyBits}
-use Rattle.walk.specs.Scans.{Ran, last, isBad, planes, leftOf}
+use Rattle.walk.specs.Scans.{Ran, last, nowOf, isBad, planes, leftOf}
 use Rattle.walk.specs.Visits.{Sv, scanOf}
-use Rattle.decoder.specs.Reading.{Read, plainOf, reader, st, Holds}
+use Rattle.decoder.specs.Reading.{Read, codes, plainOf, reader, st, Holds, Stood}
 use Rattle.decoder.specs.Body.{Tables, tables, zeros, ownTables, over, BodyRead}
 use Rattle.decoder.specs.Calls.{ReadReady}
 use Rattle.decoder.specs.declared.body.ReadAnswer.{ReadAnswer}
 use Rattle.decoder.specs.declared.body.ReadAnswer.the-variants.{Done, Refused}
-use Rattle.decoder.proofs.Coded.{codes, codes-at, plain-coded}
 use Rattle.decoder.proofs.FinishLaws.{whole}
+use Rattle.decoder.proofs.StoodLaws.{values-are, precisions-are}
 use Rattle.decoder.proofs.Received.{Matches, reads}
 
 -- three equal tables
@@ -40,28 +40,29 @@ same-tables : (v w : List ℤ) (p q m n : List ℕ) → v ≡ w → p ≡ q → 
 same-tables v w p q m n a b c = λ i. tables (a i) (b i) (c i)
 
 module _ (N L P values precisions marks : ℕ) (ready : ReadReady N L P values precisions marks) (body : List ℕ) (usable : ℕ) where
-  z : Sized N L
+  abbrev pub z : Sized N L
   z = sized N L (ready .levels)
 
-  -- where the scan ended: the bits used, the planes left, whether a bit fits no array, and the tables
-  module _ (n left : ℕ) (bad : Bool) (m : List ℕ) (v : List ℤ) (p : List ℕ) where
+  -- where the scan ended: the bits used, the planes left, where it stands, whether a bit fits no array, and the tables
+  module _ (n left now : ℕ) (bad : Bool) (m : List ℕ) (v : List ℤ) where
     pub record Took : Type 0 where
       pub used : n ≡ usable
       pub marked : m ≡ after N L P (bitsOf usable body) .marks
       pub valued : v ≡ codes (known N L P (bitsOf usable body) .bits)
-      pub planed : p ≡ known N L P (bitsOf usable body) .planes
       pub lefts : left ≡ lastPlane N L P (bitsOf usable body)
+      pub stands : now ≡ standing (allOf N) (after N L P (bitsOf usable body) .pass) (after N L P (bitsOf usable body) .place)
+      pub ended : left ≡ 0 → now ≡ 0
 
     abbrev pub Ends : Verdict → Type 0
     Ends taken = (bad ≡ false) × Took
     Ends (contradiction k) = (bad ≡ true) × (n ≡ k) × (k < usable)
     Ends (beyond k) = (bad ≡ false) × (n ≡ k) × (k < usable)
 
-    pub ends : (m₀ : List ℕ) (v₀ : List ℤ) (p₀ : List ℕ) (all coarsest : ℕ) → all ≡ allOf N → coarsest ≡ coarsestOf N L
-        → m₀ ≡ startMarks all coarsest → v₀ ≡ replicate (allOf N) (pos 0) → p₀ ≡ replicate (allOf N) P
-        → Holds (planes (scanOf (reader body usable all coarsest P) all) P (st m₀ v₀ p₀ 0)) (leftOf (scanOf (reader body usable all coarsest P) all) P (st m₀ v₀ p₀ 0)) n left bad m v p
+    pub ends : (m₀ : List ℕ) (v₀ : List ℤ) (all coarsest : ℕ) → all ≡ allOf N → coarsest ≡ coarsestOf N L
+        → m₀ ≡ startMarks all coarsest → v₀ ≡ replicate (allOf N) (pos 0)
+        → Holds (planes (scanOf (reader body usable all coarsest P) all) P (st m₀ v₀ 0)) (leftOf (scanOf (reader body usable all coarsest P) all) P (st m₀ v₀ 0)) n left now bad m v
         → Ends (verdict N L P (bitsOf usable body))
-    ends m₀ v₀ p₀ all coarsest ea ec em ev ep h =
+    ends m₀ v₀ all coarsest ea ec em ev h =
         go (verdict N L P (bitsOf usable body))
         (reads N L P (ready .planes) body usable (omega (arith, side-least N (ready .side))) (side-most N (ready .side)) (coarsest-least N L z))
       where
@@ -69,16 +70,16 @@ module _ (N L P values precisions marks : ℕ) (ready : ReadReady N L P values p
         begun = em ∙ rw (ea, ec)
 
         E : Ran (Sv Read)
-        E = planes (scanOf (reader body usable (allOf N) (coarsestOf N L) P) (allOf N)) P (st (startMarks (allOf N) (coarsestOf N L)) (replicate (allOf N) (pos 0)) (replicate (allOf N) P) 0)
+        E = planes (scanOf (reader body usable (allOf N) (coarsestOf N L) P) (allOf N)) P (st (startMarks (allOf N) (coarsestOf N L)) (replicate (allOf N) (pos 0)) 0)
 
         l : ℕ
-        l = leftOf (scanOf (reader body usable (allOf N) (coarsestOf N L) P) (allOf N)) P (st (startMarks (allOf N) (coarsestOf N L)) (replicate (allOf N) (pos 0)) (replicate (allOf N) P) 0)
+        l = leftOf (scanOf (reader body usable (allOf N) (coarsestOf N L) P) (allOf N)) P (st (startMarks (allOf N) (coarsestOf N L)) (replicate (allOf N) (pos 0)) 0)
 
-        same : planes (scanOf (reader body usable all coarsest P) all) P (st m₀ v₀ p₀ 0) ≡ E
-        same = rw (ea, ec, begun, ev, ep)
+        same : planes (scanOf (reader body usable all coarsest P) all) P (st m₀ v₀ 0) ≡ E
+        same = rw (ea, ec, begun, ev)
 
         lefts : left ≡ l
-        lefts = h .lefts ∙ rw (ea, ec, begun, ev, ep)
+        lefts = h .lefts ∙ rw (ea, ec, begun, ev)
 
         count : n ≡ last E .rest .n
         count = h .count ∙ ap (λ (x : Ran (Sv Read)). last x .rest .n) same
@@ -87,14 +88,15 @@ module _ (N L P values precisions marks : ℕ) (ready : ReadReady N L P values p
         refuses = h .refuses ∙ ap (λ (x : Ran (Sv Read)). isBad x) same
 
         go : (w : Verdict) → Matches N L P (ready .planes) body usable w E l → Ends w
-        go taken (b, c, d, e, f) = (
+        go taken (b, c, d, e, f, g) = (
           refuses ∙ b,
           record {
             used = count ∙ c;
             marked = h .marked ∙ ap (λ (x : Ran (Sv Read)). last x .marks) same ∙ d;
-            valued = h .valued ∙ ap (λ (x : Ran (Sv Read)). last x .rest .known .bits) same ∙ ap (λ (k : Known). k .bits) e;
-            planed = h .known ∙ ap (λ (x : Ran (Sv Read)). last x .rest .known .planes) same ∙ ap (λ (k : Known). k .planes) e;
+            valued = h .valued ∙ ap (λ (x : Ran (Sv Read)). last x .rest .codes) same ∙ e;
             lefts = lefts ∙ f;
+            stands = h .stands ∙ ap (λ (x : Ran (Sv Read)). nowOf x) same ∙ g;
+            ended = h .ended;
           },
         )
         go (contradiction k) (b, c, d) = (refuses ∙ b, count ∙ c, d)
@@ -152,16 +154,23 @@ module _ (N L P values precisions marks : ℕ) (ready : ReadReady N L P values p
       pub left-in : left ≤ P
       left-in = omega (arith, t .lefts, left-most N L P (bitsOf usable body))
 
-      -- the codes undone
-      plain-at : (i : ℕ) → plainOf (at v i) ≡ at (known N L P (bitsOf usable body) .bits) i
-      plain-at i = ap (λ (x : List ℤ). plainOf (at x i)) (t .valued) ∙ ap plainOf (codes-at (known N L P (bitsOf usable body) .bits) i) ∙ plain-coded (at (known N L P (bitsOf usable body) .bits) i)
-
       -- what the final pass asks
-      pub not-below : (i : ℕ) → negative (at v i) ≡ false
-      not-below i = ap (λ (x : List ℤ). negative (at x i)) (t .valued) ∙ ap negative (codes-at (known N L P (bitsOf usable body) .bits) i)
-
-      pub in-range : (i : ℕ) → i < allOf N → magnitude (valueBy midpoint (min (getD p i 0) left) (plainOf (at v i))) ≤ limit
-      in-range i h = rw (plain-at i, t .planed, t .lefts) (omega (arith, value-range N L P (bitsOf usable body) midpoint midpoint-between i h, pow-mono {i = P} {j = mostPlanes} (ready .planes)))
+      abbrev pub stood : Judged N L P (bitsOf usable body) taken → Stood m left now
+      stood j =
+          record {
+            N = N;
+            L = L;
+            P = P;
+            sized = z;
+            most = side-most N (ready .side);
+            planes = ready .planes;
+            bits = bitsOf usable body;
+            fits = j;
+            marked = t .marked;
+            lefts = t .lefts;
+            stands = t .stands;
+            ended = t .ended;
+          }
 
       -- 2^left as the machine shifts it
       pub power : (1 * 2 ^ left) % 4294967296 ≡ 2 ^ left
@@ -170,19 +179,20 @@ module _ (N L P values precisions marks : ℕ) (ready : ReadReady N L P values p
       pub power-one : 1 ≤ (1 * 2 ^ left) % 4294967296
       power-one = omega (arith, power, one-le-pow left 2 (omega arith))
 
+      -- and what it leaves
       pub accepted : Judged N L P (bitsOf usable body) taken → (held : Tables) → length (held .values) ≡ allOf N → length (held .precisions) ≡ allOf N → length (held .marks) ≡ allOf N
-          → (w : List ℤ) (q : List ℕ) (vs ps : ℕ) → vs ≡ allOf N → ps ≡ allOf N
-          → w ≡ table vs (λ i. valueBy midpoint (min (getD p i 0) left) (plainOf (at v i))) → q ≡ table ps (λ i. min (getD p i 0) left)
+          → (w : List ℤ) (q : List ℕ) (all : ℕ) → all ≡ allOf N
+          → w ≡ table all (λ i. valueBy midpoint (precisionBy all m left now i) (plainOf (at v i))) → q ≡ table all (λ i. precisionBy all m left now i)
           → BodyRead N L P (bitsOf usable body) held (Done (record { used = n; finished = P - left; error = (1 * 2 ^ left) % 4294967296 - 1 })) (tables w q m)
-      accepted j held hv hp hm w q vs ps es eps ew eq =
+      accepted j held hv hp hm w q all ea ew eq =
           record {
             verdict = taken;
             judged = j;
             answered = λ i. Done (record { used = used i; finished = P - t .lefts i; error = error i });
             filled =
                 same-tables w _ q _ m _
-                (ew ∙ (λ j. table vs (λ i. valueBy midpoint (min (getD p i 0) left) (plain-at i j))) ∙ rw (es, t .planed, t .lefts) (sym (whole (allOf N) _ (held .values) hv)))
-                (eq ∙ rw (eps, t .planed, t .lefts) (sym (whole (allOf N) _ (held .precisions) hp)))
+                (ew ∙ ap (λ (k : ℕ). table k (λ i. valueBy midpoint (precisionBy k m left now i) (plainOf (at v i)))) ea ∙ values-are (stood j) v (t .valued) ∙ sym (whole (allOf N) _ (held .values) hv))
+                (eq ∙ ap (λ (k : ℕ). table k (λ i. precisionBy k m left now i)) ea ∙ precisions-are (stood j) ∙ sym (whole (allOf N) _ (held .precisions) hp))
                 (t .marked ∙ sym (whole (allOf N) _ (held .marks) hm));
           }
         where

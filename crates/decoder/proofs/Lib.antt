@@ -4,5 +4,6 @@ pub mod ReadTurns
 pub mod Coded
 pub mod Received
 pub mod FinishLaws
+pub mod StoodLaws
 pub mod DecodeLaws
 pub mod Decided

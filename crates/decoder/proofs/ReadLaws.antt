@@ -1,13 +1,13 @@
 -- What each way through a visit of the decoder leaves, from what the code's calls have done.
-use Prim.Native.Nat.{ℕ, suc, _+_, _*_, _-_, _/_, _%_, _^_, _≤_, _<_}
+use Prim.Native.Nat.{ℕ, suc, _+_, _*_, _-_, _/_, _%_, _≤_, _<_}
 use mathlib.Core.Path.{_≡_, refl, sym, ap, subst, _∙_}
-use mathlib.Core.Bool.{Bool, true, false, _&&_, cond}
-use mathlib.Core.List.{List, []}
+use mathlib.Core.Bool.{Bool, true, false, _&&_}
+use mathlib.Core.List.{List}
 use native.Mathlib.Decide.{decLt}
 use native.Mathlib.Omega.{arith}
 use borrow.Author.Tests.{eq-eqb, ne-eqb, le-leb, lt-leb}
-use lib.Dec.{leb, eqb}
-use lib.IntN.{ℤ, pos}
+use lib.Dec.{eqb}
+use lib.IntN.{ℤ}
 use lib.ListN.{length, set, getD}
 use Rattle.bits.specs.declared.Next.{Next}
 use Rattle.bits.specs.declared.Next.the-variants.{Bit, NoMore}
@@ -15,8 +15,7 @@ use Rattle.bits.specs.Bits.{bitAt}
 use Rattle.view.specs.View.{viewed}
 use Rattle.view.proofs.Laws.{viewed-bit, viewed-within}
 use Rattle.coef.specs.Coef.{at}
-use Rattle.nls.specs.Scan.{Question, bitOf, signOf, inDesc, inGrand, Pass, pixels, sets, refining}
-use Rattle.nls.specs.Reading.{Known}
+use Rattle.nls.specs.Scan.{Question, bitOf, signOf, inDesc, inGrand, pixels, sets}
 use Rattle.walk.specs.Scans.{Seen, halt, refuse, move}
 use Rattle.marking.specs.Marking.{skipOf, setSkipOf, descSplitMarks, grandSplitMarks}
 use Rattle.walk.specs.Visits.{Source, got, Sv, sv, oneSeen, testSeen, pixelsSeen, setsSeen, refiningSeen, visitSeen}
@@ -116,97 +115,92 @@ module _ (body : List ℕ) (n usable : ℕ) {r : Next} (is : r ≡ viewed body n
           absurd (omega (arith, o))
       tell (no l) = omega (arith, l)
 
-by-way : (s t : Seen (Sv Read)) (usable place n : ℕ) (r : Turn) (m : List ℕ) (v : List ℤ) (p : List ℕ) → s ≡ t → Does t usable place n r m v p → Does s usable place n r m v p
-by-way s t usable place n r m v p e d = subst (λ (x : Seen (Sv Read)). Does x usable place n r m v p) (sym e) d
+by-way : (s t : Seen (Sv Read)) (usable place n : ℕ) (r : Turn) (m : List ℕ) (v : List ℤ) → s ≡ t → Does t usable place n r m v → Does s usable place n r m v
+by-way s t usable place n r m v e d = subst (λ (x : Seen (Sv Read)). Does x usable place n r m v) (sym e) d
 
 -- a coefficient by itself
-module _ (body : List ℕ) (usable I D P b i : ℕ) (bar : Bool) (m : List ℕ) (v : List ℤ) (p : List ℕ) (n : ℕ) where
+module _ (body : List ℕ) (usable I D P b i : ℕ) (bar : Bool) (m : List ℕ) (v : List ℤ) (n : ℕ) where
   abbrev K : Source Read
   K = reader body usable I D P
 
-  abbrev One : Turn → List ℕ → List ℤ → List ℕ → Type 0
-  One r m₁ v₁ p₁ = Does (oneSeen (reader body usable I D P) pixels b i bar m (read v p n)) usable i n r m₁ v₁ p₁
+  abbrev One : Turn → List ℕ → List ℤ → Type 0
+  One r m₁ v₁ = Does (oneSeen (reader body usable I D P) pixels b i bar m (read v n)) usable i n r m₁ v₁
 
-  own : (x : Bool) → bitAt body n ≡ x → got K pixels b (bitOf i b) (read v p n) ≡ record { known = keep pixels b (bitOf i b) x (record { bits = v; planes = p }); n = n + 1 }
-  own x e = ap (λ (y : Bool). record { known = keep pixels b (bitOf i b) y (record { bits = v; planes = p }); n = n + 1 }) e
-
-  pub coefficient-none : usable ≤ n → n ≤ usable → One (Stop n i) m v p
+  pub coefficient-none : usable ≤ n → n ≤ usable → One (Stop n i) m v
   coefficient-none h l =
-      by-way _ (halt (st m v p n)) usable i n (Stop n i) m v p (one-none K pixels b i bar m (read v p n) h) (record { answered = refl; marked = refl; valued = refl; known = refl; falls = (omega arith, omega arith) })
+      by-way _ (halt (st m v n)) usable i n (Stop n i) m v (one-none K pixels b i bar m (read v n) h) (record { answered = refl; marked = refl; valued = refl; falls = (omega arith, omega arith) })
 
   module _ (x : Bool) (ex : x ≡ bitAt body n) (h : n < usable) where
-    pub coefficient-cut : x ≡ true → usable ≤ n + 1 → One (Stop (n + 1) i) m v p
+    pub coefficient-cut : x ≡ true → usable ≤ n + 1 → One (Stop (n + 1) i) m v
     coefficient-cut e k =
-        by-way _ (halt (st m v p (n + 1))) usable i n (Stop (n + 1) i) m v p (one-cut K pixels b i bar m (read v p n) h (sym ex ∙ e) k ∙ ap (λ (o : Read). halt (sv m o)) (own true (sym ex ∙ e)))
-        (record { answered = refl; marked = refl; valued = refl; known = refl; falls = (omega arith, omega arith) })
+        by-way _ (halt (st m v (n + 1))) usable i n (Stop (n + 1) i) m v (one-cut K pixels b i bar m (read v n) h (sym ex ∙ e) k)
+        (record { answered = refl; marked = refl; valued = refl; falls = (omega arith, omega arith) })
 
-    pub coefficient-one : x ≡ true → n + 1 < usable → (s : Bool) → s ≡ bitAt body (n + 1) → (v₁ : List ℤ) → v₁ ≡ set v i (newCode s b) → One (Go (n + 1 + 1) (i + 1)) (set m i 2) v₁ (set p i b)
+    pub coefficient-one : x ≡ true → n + 1 < usable → (s : Bool) → s ≡ bitAt body (n + 1) → (v₁ : List ℤ) → v₁ ≡ set v i (newCode s b) → One (Go (n + 1 + 1) (i + 1)) (set m i 2) v₁
     coefficient-one e k s es v₁ ev =
-        by-way _ (move (i + 1) (st (set m i 2) (set v i (newCode s b)) (set p i b) (n + 1 + 1))) usable i n (Go (n + 1 + 1) (i + 1)) (set m i 2) v₁ (set p i b)
-        (one-one K pixels b i bar m (read v p n) h (sym ex ∙ e) k
-        ∙ ap (λ (o : Read). move (i + 1) (sv (set m i 2) (got K pixels b (signOf i) o))) (own true (sym ex ∙ e))
-        ∙ ap (λ (y : Bool). move (i + 1) (st (set m i 2) (set v i (newCode y b)) (set p i b) (n + 1 + 1))) (sym es))
-        (record { answered = refl; marked = refl; valued = ev; known = refl; falls = (omega arith, omega arith, omega arith, omega arith) })
+        by-way _ (move (i + 1) (st (set m i 2) (set v i (newCode s b)) (n + 1 + 1))) usable i n (Go (n + 1 + 1) (i + 1)) (set m i 2) v₁
+        (one-one K pixels b i bar m (read v n) h (sym ex ∙ e) k
+        ∙ ap (λ (y : Bool). move (i + 1) (st (set m i 2) (set v i (newCode y b)) (n + 1 + 1))) (sym es))
+        (record { answered = refl; marked = refl; valued = ev; falls = (omega arith, omega arith, omega arith, omega arith) })
 
-    pub coefficient-bad : x ≡ false → (z : Bool) → z ≡ bar → z ≡ true → One (Bad n i) m v p
+    pub coefficient-bad : x ≡ false → (z : Bool) → z ≡ bar → z ≡ true → One (Bad n i) m v
     coefficient-bad e z ez et =
-        by-way _ (refuse (st m v p n)) usable i n (Bad n i) m v p (one-bad K pixels b i bar m (read v p n) h (sym ex ∙ e) (sym ez ∙ et))
-        (record { answered = refl; marked = refl; valued = refl; known = refl; falls = (omega arith, omega arith) })
+        by-way _ (refuse (st m v n)) usable i n (Bad n i) m v (one-bad K pixels b i bar m (read v n) h (sym ex ∙ e) (sym ez ∙ et))
+        (record { answered = refl; marked = refl; valued = refl; falls = (omega arith, omega arith) })
 
-    pub coefficient-zero : x ≡ false → (z : Bool) → z ≡ bar → z ≡ false → One (Go (n + 1) (i + 1)) (set m i 1) v (set p i b)
+    pub coefficient-zero : x ≡ false → (z : Bool) → z ≡ bar → z ≡ false → One (Go (n + 1) (i + 1)) (set m i 1) v
     coefficient-zero e z ez ef =
-        by-way _ (move (i + 1) (st (set m i 1) v (set p i b) (n + 1))) usable i n (Go (n + 1) (i + 1)) (set m i 1) v (set p i b)
-        (one-zero K pixels b i bar m (read v p n) h (sym ex ∙ e) (sym ez ∙ ef) ∙ ap (λ (o : Read). move (i + 1) (sv (set m i 1) o)) (own false (sym ex ∙ e)))
-        (record { answered = refl; marked = refl; valued = refl; known = refl; falls = (omega arith, omega arith, omega arith, omega arith) })
+        by-way _ (move (i + 1) (st (set m i 1) v (n + 1))) usable i n (Go (n + 1) (i + 1)) (set m i 1) v
+        (one-zero K pixels b i bar m (read v n) h (sym ex ∙ e) (sym ez ∙ ef))
+        (record { answered = refl; marked = refl; valued = refl; falls = (omega arith, omega arith, omega arith, omega arith) })
 
 -- the pixel pass and the refinement pass
-module _ (body : List ℕ) (usable I D P b i : ℕ) (m : List ℕ) (v : List ℤ) (p : List ℕ) (n : ℕ) where
-  abbrev pub Pixel : Turn → List ℕ → List ℤ → List ℕ → Type 0
-  Pixel r m₁ v₁ p₁ = Does (pixelsSeen (reader body usable I D P) b i (getD m i 0) m (read v p n)) usable i n r m₁ v₁ p₁
+module _ (body : List ℕ) (usable I D P b i : ℕ) (m : List ℕ) (v : List ℤ) (n : ℕ) where
+  abbrev pub Pixel : Turn → List ℕ → List ℤ → Type 0
+  Pixel r m₁ v₁ = Does (pixelsSeen (reader body usable I D P) b i (getD m i 0) m (read v n)) usable i n r m₁ v₁
 
-  pub pixel-own : (r : Turn) (m₁ : List ℕ) (v₁ : List ℤ) (p₁ : List ℕ) → getD m i 0 ≡ 1 → Does (oneSeen (reader body usable I D P) pixels b i false m (read v p n)) usable i n r m₁ v₁ p₁ → Pixel r m₁ v₁ p₁
-  pixel-own r m₁ v₁ p₁ e d = by-way _ _ usable i n r m₁ v₁ p₁ (pixels-own (reader body usable I D P) b i (getD m i 0) m (read v p n) e) d
+  pub pixel-own : (r : Turn) (m₁ : List ℕ) (v₁ : List ℤ) → getD m i 0 ≡ 1 → Does (oneSeen (reader body usable I D P) pixels b i false m (read v n)) usable i n r m₁ v₁ → Pixel r m₁ v₁
+  pixel-own r m₁ v₁ e d = by-way _ _ usable i n r m₁ v₁ (pixels-own (reader body usable I D P) b i (getD m i 0) m (read v n) e) d
 
-  pub pixel-skip : (far : ℕ) → (getD m i 0 ≡ 1 → ⊥) → far ≡ skipOf (getD m i 0) → n ≤ usable → Pixel (Go n (i + far)) m v p
+  pub pixel-skip : (far : ℕ) → (getD m i 0 ≡ 1 → ⊥) → far ≡ skipOf (getD m i 0) → n ≤ usable → Pixel (Go n (i + far)) m v
   pixel-skip far e f l =
-      by-way _ _ usable i n (Go n (i + far)) m v p (pixels-skip (reader body usable I D P) b i (getD m i 0) m (read v p n) e)
-      (record { answered = ap (λ (k : ℕ). Go n (i + k)) f; marked = refl; valued = refl; known = refl; falls = (omega arith, omega arith, l, omega (arith, f, skip-in (getD m i 0))) })
+      by-way _ _ usable i n (Go n (i + far)) m v (pixels-skip (reader body usable I D P) b i (getD m i 0) m (read v n) e)
+      (record { answered = ap (λ (k : ℕ). Go n (i + k)) f; marked = refl; valued = refl; falls = (omega arith, omega arith, l, omega (arith, f, skip-in (getD m i 0))) })
 
-  abbrev pub Refining : Turn → List ℕ → List ℤ → List ℕ → Type 0
-  Refining r m₁ v₁ p₁ = Does (refiningSeen (reader body usable I D P) b i (getD m i 0) m (read v p n)) usable i n r m₁ v₁ p₁
+  abbrev pub Refining : Turn → List ℕ → List ℤ → Type 0
+  Refining r m₁ v₁ = Does (refiningSeen (reader body usable I D P) b i (getD m i 0) m (read v n)) usable i n r m₁ v₁
 
-  pub refine-none : getD m i 0 ≡ 3 → usable ≤ n → n ≤ usable → Refining (Stop n i) m v p
+  pub refine-none : getD m i 0 ≡ 3 → usable ≤ n → n ≤ usable → Refining (Stop n i) m v
   refine-none e h l =
-      by-way _ _ usable i n (Stop n i) m v p (refining-none (reader body usable I D P) b i (getD m i 0) m (read v p n) e h)
-      (record { answered = refl; marked = refl; valued = refl; known = refl; falls = (omega arith, omega arith) })
+      by-way _ _ usable i n (Stop n i) m v (refining-none (reader body usable I D P) b i (getD m i 0) m (read v n) e h)
+      (record { answered = refl; marked = refl; valued = refl; falls = (omega arith, omega arith) })
 
-  pub refine-own : (x : Bool) (v₁ : List ℤ) → getD m i 0 ≡ 3 → n < usable → x ≡ bitAt body n → v₁ ≡ set v i (moreCode x b (at v i)) → Refining (Go (n + 1) (i + 1)) m v₁ (set p i b)
+  pub refine-own : (x : Bool) (v₁ : List ℤ) → getD m i 0 ≡ 3 → n < usable → x ≡ bitAt body n → v₁ ≡ set v i (moreCode x b (at v i)) → Refining (Go (n + 1) (i + 1)) m v₁
   refine-own x v₁ e h ex ev =
-      by-way _ _ usable i n (Go (n + 1) (i + 1)) m v₁ (set p i b) (refining-own (reader body usable I D P) b i (getD m i 0) m (read v p n) e h)
+      by-way _ _ usable i n (Go (n + 1) (i + 1)) m v₁ (refining-own (reader body usable I D P) b i (getD m i 0) m (read v n) e h)
       (record {
         answered = refl;
         marked = refl;
         valued = ev ∙ ap (λ (y : Bool). set v i (moreCode y b (at v i))) ex;
-        known = refl;
         falls = (omega arith, omega arith, omega arith, omega arith);
       })
 
-  pub refine-new : (getD m i 0 ≡ 3 → ⊥) → getD m i 0 ≡ 2 → n ≤ usable → Refining (Go n (i + 1)) (set m i 3) v p
+  pub refine-new : (getD m i 0 ≡ 3 → ⊥) → getD m i 0 ≡ 2 → n ≤ usable → Refining (Go n (i + 1)) (set m i 3) v
   refine-new d e l =
-      by-way _ _ usable i n (Go n (i + 1)) (set m i 3) v p (refining-new (reader body usable I D P) b i (getD m i 0) m (read v p n) d e)
-      (record { answered = refl; marked = refl; valued = refl; known = refl; falls = (omega arith, omega arith, l, omega arith) })
+      by-way _ _ usable i n (Go n (i + 1)) (set m i 3) v (refining-new (reader body usable I D P) b i (getD m i 0) m (read v n) d e)
+      (record { answered = refl; marked = refl; valued = refl; falls = (omega arith, omega arith, l, omega arith) })
 
   -- a mark above 3
-  pub refine-skip : (far : ℕ) → 3 < getD m i 0 → far ≡ skipOf (getD m i 0) → n ≤ usable → Refining (Go n (i + far)) m v p
+  pub refine-skip : (far : ℕ) → 3 < getD m i 0 → far ≡ skipOf (getD m i 0) → n ≤ usable → Refining (Go n (i + far)) m v
   refine-skip far h f l =
-      by-way _ _ usable i n (Go n (i + far)) m v p (refining-skip (reader body usable I D P) b i (getD m i 0) m (read v p n) (λ e. omega (arith, h, e)) (λ e. omega (arith, h, e)))
-      (record { answered = ap (λ (k : ℕ). Go n (i + k)) f; marked = refl; valued = refl; known = refl; falls = (omega arith, omega arith, l, omega (arith, f, skip-in (getD m i 0))) })
+      by-way _ _ usable i n (Go n (i + far)) m v (refining-skip (reader body usable I D P) b i (getD m i 0) m (read v n) (λ e. omega (arith, h, e)) (λ e. omega (arith, h, e)))
+      (record { answered = ap (λ (k : ℕ). Go n (i + k)) f; marked = refl; valued = refl; falls = (omega arith, omega arith, l, omega (arith, f, skip-in (getD m i 0))) })
 
   -- mark 0 or 1: there the skip is 1
-  pub refine-small : (getD m i 0 ≡ 3 → ⊥) → getD m i 0 ≤ 3 → (getD m i 0 ≡ 2 → ⊥) → n ≤ usable → Refining (Go n (i + 1)) m v p
+  pub refine-small : (getD m i 0 ≡ 3 → ⊥) → getD m i 0 ≤ 3 → (getD m i 0 ≡ 2 → ⊥) → n ≤ usable → Refining (Go n (i + 1)) m v
   refine-small d h e l =
-      by-way _ _ usable i n (Go n (i + 1)) m v p (refining-skip (reader body usable I D P) b i (getD m i 0) m (read v p n) d e)
-      (record { answered = ap (λ (k : ℕ). Go n (i + k)) (sym (skip-low (getD m i 0) (omega (arith, h)))); marked = refl; valued = refl; known = refl; falls = (omega arith, omega arith, l, omega arith) })
+      by-way _ _ usable i n (Go n (i + 1)) m v (refining-skip (reader body usable I D P) b i (getD m i 0) m (read v n) d e)
+      (record { answered = ap (λ (k : ℕ). Go n (i + k)) (sym (skip-low (getD m i 0) (omega (arith, h)))); marked = refl; valued = refl; falls = (omega arith, omega arith, l, omega arith) })
 
 -- a set's test: what is known stays
 abbrev pub Set : Question → Type 0
@@ -216,107 +210,90 @@ Set (inDesc g b) = Unit {0}
 Set (inGrand g b) = Unit {0}
 
 module _ (body : List ℕ) (usable I D P b i : ℕ) (q : Question) (far : ℕ) (bar : Bool) (new m : List ℕ) (n : ℕ) (set-question : Set q) where
-  same : (q : Question) → Set q → (x : Bool) (k : Known) → keep sets b q x k ≡ k
+  same : (q : Question) → Set q → (x : Bool) (k : List ℤ) → keep sets b q x k ≡ k
   same (bitOf j c) z x k = absurd z
   same (signOf j) z x k = absurd z
   same (inDesc g c) z x k = refl
   same (inGrand g c) z x k = refl
 
-  kept : (v : List ℤ) (p : List ℕ) → got (reader body usable I D P) sets b q (read v p n) ≡ read v p (n + 1)
-  kept v p = ap (λ (k : Known). record { known = k; n = n + 1 }) (same q set-question (bitAt body n) (record { bits = v; planes = p }))
+  kept : (v : List ℤ) → got (reader body usable I D P) sets b q (read v n) ≡ read v (n + 1)
+  kept v = ap (λ (k : List ℤ). read k (n + 1)) (same q set-question (bitAt body n) v)
 
-  abbrev Tested : Turn → List ℕ → List ℤ → List ℕ → Type 0
-  Tested r m₁ v p = Does (testSeen (reader body usable I D P) b i q far bar new m (read v p n)) usable i n r m₁ v p
+  abbrev Tested : Turn → List ℕ → List ℤ → Type 0
+  Tested r m₁ v = Does (testSeen (reader body usable I D P) b i q far bar new m (read v n)) usable i n r m₁ v
 
-  pub tested-none : usable ≤ n → n ≤ usable → (v : List ℤ) (p : List ℕ) → Tested (Stop n i) m v p
-  tested-none h l v p =
-      by-way _ _ usable i n (Stop n i) m v p (test-none (reader body usable I D P) b i q far bar new m (read v p n) h)
-      (record { answered = refl; marked = refl; valued = refl; known = refl; falls = (omega arith, omega arith) })
+  pub tested-none : usable ≤ n → n ≤ usable → (v : List ℤ) → Tested (Stop n i) m v
+  tested-none h l v =
+      by-way _ _ usable i n (Stop n i) m v (test-none (reader body usable I D P) b i q far bar new m (read v n) h)
+      (record { answered = refl; marked = refl; valued = refl; falls = (omega arith, omega arith) })
 
   module _ (x : Bool) (ex : x ≡ bitAt body n) (h : n < usable) where
-    pub tested-one : (m₁ : List ℕ) → x ≡ true → m₁ ≡ new → (v : List ℤ) (p : List ℕ) → Tested (Go (n + 1) i) m₁ v p
-    tested-one m₁ e em v p =
-        by-way _ (move i (st new v p (n + 1))) usable i n (Go (n + 1) i) m₁ v p
-        (test-one (reader body usable I D P) b i q far bar new m (read v p n) h (sym ex ∙ e) ∙ ap (λ (o : Read). move i (sv new o)) (kept v p))
-        (record { answered = refl; marked = em; valued = refl; known = refl; falls = (omega arith, omega arith, omega arith, omega arith) })
+    pub tested-one : (m₁ : List ℕ) → x ≡ true → m₁ ≡ new → (v : List ℤ) → Tested (Go (n + 1) i) m₁ v
+    tested-one m₁ e em v =
+        by-way _ (move i (st new v (n + 1))) usable i n (Go (n + 1) i) m₁ v
+        (test-one (reader body usable I D P) b i q far bar new m (read v n) h (sym ex ∙ e) ∙ ap (λ (o : Read). move i (sv new o)) (kept v))
+        (record { answered = refl; marked = em; valued = refl; falls = (omega arith, omega arith, omega arith, omega arith) })
 
-    pub tested-bad : x ≡ false → (z : Bool) → z ≡ bar → z ≡ true → (v : List ℤ) (p : List ℕ) → Tested (Bad n i) m v p
-    tested-bad e z ez et v p =
-        by-way _ (refuse (st m v p n)) usable i n (Bad n i) m v p (test-bad (reader body usable I D P) b i q far bar new m (read v p n) h (sym ex ∙ e) (sym ez ∙ et))
-        (record { answered = refl; marked = refl; valued = refl; known = refl; falls = (omega arith, omega arith) })
+    pub tested-bad : x ≡ false → (z : Bool) → z ≡ bar → z ≡ true → (v : List ℤ) → Tested (Bad n i) m v
+    tested-bad e z ez et v =
+        by-way _ (refuse (st m v n)) usable i n (Bad n i) m v (test-bad (reader body usable I D P) b i q far bar new m (read v n) h (sym ex ∙ e) (sym ez ∙ et))
+        (record { answered = refl; marked = refl; valued = refl; falls = (omega arith, omega arith) })
 
-    pub tested-zero : 1 ≤ far → x ≡ false → (z : Bool) → z ≡ bar → z ≡ false → (v : List ℤ) (p : List ℕ) → Tested (Go (n + 1) (i + far)) m v p
-    tested-zero l e z ez ef v p =
-        by-way _ (move (i + far) (st m v p (n + 1))) usable i n (Go (n + 1) (i + far)) m v p
-        (test-zero (reader body usable I D P) b i q far bar new m (read v p n) h (sym ex ∙ e) (sym ez ∙ ef) ∙ ap (λ (o : Read). move (i + far) (sv m o)) (kept v p))
-        (record { answered = refl; marked = refl; valued = refl; known = refl; falls = (omega arith, omega arith, omega arith, omega arith) })
+    pub tested-zero : 1 ≤ far → x ≡ false → (z : Bool) → z ≡ bar → z ≡ false → (v : List ℤ) → Tested (Go (n + 1) (i + far)) m v
+    tested-zero l e z ez ef v =
+        by-way _ (move (i + far) (st m v (n + 1))) usable i n (Go (n + 1) (i + far)) m v
+        (test-zero (reader body usable I D P) b i q far bar new m (read v n) h (sym ex ∙ e) (sym ez ∙ ef) ∙ ap (λ (o : Read). move (i + far) (sv m o)) (kept v))
+        (record { answered = refl; marked = refl; valued = refl; falls = (omega arith, omega arith, omega arith, omega arith) })
 
 -- the set pass, and a visit: the sizes matter only to the tests that look at them
-module _ (body : List ℕ) (usable I D P b i : ℕ) (m : List ℕ) (v : List ℤ) (p : List ℕ) (n : ℕ) where
-  abbrev pub Sets : Turn → List ℕ → List ℤ → List ℕ → Type 0
-  Sets r m₁ v₁ p₁ = Does (setsSeen (reader body usable I D P) I b i (getD m i 0) m (read v p n)) usable i n r m₁ v₁ p₁
+module _ (body : List ℕ) (usable I D P b i : ℕ) (m : List ℕ) (v : List ℤ) (n : ℕ) where
+  abbrev pub Sets : Turn → List ℕ → List ℤ → Type 0
+  Sets r m₁ v₁ = Does (setsSeen (reader body usable I D P) I b i (getD m i 0) m (read v n)) usable i n r m₁ v₁
 
   -- a coefficient is kept alike in both passes
-  alike : (x : Bool) (bar : Bool)
-      → oneSeen (reader body usable I D P) sets b i bar m (read v p n) ≡ oneSeen (reader body usable I 0 0) pixels b i bar m (read v p n)
+  alike : (bar : Bool) → oneSeen (reader body usable I D P) sets b i bar m (read v n) ≡ oneSeen (reader body usable I 0 0) pixels b i bar m (read v n)
   unfolding oneSeen
-  alike x bar = go (bitAt body n)
-    where
-      go : (x : Bool)
-          → cond (leb (suc n) usable)
-          (cond x
-          (cond (leb (suc (n + 1)) usable) (move (i + 1) (sv (set m i 2) (record { known = keep sets b (signOf i) (bitAt body (n + 1)) (keep sets b (bitOf i b) x (record { bits = v; planes = p })); n = n + 1 + 1 })))
-          (halt (sv m (record { known = keep sets b (bitOf i b) x (record { bits = v; planes = p }); n = n + 1 }))))
-          (cond bar (refuse (st m v p n)) (move (i + 1) (sv (set m i 1) (record { known = keep sets b (bitOf i b) x (record { bits = v; planes = p }); n = n + 1 })))))
-          (halt (st m v p n))
-          ≡ cond (leb (suc n) usable)
-          (cond x
-          (cond (leb (suc (n + 1)) usable) (move (i + 1) (sv (set m i 2) (record { known = keep pixels b (signOf i) (bitAt body (n + 1)) (keep pixels b (bitOf i b) x (record { bits = v; planes = p })); n = n + 1 + 1 })))
-          (halt (sv m (record { known = keep pixels b (bitOf i b) x (record { bits = v; planes = p }); n = n + 1 }))))
-          (cond bar (refuse (st m v p n)) (move (i + 1) (sv (set m i 1) (record { known = keep pixels b (bitOf i b) x (record { bits = v; planes = p }); n = n + 1 })))))
-          (halt (st m v p n))
-      go true = refl
-      go false = refl
+  alike bar = refl
 
-  pub set-one : (r : Turn) (m₁ : List ℕ) (v₁ : List ℤ) (p₁ : List ℕ) → getD m i 0 ≡ 4
-      → Does (oneSeen (reader body usable I 0 0) pixels b i (true && childClash I i m) m (read v p n)) usable i n r m₁ v₁ p₁ → Sets r m₁ v₁ p₁
-  set-one r m₁ v₁ p₁ e d = by-way _ _ usable i n r m₁ v₁ p₁ (sets-one (reader body usable I D P) I b i (getD m i 0) m (read v p n) e ∙ alike true (childClash I i m)) d
+  pub set-one : (r : Turn) (m₁ : List ℕ) (v₁ : List ℤ) → getD m i 0 ≡ 4
+      → Does (oneSeen (reader body usable I 0 0) pixels b i (true && childClash I i m) m (read v n)) usable i n r m₁ v₁ → Sets r m₁ v₁
+  set-one r m₁ v₁ e d = by-way _ _ usable i n r m₁ v₁ (sets-one (reader body usable I D P) I b i (getD m i 0) m (read v n) e ∙ alike (childClash I i m)) d
 
   pub set-desc : (r : Turn) (m₁ : List ℕ) → (getD m i 0 ≡ 4 → ⊥) → getD m i 0 ≡ 5
-      → ((v : List ℤ) (p : List ℕ) → Does (testSeen (reader body usable I D P) b i (inDesc (i / 4) b) 4 (descClash D P b n i m) (descSplitMarks I i m) m (read v p n)) usable i n r m₁ v p) → Sets r m₁ v p
-  set-desc r m₁ e f d = by-way _ _ usable i n r m₁ v p (sets-desc (reader body usable I D P) I b i (getD m i 0) m (read v p n) e f) (d v p)
+      → ((v : List ℤ) → Does (testSeen (reader body usable I D P) b i (inDesc (i / 4) b) 4 (descClash D P b n i m) (descSplitMarks I i m) m (read v n)) usable i n r m₁ v) → Sets r m₁ v
+  set-desc r m₁ e f d = by-way _ _ usable i n r m₁ v (sets-desc (reader body usable I D P) I b i (getD m i 0) m (read v n) e f) (d v)
 
-  grand-alone : testSeen (reader body usable I D P) b i (inGrand (i / 16) b) 16 (grandClash i m) (grandSplitMarks I i m) m (read v p n) ≡ testSeen (reader body usable I 0 0) b i (inGrand (i / 16) b) 16 (grandClash i m) (grandSplitMarks I i m) m (read v p n)
+  grand-alone : testSeen (reader body usable I D P) b i (inGrand (i / 16) b) 16 (grandClash i m) (grandSplitMarks I i m) m (read v n) ≡ testSeen (reader body usable I 0 0) b i (inGrand (i / 16) b) 16 (grandClash i m) (grandSplitMarks I i m) m (read v n)
   unfolding testSeen
   grand-alone = refl
 
   pub set-grand : (r : Turn) (m₁ : List ℕ) → (getD m i 0 ≡ 4 → ⊥) → (getD m i 0 ≡ 5 → ⊥) → getD m i 0 ≡ 6
-      → ((v : List ℤ) (p : List ℕ) → Does (testSeen (reader body usable I 0 0) b i (inGrand (i / 16) b) 16 (grandClash i m) (grandSplitMarks I i m) m (read v p n)) usable i n r m₁ v p) → Sets r m₁ v p
-  set-grand r m₁ e f g d = by-way _ _ usable i n r m₁ v p (sets-grand (reader body usable I D P) I b i (getD m i 0) m (read v p n) e f g ∙ grand-alone) (d v p)
+      → ((v : List ℤ) → Does (testSeen (reader body usable I 0 0) b i (inGrand (i / 16) b) 16 (grandClash i m) (grandSplitMarks I i m) m (read v n)) usable i n r m₁ v) → Sets r m₁ v
+  set-grand r m₁ e f g d = by-way _ _ usable i n r m₁ v (sets-grand (reader body usable I D P) I b i (getD m i 0) m (read v n) e f g ∙ grand-alone) (d v)
 
-  pub set-skip : (far : ℕ) → (getD m i 0 ≡ 4 → ⊥) → (getD m i 0 ≡ 5 → ⊥) → (getD m i 0 ≡ 6 → ⊥) → far ≡ setSkipOf (getD m i 0) → n ≤ usable → Sets (Go n (i + far)) m v p
+  pub set-skip : (far : ℕ) → (getD m i 0 ≡ 4 → ⊥) → (getD m i 0 ≡ 5 → ⊥) → (getD m i 0 ≡ 6 → ⊥) → far ≡ setSkipOf (getD m i 0) → n ≤ usable → Sets (Go n (i + far)) m v
   set-skip far e f k z l =
-      by-way _ _ usable i n (Go n (i + far)) m v p (sets-skip (reader body usable I D P) I b i (getD m i 0) m (read v p n) e f k)
-      (record { answered = ap (λ (k : ℕ). Go n (i + k)) z; marked = refl; valued = refl; known = refl; falls = (omega arith, omega arith, l, omega (arith, z, set-skip-in (getD m i 0))) })
+      by-way _ _ usable i n (Go n (i + far)) m v (sets-skip (reader body usable I D P) I b i (getD m i 0) m (read v n) e f k)
+      (record { answered = ap (λ (k : ℕ). Go n (i + k)) z; marked = refl; valued = refl; falls = (omega arith, omega arith, l, omega (arith, z, set-skip-in (getD m i 0))) })
 
-  pixel-plain : pixelsSeen (reader body usable I D P) b i (getD m i 0) m (read v p n) ≡ pixelsSeen (reader body usable I 0 0) b i (getD m i 0) m (read v p n)
+  pixel-plain : pixelsSeen (reader body usable I D P) b i (getD m i 0) m (read v n) ≡ pixelsSeen (reader body usable I 0 0) b i (getD m i 0) m (read v n)
   unfolding pixelsSeen oneSeen
   pixel-plain = refl
 
-  refining-plain : refiningSeen (reader body usable I D P) b i (getD m i 0) m (read v p n) ≡ refiningSeen (reader body usable I 0 0) b i (getD m i 0) m (read v p n)
+  refining-plain : refiningSeen (reader body usable I D P) b i (getD m i 0) m (read v n) ≡ refiningSeen (reader body usable I 0 0) b i (getD m i 0) m (read v n)
   unfolding refiningSeen
   refining-plain = refl
 
-  abbrev pub Visit : ℕ → Turn → List ℕ → List ℤ → List ℕ → Type 0
-  Visit pass r m₁ v₁ p₁ = Does (visitSeen (reader body usable I D P) I b pass i (st m v p n)) usable i n r m₁ v₁ p₁
+  abbrev pub Visit : ℕ → Turn → List ℕ → List ℤ → Type 0
+  Visit pass r m₁ v₁ = Does (visitSeen (reader body usable I D P) I b pass i (st m v n)) usable i n r m₁ v₁
 
-  pub visited-pixels : (pass : ℕ) (r : Turn) (m₁ : List ℕ) (v₁ : List ℤ) (p₁ : List ℕ) → pass ≡ 0
-      → Does (pixelsSeen (reader body usable I 0 0) b i (getD m i 0) m (read v p n)) usable i n r m₁ v₁ p₁ → Visit pass r m₁ v₁ p₁
-  visited-pixels pass r m₁ v₁ p₁ e h = by-way _ _ usable i n r m₁ v₁ p₁ (visit-pixels (reader body usable I D P) I b pass i (st m v p n) e ∙ pixel-plain) h
+  pub visited-pixels : (pass : ℕ) (r : Turn) (m₁ : List ℕ) (v₁ : List ℤ) → pass ≡ 0
+      → Does (pixelsSeen (reader body usable I 0 0) b i (getD m i 0) m (read v n)) usable i n r m₁ v₁ → Visit pass r m₁ v₁
+  visited-pixels pass r m₁ v₁ e h = by-way _ _ usable i n r m₁ v₁ (visit-pixels (reader body usable I D P) I b pass i (st m v n) e ∙ pixel-plain) h
 
-  pub visited-sets : (pass : ℕ) (r : Turn) (m₁ : List ℕ) (v₁ : List ℤ) (p₁ : List ℕ) → (pass ≡ 0 → ⊥) → pass ≡ 1 → Sets r m₁ v₁ p₁ → Visit pass r m₁ v₁ p₁
-  visited-sets pass r m₁ v₁ p₁ e f h = by-way _ _ usable i n r m₁ v₁ p₁ (visit-sets (reader body usable I D P) I b pass i (st m v p n) e f) h
+  pub visited-sets : (pass : ℕ) (r : Turn) (m₁ : List ℕ) (v₁ : List ℤ) → (pass ≡ 0 → ⊥) → pass ≡ 1 → Sets r m₁ v₁ → Visit pass r m₁ v₁
+  visited-sets pass r m₁ v₁ e f h = by-way _ _ usable i n r m₁ v₁ (visit-sets (reader body usable I D P) I b pass i (st m v n) e f) h
 
-  pub visited-refining : (pass : ℕ) (r : Turn) (m₁ : List ℕ) (v₁ : List ℤ) (p₁ : List ℕ) → (pass ≡ 0 → ⊥) → (pass ≡ 1 → ⊥)
-      → Does (refiningSeen (reader body usable I 0 0) b i (getD m i 0) m (read v p n)) usable i n r m₁ v₁ p₁ → Visit pass r m₁ v₁ p₁
-  visited-refining pass r m₁ v₁ p₁ e f h = by-way _ _ usable i n r m₁ v₁ p₁ (visit-refining (reader body usable I D P) I b pass i (st m v p n) e f ∙ refining-plain) h
+  pub visited-refining : (pass : ℕ) (r : Turn) (m₁ : List ℕ) (v₁ : List ℤ) → (pass ≡ 0 → ⊥) → (pass ≡ 1 → ⊥)
+      → Does (refiningSeen (reader body usable I 0 0) b i (getD m i 0) m (read v n)) usable i n r m₁ v₁ → Visit pass r m₁ v₁
+  visited-refining pass r m₁ v₁ e f h = by-way _ _ usable i n r m₁ v₁ (visit-refining (reader body usable I D P) I b pass i (st m v n) e f ∙ refining-plain) h

@@ -1,5 +1,5 @@
 -- The decoder's scan does what the verdict on the usable bits says, and keeps the codes of what the definitions keep.
-use Prim.Native.Nat.{ℕ, suc, _+_, _-_, _*_, _/_, _%_, _^_, _≤_, _<_}
+use Prim.Native.Nat.{ℕ, suc, _+_, _-_, _*_, _/_, _%_, _≤_, _<_}
 use mathlib.Core.Path.{_≡_, refl, sym, ap, subst, _∙_}
 use mathlib.Core.Option.{Option, none, some}
 use mathlib.Core.List.{List, [], _∷_, _++_}
@@ -9,29 +9,30 @@ use native.Mathlib.Numerals.{add-one}
 use borrow.Author.Tests.{ltb-true, ltb-false, eqb-true, ne-eqb, leb-true}
 use lib.Dec.{ltb, leb, eqb}
 use lib.IntN.{ℤ, pos}
-use lib.ListN.{length, getD, drop, drop-of-length-le, replicate}
+use lib.ListN.{getD, drop, drop-of-length-le, replicate}
 use lib.Seq.{drop-cons}
 use Rattle.sizes.specs.Sizes.{leastN, mostN, allOf, coarsestOf}
 use Rattle.sizes.specs.Tables.{table}
 use Rattle.bits.specs.Bits.{bitAt, bitsOf}
 use Rattle.bits.proofs.Laws.{bitsOf-length, bitsOf-at, bitsOf-suc}
 use Rattle.nls.specs.Marks.{startMarks}
-use Rattle.nls.specs.Scan.{Question, bitOf, signOf, inDesc, inGrand, Pass, pixels, sets, refining, State, stateAt, Look, over, silent, asks, look, lookSets, tell, settle, ask, next, reach}
+use Rattle.nls.specs.Scan.{Question, bitOf, inDesc, inGrand, Pass, pixels, sets, refining, State, stateAt, asks, look, lookSets, tell, settle, ask, next, reach}
 use Rattle.nls.specs.Stream.{begin, after}
 use Rattle.nls.specs.Reading.{Known, nothing, learn, learnAt, learned, known}
+use Rattle.nls.specs.Turns.{standing}
 use Rattle.nls.specs.Judging.{Verdict, taken, contradiction, beyond}
-use Rattle.nls.proofs.Known.{Sound, known-sound}
+use Rattle.nls.proofs.Known.{Sound, known-sound, learned-append}
 use Rattle.nls.proofs.Machine.Run.{settle-hush, settle-asks, settle-over}
 use Rattle.nls.proofs.Judging.Decide.{clash-by, cb-child, cb-grand, cb-desc, cb-root}
 use Rattle.nls.proofs.Judging.ByCount.{clash-count}
 use Rattle.nls.proofs.Verdicts.{verdict, verdictFrom}
-use Rattle.walk.specs.Scans.{Ran, out, bad, on, last, isBad, planes, leftOf}
+use Rattle.walk.specs.Scans.{Ran, out, bad, on, last, nowOf, isBad, planes, leftOf}
 use Rattle.walk.specs.Visits.{Source, Sv, sv, scanOf, got}
-use Rattle.decoder.specs.Reading.{Read, read, keep, is, childClash, grandClash, lastClash, rootClash, descClash, bars, reader, st}
-use Rattle.walk.proofs.Good.{Keeps, Proper, Free, state, Stopped, dry, Barred, barred, Stands}
+use Rattle.decoder.specs.Reading.{Read, read, codes, keep, is, childClash, grandClash, lastClash, rootClash, descClash, bars, reader, st}
+use Rattle.walk.proofs.Good.{Keeps, Free, state, dry, barred}
 use Rattle.walk.proofs.Whole.{Ended, scan-good}
-use Rattle.walk.proofs.Led.{Led, led-silent, led-there, led-over, led-told, led-asks, asks-some, over-none, led-start, codes-first}
-use Rattle.decoder.proofs.Coded.{inCodes, codes, codes-none, learn-is}
+use Rattle.walk.proofs.Led.{Led, led-silent, led-there, led-told, led-asks, asks-some, over-none, led-start, codes-first}
+use Rattle.decoder.proofs.Coded.{codes-none, learn-is}
 
 -- ---- the code's tests of refusal 12 are the verdict's
 
@@ -99,14 +100,9 @@ module _ (N L P : ℕ) where
 
 -- ---- what is learned, bit by bit
 
-learned-append : (N : ℕ) (s : State) (k : Known) (u v : List Bool) → learned N s k (u ++ v) ≡ learned N (reach (allOf N) s u) (learned N s k u) v
-unfolding learned reach
-learned-append N s k [] v = refl
-learned-append N s k (a ∷ u) v = learned-append N (next (allOf N) s a) (learnAt (ask (allOf N) s) s a k) u v
-
-learned-one : (N : ℕ) (s : State) (k : Known) (a : Bool) → learned N s k (a ∷ []) ≡ learnAt (ask (allOf N) s) s a k
+learned-one : (N L : ℕ) (s : State) (k : Known) (a : Bool) → learned N L s k (a ∷ []) ≡ learnAt N L (ask (allOf N) s) s a k
 unfolding learned
-learned-one N s k a = refl
+learned-one N L s k a = refl
 
 and-false : (a : Bool) → (a && false) ≡ false
 and-false true = refl
@@ -132,7 +128,7 @@ module _ (N L P : ℕ) (most : P ≤ 24) (body : List ℕ) (usable : ℕ) where
 
   pub record Going (s : State) (o : Read) : Type 0 where
     pub led : Led N (begin N L P) s (bitsOf (o .n) body)
-    pub knows : o .known ≡ inCodes (known N L P (bitsOf (o .n) body))
+    pub knows : o .codes ≡ codes (known N L P (bitsOf (o .n) body) .bits)
     pub same : verdict N L P (bitsOf usable body) ≡ verdictFrom N L P (o .n) (settle (allOf N) s) (drop (o .n) (bitsOf usable body))
 
   next-bit : (n : ℕ) → n < usable → drop n B ≡ bitAt body n ∷ drop (suc n) B
@@ -166,15 +162,15 @@ module _ (N L P : ℕ) (most : P ≤ 24) (body : List ℕ) (usable : ℕ) where
       let d : suc b - 1 ≡ b = omega arith in
       let t : settle I s ≡ s = settle-asks I s q l in
       let f₀ : Sound I P s (known N L P w) = subst (λ (v : State). Sound I P v (known N L P w)) r (known-sound N L P w) in
-      let lw : learnAt (ask I (reach I s₀ w)) (reach I s₀ w) a (known N L P w) ≡ learn p b q a (known N L P w) =
-      ap (λ (v : Option Question). learnAt v (reach I s₀ w) a (known N L P w)) z
-      ∙ ap (λ (v : State). learn (v .pass) (v .left - 1) q a (known N L P w)) r
-      ∙ ap (λ (v : ℕ). learn p v q a (known N L P w)) d in
-      let kw : keep p b q a (o .known) ≡ inCodes (learn p b q a (known N L P w)) =
-      ap (λ (v : Known). keep p b q a v) (g .knows) ∙ learn-is I P b i m (known N L P w) h p e a q l f₀ most in
+      let lw : learnAt N L (ask I (reach I s₀ w)) (reach I s₀ w) a (known N L P w) ≡ learn N L p b q a (known N L P w) =
+      ap (λ (v : Option Question). learnAt N L v (reach I s₀ w) a (known N L P w)) z
+      ∙ ap (λ (v : State). learn N L (v .pass) (v .left - 1) q a (known N L P w)) r
+      ∙ ap (λ (v : ℕ). learn N L p v q a (known N L P w)) d in
+      let kw : keep p b q a (o .codes) ≡ codes (learn N L p b q a (known N L P w) .bits) =
+      ap (λ (v : List ℤ). keep p b q a v) (g .knows) ∙ learn-is I P b i m (known N L P w) h N L p e a q l f₀ most in
       record {
         led = led-told N s₀ s w q a (g .led) l ∙ ap (λ (v : List Bool). reach I s₀ v) (sym c);
-        knows = kw ∙ ap (λ (v : Known). inCodes v) (sym (ap (λ (v : List Bool). known N L P v) c ∙ learned-append N s₀ (nothing N P) w (a ∷ []) ∙ learned-one N (reach I s₀ w) (known N L P w) a ∙ lw));
+        knows = kw ∙ ap (λ (v : Known). codes (v .bits)) (sym (ap (λ (v : List Bool). known N L P v) c ∙ learned-append N L s₀ (nothing N P) w (a ∷ []) ∙ learned-one N L (reach I s₀ w) (known N L P w) a ∙ lw));
         same =
             g .same
             ∙ ap (λ (v : State). verdictFrom N L P (o .n) v (drop (o .n) B)) t
@@ -198,25 +194,26 @@ module _ (N L P : ℕ) (most : P ≤ 24) (body : List ℕ) (usable : ℕ) where
   -- what the scan leaves, by the verdict on the usable bits
   abbrev pub Matches : Verdict → Ran (Sv Read) → ℕ → Type 0
   Matches taken r l =
-      (isBad r ≡ false) × (last r .rest .n ≡ usable) × (last r .marks ≡ after N L P (bitsOf usable body) .marks) × (last r .rest .known ≡ inCodes (known N L P (bitsOf usable body)))
-      × (l ≡ after N L P (bitsOf usable body) .left)
+      (isBad r ≡ false) × (last r .rest .n ≡ usable) × (last r .marks ≡ after N L P (bitsOf usable body) .marks) × (last r .rest .codes ≡ codes (known N L P (bitsOf usable body) .bits))
+      × (l ≡ after N L P (bitsOf usable body) .left) × (nowOf r ≡ standing (allOf N) (after N L P (bitsOf usable body) .pass) (after N L P (bitsOf usable body) .place))
   Matches (contradiction k) r l = (isBad r ≡ true) × (last r .rest .n ≡ k) × (k < usable)
   Matches (beyond k) r l = (isBad r ≡ false) × (last r .rest .n ≡ k) × (k < usable)
 
   -- all bits used
-  used-up : (r : Ran (Sv Read)) (s : State) (l : ℕ) (o : Read) → Going s o → settle I s ≡ s → o .n ≡ usable → isBad r ≡ false → last r ≡ sv (s .marks) o → l ≡ s .left → Matches (verdict N L P B) r l
-  used-up r s l o g t n nb e z =
+  used-up : (r : Ran (Sv Read)) (s : State) (l : ℕ) (o : Read) → Going s o → settle I s ≡ s → o .n ≡ usable → isBad r ≡ false → last r ≡ sv (s .marks) o → l ≡ s .left → nowOf r ≡ standing I (s .pass) (s .place) → Matches (verdict N L P B) r l
+  used-up r s l o g t n nb e z y =
       let d : verdict N L P B ≡ taken =
       g .same ∙ ap (λ (k : List Bool). verdictFrom N L P (o .n) (settle I s) k) (drop-of-length-le B {i = o .n} (omega (arith, n, bitsOf-length usable body))) ∙ verdict-end N L P (o .n) (settle I s) in
       let c : bitsOf (o .n) body ≡ B = ap {B = List Bool} (λ (k : ℕ). bitsOf k body) n in
       let w : after N L P B ≡ s = sym (sym t ∙ g .led ∙ ap (λ (u : List Bool). reach I s₀ u) c) in
-      let k : o .known ≡ inCodes (known N L P B) = g .knows ∙ ap (λ (u : List Bool). inCodes (known N L P u)) c in
+      let k : o .codes ≡ codes (known N L P B .bits) = g .knows ∙ ap (λ (u : List Bool). codes (known N L P u .bits)) c in
       subst (λ (v : Verdict). Matches v r l) (sym d) (
         nb,
         ap (λ (v : Sv Read). v .rest .n) e ∙ n,
         ap (λ (v : Sv Read). v .marks) e ∙ ap (λ (x : State). x .marks) (sym w),
-        ap (λ (v : Sv Read). v .rest .known) e ∙ k,
+        ap (λ (v : Sv Read). v .rest .codes) e ∙ k,
         z ∙ ap (λ (x : State). x .left) (sym w),
+        y ∙ ap (λ (x : State). standing I (x .pass) (x .place)) (sym w),
       )
 
   -- some are left
@@ -224,28 +221,28 @@ module _ (N L P : ℕ) (most : P ≤ 24) (body : List ℕ) (usable : ℕ) where
   more-left s o g t u =
       g .same ∙ ap (λ (v : State). verdictFrom N L P (o .n) v (drop (o .n) B)) t ∙ ap (λ (v : List Bool). verdictFrom N L P (o .n) s v) (next-bit (o .n) u)
 
-  first : Going (stateAt P pixels 0 (startMarks I D)) (read (replicate I (pos 0)) (replicate I P) 0)
+  first : Going (stateAt P pixels 0 (startMarks I D)) (read (replicate I (pos 0)) 0)
   unfolding reach learned table
   first =
       record {
         led = led-start N D P;
-        knows = ap {B = Known} (λ (v : List ℤ). record { bits = v; planes = replicate I P }) (codes-none I);
+        knows = codes-none I;
         same = ap (λ (s : State). verdictFrom N L P 0 s B) (sym (led-start N D P));
       }
 
   abbrev pub E : Ran (Sv Read)
-  E = planes (scanOf (reader body usable (allOf N) (coarsestOf N L) P) (allOf N)) P (st (startMarks (allOf N) (coarsestOf N L)) (replicate (allOf N) (pos 0)) (replicate (allOf N) P) 0)
+  E = planes (scanOf (reader body usable (allOf N) (coarsestOf N L) P) (allOf N)) P (st (startMarks (allOf N) (coarsestOf N L)) (replicate (allOf N) (pos 0)) 0)
 
   abbrev pub left : ℕ
-  left = leftOf (scanOf (reader body usable (allOf N) (coarsestOf N L) P) (allOf N)) P (st (startMarks (allOf N) (coarsestOf N L)) (replicate (allOf N) (pos 0)) (replicate (allOf N) P) 0)
+  left = leftOf (scanOf (reader body usable (allOf N) (coarsestOf N L) P) (allOf N)) P (st (startMarks (allOf N) (coarsestOf N L)) (replicate (allOf N) (pos 0)) 0)
 
   -- THE DECODER'S SCAN IS THE VERDICT
   pub reads : leastN ≤ N → N ≤ mostN → 4 ≤ coarsestOf N L → Matches (verdict N L P (bitsOf usable body)) E left
   reads two most wide =
-      go left E (scan-good K N Going keeps two most P (st (startMarks I D) (replicate I (pos 0)) (replicate I P) 0) (record { held = first; codes = codes-first N D two wide; cap = omega arith }))
+      go left E (scan-good K N Going keeps two most P (st (startMarks I D) (replicate I (pos 0)) 0) (record { held = first; codes = codes-first N D two wide; cap = omega arith }))
     where
       go : (l : ℕ) (r : Ran (Sv Read)) → Ended K N Going l r → Matches (verdict N L P B) r l
-      go l (out v) (dry s q o g e b c _ h) = used-up (out (sv (s .marks) o)) s l o g (settle-asks I s q e) (omega (arith, b, c)) refl refl (sym h)
+      go l (out now v) (dry s q o g e b c _ h _ w) = used-up (out now (sv (s .marks) o)) s l o g (settle-asks I s q e) (omega (arith, b, c)) refl refl (sym h) (sym w)
       go l (bad v) (barred b i q m o g e li u x z) =
           let s : State = stateAt (suc b) sets i m in
           let f : (not (bitAt body (o .n)) && clash-count I D P (o .n) s) ≡ true = rw x (sym (bars-clash I D P b i (o .n) m q e) ∙ z) in
@@ -264,4 +261,4 @@ module _ (N L P : ℕ) (most : P ≤ 24) (body : List ℕ) (usable : ℕ) where
               let u : v .rest .n < usable = ltb-true (v .rest .n) usable x in
               subst (λ (w : Verdict). Matches w (on v) l)
               (sym (more-left s (v .rest) (h .held) t u ∙ verdict-over N L P (v .rest .n) s (bitAt body (v .rest .n)) (drop (suc (v .rest .n)) B) (over-none I (v .marks)))) (refl, refl, u)
-          end false x = used-up (on v) s l (v .rest) (h .held) t (omega (arith, h .cap, ltb-false (v .rest .n) usable x)) refl refl z
+          end false x = used-up (on v) s l (v .rest) (h .held) t (omega (arith, h .cap, ltb-false (v .rest .n) usable x)) refl refl z refl

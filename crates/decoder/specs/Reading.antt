@@ -1,38 +1,52 @@
 -- Words of the decoder's inner contracts, which no promise to a caller uses: the body answers, and a code of what is known of each coefficient is kept.
 use Prim.Native.Nat.{ℕ, suc, _+_, _*_, _-_, _/_, _%_, _^_, _≤_, _<_}
 use mathlib.Core.Path.{_≡_}
-use mathlib.Core.Bool.{Bool, true, false, _&&_, _||_, cond}
-use mathlib.Core.List.{List}
+use mathlib.Core.Bool.{Bool, false, _&&_, cond}
+use mathlib.Core.List.{List, [], _∷_}
 use lib.Bits.{bitOr}
 use lib.Dec.{leb, eqb}
 use lib.IntN.{ℤ, pos}
 use lib.ListN.{length, getD, set}
 use mir.Syntax.{w32}
 use mir.Val.{ofZ, toZ}
-use Rattle.sizes.specs.Sizes.{limit, mostN, mostPlanes, allOf}
+use Rattle.sizes.specs.Sizes.{limit, mostN, mostPlanes, allOf, Sized}
 use Rattle.bits.specs.Bits.{digit, bitAt}
-use Rattle.coef.specs.Coef.{at, magnitude, signed}
+use Rattle.coef.specs.Coef.{at, magnitude, negative, signed}
 use Rattle.nls.specs.Marks.{MIP, MD}
 use Rattle.nls.specs.Scan.{Question, bitOf, signOf, inDesc, inGrand, Pass, pixels, sets, refining}
-use Rattle.nls.specs.Reading.{Known, noted}
-use Rattle.walk.specs.Scans.{Seen, halt, refuse, move, Ran, last, isBad}
+use Rattle.nls.specs.Stream.{after}
+use Rattle.nls.specs.Reading.{known, midpoint, valueBy, lastPlane}
+use Rattle.nls.specs.Turns.{standing}
+use Rattle.nls.specs.Judging.{Fits}
+use Rattle.walk.specs.Scans.{Seen, halt, refuse, move, Ran, last, nowOf, isBad}
 use Rattle.walk.specs.Visits.{Source, Sv, sv}
 use Rattle.decoder.specs.declared.Turn.{Turn}
 use Rattle.decoder.specs.declared.Turn.the-variants.{Stop, Bad, Go}
 
--- what is known, and the number of bits used
+-- the codes of what is known, and the number of bits used
 pub record Read : Type 0 where
-  pub known : Known
+  pub codes : List ℤ
   pub n : ℕ
 
-abbrev pub read : List ℤ → List ℕ → ℕ → Read
-read v p n = record { known = record { bits = v; planes = p }; n = n }
+abbrev pub read : List ℤ → ℕ → Read
+read v n = record { codes = v; n = n }
 
 -- A value as the final pass makes it of a sign and a magnitude, which there is within the limit.
 abbrev pub joinedOr0 : Bool → ℕ → ℤ
 joinedOr0 below size = cond (leb size limit) (signed below size) (pos 0)
 
+-- "if m is 0 the value is 0, else m + 2^(k-1)", of a magnitude
+abbrev pub middleOf : ℕ → ℕ → ℕ
+middleOf k m = cond (eqb m 0) 0 (midpoint k m)
+
 -- While the scan runs a value is kept as a code: twice its magnitude, and 1 more where it is below 0.
+abbrev pub coded : ℤ → ℤ
+coded z = pos (2 * magnitude z + digit (negative z))
+
+unfoldable pub codes : List ℤ → List ℤ
+codes [] = []
+codes (z ∷ rest) = coded z ∷ codes rest
+
 -- the code of a coefficient found in plane b
 abbrev pub newCode : Bool → ℕ → ℤ
 newCode below b = pos (2 * 2 ^ b + digit below)
@@ -48,16 +62,14 @@ uncoded n = signed (eqb (n % 2) 1) (n / 2)
 abbrev pub plainOf : ℤ → ℤ
 plainOf z = uncoded (magnitude z)
 
--- what is kept of an answer: `learn` of nls, in codes
-abbrev pub keep : Pass → ℕ → Question → Bool → Known → Known
-keep refining b (bitOf i c) a k = noted i (moreCode a b (at (k .bits) i)) b k
-keep pixels b (bitOf i c) false k = record { bits = k .bits; planes = set (k .planes) i b }
-keep pixels b (bitOf i c) true k = k
-keep sets b (bitOf i c) false k = record { bits = k .bits; planes = set (k .planes) i b }
-keep sets b (bitOf i c) true k = k
-keep pass b (signOf i) a k = noted i (newCode a b) b k
-keep pass b (inDesc g c) a k = k
-keep pass b (inGrand g c) a k = k
+-- what is kept of an answer: the bits of `learn` of nls, in codes. The planes are made in the end, from the marks.
+abbrev pub keep : Pass → ℕ → Question → Bool → List ℤ → List ℤ
+keep refining b (bitOf i c) a v = set v i (moreCode a b (at v i))
+keep pixels b (bitOf i c) a v = v
+keep sets b (bitOf i c) a v = v
+keep pass b (signOf i) a v = set v i (newCode a b)
+keep pass b (inDesc g c) a v = v
+keep pass b (inGrand g c) a v = v
 
 -- Refusal 12: the zeros that no array fits, by the question, the place and the marks.
 -- place t has the mark v
@@ -94,12 +106,12 @@ reader body usable I D P =
       budget = usable;
       used = λ o. o .n;
       next = λ q o. bitAt body (o .n);
-      keep = λ p b q x o. record { known = keep p b q x (o .known); n = o .n + 1 };
+      keep = λ p b q x o. record { codes = keep p b q x (o .codes); n = o .n + 1 };
       bars = λ b q t m o. bars I D P b q t m (o .n);
     }
 
-abbrev pub st : List ℕ → List ℤ → List ℕ → ℕ → Sv Read
-st m v p n = sv m (read v p n)
+abbrev pub st : List ℕ → List ℤ → ℕ → Sv Read
+st m v n = sv m (read v n)
 
 abbrev pub leftBy : Seen (Sv Read) → Sv Read
 leftBy (halt t) = t
@@ -117,20 +129,18 @@ Falls usable place n (Stop k p) = (n ≤ k) × (k ≤ usable)
 Falls usable place n (Bad k p) = (n ≤ k) × (k ≤ usable)
 Falls usable place n (Go k p) = (place ≤ p) × (n ≤ k) × (k ≤ usable) × (place + n < p + k)
 
--- the answer r, and the marks, values and precisions left behind, are those of s
-pub record Does (s : Seen (Sv Read)) (usable place n : ℕ) (r : Turn) (m : List ℕ) (v : List ℤ) (p : List ℕ) : Type 0 where
+-- the answer r, and the marks and codes left behind, are those of s
+pub record Does (s : Seen (Sv Read)) (usable place n : ℕ) (r : Turn) (m : List ℕ) (v : List ℤ) : Type 0 where
   pub answered : r ≡ turnOf place s
   pub marked : m ≡ leftBy s .marks
-  pub valued : v ≡ leftBy s .rest .known .bits
-  pub known : p ≡ leftBy s .rest .known .planes
+  pub valued : v ≡ leftBy s .rest .codes
   pub falls : Falls usable place n r
 
 -- what a visit asks of its room
-pub record Room (body m : List ℕ) (v : List ℤ) (p : List ℕ) (all usable place n b : ℕ) : Type 0 where
+pub record Room (body m : List ℕ) (v : List ℤ) (all usable place n b : ℕ) : Type 0 where
   pub below : place < all
   pub size : length m ≡ all
   pub inValues : length v ≡ all
-  pub inPrecisions : length p ≡ all
   pub near : all ≤ allOf mostN
   pub spent : n ≤ usable
   pub held : usable ≤ 8 * length body
@@ -143,12 +153,36 @@ pub record Sizes (all coarsest top : ℕ) : Type 0 where
   pub room : 4 * coarsest ≤ all
   pub tops : top ≤ mostPlanes
 
--- the count n, the planes left, the refusal, and the tables are those where the scan ended
-pub record Holds (ran : Ran (Sv Read)) (l : ℕ) (n left : ℕ) (bad : Bool) (m : List ℕ) (v : List ℤ) (p : List ℕ) : Type 0 where
+-- the count n, the planes left, where it stands, the refusal, and the tables are those where the scan ended
+pub record Holds (ran : Ran (Sv Read)) (l : ℕ) (n left now : ℕ) (bad : Bool) (m : List ℕ) (v : List ℤ) : Type 0 where
   pub count : n ≡ last ran .rest .n
   pub lefts : left ≡ l
+  pub stands : now ≡ nowOf ran
+  pub ended : left ≡ 0 → now ≡ 0
   pub refuses : bad ≡ isBad ran
   pub marked : m ≡ last ran .marks
-  pub valued : v ≡ last ran .rest .known .bits
-  pub known : p ≡ last ran .rest .known .planes
+  pub valued : v ≡ last ran .rest .codes
   pub within : left ≤ mostPlanes
+
+-- What the final pass is given: the marks, the planes left and where the scan stands are those after some bits that fit an array,
+pub record Stood (m : List ℕ) (left now : ℕ) : Type 0 where
+  pub N : ℕ
+  pub L : ℕ
+  pub P : ℕ
+  pub sized : Sized N L
+  pub most : N ≤ mostN
+  pub planes : P ≤ mostPlanes
+  pub bits : List Bool
+  pub fits : Fits N L P bits
+  pub marked : m ≡ (after N L P bits) .marks
+  pub lefts : left ≡ lastPlane N L P bits
+  pub stands : now ≡ standing (allOf N) ((after N L P bits) .pass) ((after N L P bits) .place)
+  pub ended : left ≡ 0 → now ≡ 0
+
+-- and v has the codes of what is known after these
+abbrev pub Codes : {m : List ℕ} {left now : ℕ} → Stood m left now → List ℤ → Type 0
+Codes s v = v ≡ codes (known (s .N) (s .L) (s .P) (s .bits) .bits)
+
+-- a code can be undone at precision k
+abbrev pub Uncodes : ℤ → ℕ → Type 0
+Uncodes z k = (negative z ≡ false) × (k ≤ mostPlanes) × (magnitude (valueBy midpoint k (plainOf z)) ≤ limit)

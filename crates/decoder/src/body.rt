@@ -51,17 +51,7 @@ fn read(
     let coarsest = sizes::coarsest_of(n, l);
     marking::start(marks, coarsest);
     crate::finish::clear(values);
-    marking::fill(precisions, p as u8);
-    let reached = crate::reading::scan(
-        body,
-        marks,
-        values,
-        precisions,
-        all,
-        coarsest,
-        p,
-        usable as usize,
-    );
+    let reached = crate::reading::scan(body, marks, values, all, coarsest, p, usable as usize);
     let bits = reached.bits as u32;
     if reached.bad {
         clear(values, precisions, marks);
@@ -72,7 +62,7 @@ fn read(
         return ReadAnswer::Refused(Refusal::Beyond(bits));
     }
     let left = reached.left;
-    crate::finish::finish(values, precisions, left);
+    crate::finish::finish(values, precisions, marks, left, reached.stop);
     ReadAnswer::Done(ReadTo {
         used: bits,
         finished: p - left,

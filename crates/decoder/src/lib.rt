@@ -15,9 +15,11 @@ pub enum Turn {
     Go(usize, usize),
 }
 
-// Where the decoder's scan ended: the bits used, the planes not finished, and whether the next bit fits no array.
+// Where the decoder's scan ended: the bits used, the planes not finished, where it stopped in its plane (pass times I, and the place), and
+// whether the next bit fits no array.
 pub struct Reached {
     pub bits: usize,
     pub left: u32,
+    pub stop: usize,
     pub bad: bool,
 }

@@ -135,7 +135,6 @@ fn coefficient(
     body: &[u8],
     marks: &mut [u8],
     values: &mut [i32],
-    precisions: &mut [u8],
     all: usize,
     usable: usize,
     n: usize,
@@ -143,8 +142,8 @@ fn coefficient(
     place: usize,
     in_sets: bool,
 ) -> Turn
-    requires { ⌜ Room (now body) (now marks) (now values) (now precisions) all usable place n b ⌝ }
-    ensures { λ r. ⌜ Does (oneSeen (reader (now (body .entry)) usable all 0 0) pixels b place (in_sets && childClash all place (now (marks .entry))) (now (marks .entry)) (read (now (values .entry)) (now (precisions .entry)) n)) usable place n r (now (marks .exit)) (now (values .exit)) (now (precisions .exit)) ⌝ }
+    requires { ⌜ Room (now body) (now marks) (now values) all usable place n b ⌝ }
+    ensures { λ r. ⌜ Does (oneSeen (reader (now (body .entry)) usable all 0 0) pixels b place (in_sets && childClash all place (now (marks .entry))) (now (marks .entry)) (read (now (values .entry)) n)) usable place n r (now (marks .exit)) (now (values .exit)) ⌝ }
 {
     match view::read(body, n, usable) {
         Next::Bit(x) => {
@@ -153,7 +152,6 @@ fn coefficient(
                 return match view::read(body, k, usable) {
                     Next::Bit(negative) => {
                         found(values, b, place, negative);
-                        precisions[place] = b as u8;
                         marks[place] = marking::MNP;
                         Turn::Go(k + 1, place + 1)
                     }
@@ -163,7 +161,6 @@ fn coefficient(
             if one_clash(marks, all, place, in_sets) {
                 return Turn::Bad(n, place);
             }
-            precisions[place] = b as u8;
             marks[place] = marking::MIP;
             Turn::Go(k, place + 1)
         }
@@ -176,30 +173,18 @@ fn pixel(
     body: &[u8],
     marks: &mut [u8],
     values: &mut [i32],
-    precisions: &mut [u8],
     all: usize,
     usable: usize,
     n: usize,
     b: u32,
     place: usize,
 ) -> Turn
-    requires { ⌜ Room (now body) (now marks) (now values) (now precisions) all usable place n b ⌝ }
-    ensures { λ r. ⌜ Does (pixelsSeen (reader (now (body .entry)) usable all 0 0) b place (getD (now (marks .entry)) place 0) (now (marks .entry)) (read (now (values .entry)) (now (precisions .entry)) n)) usable place n r (now (marks .exit)) (now (values .exit)) (now (precisions .exit)) ⌝ }
+    requires { ⌜ Room (now body) (now marks) (now values) all usable place n b ⌝ }
+    ensures { λ r. ⌜ Does (pixelsSeen (reader (now (body .entry)) usable all 0 0) b place (getD (now (marks .entry)) place 0) (now (marks .entry)) (read (now (values .entry)) n)) usable place n r (now (marks .exit)) (now (values .exit)) ⌝ }
 {
     let mark = marks[place];
     if mark == marking::MIP {
-        return coefficient(
-            body,
-            marks,
-            values,
-            precisions,
-            all,
-            usable,
-            n,
-            b,
-            place,
-            false,
-        );
+        return coefficient(body, marks, values, all, usable, n, b, place, false);
     }
     let next = place + marking::skip(mark);
     Turn::Go(n, next)
@@ -210,22 +195,20 @@ fn refine(
     body: &[u8],
     marks: &mut [u8],
     values: &mut [i32],
-    precisions: &mut [u8],
     all: usize,
     usable: usize,
     n: usize,
     b: u32,
     place: usize,
 ) -> Turn
-    requires { ⌜ Room (now body) (now marks) (now values) (now precisions) all usable place n b ⌝ }
-    ensures { λ r. ⌜ Does (refiningSeen (reader (now (body .entry)) usable all 0 0) b place (getD (now (marks .entry)) place 0) (now (marks .entry)) (read (now (values .entry)) (now (precisions .entry)) n)) usable place n r (now (marks .exit)) (now (values .exit)) (now (precisions .exit)) ⌝ }
+    requires { ⌜ Room (now body) (now marks) (now values) all usable place n b ⌝ }
+    ensures { λ r. ⌜ Does (refiningSeen (reader (now (body .entry)) usable all 0 0) b place (getD (now (marks .entry)) place 0) (now (marks .entry)) (read (now (values .entry)) n)) usable place n r (now (marks .exit)) (now (values .exit)) ⌝ }
 {
     let mark = marks[place];
     if mark == marking::MSP {
         return match view::read(body, n, usable) {
             Next::Bit(x) => {
                 refined(values, b, place, x);
-                precisions[place] = b as u8;
                 Turn::Go(n + 1, place + 1)
             }
             Next::NoMore => Turn::Stop(n, place),
@@ -255,7 +238,7 @@ fn test_desc(
     place: usize,
 ) -> Turn
     requires { ⌜ (place < all) × (length (now marks) ≡ all) × (b < mostPlanes) × (n ≤ usable) × (usable ≤ 8 * length (now body)) × Sizes all coarsest top ⌝ }
-    ensures { λ r. ⌜ ((v : List ℤ) (p : List ℕ) → Does (testSeen (reader (now (body .entry)) usable all coarsest top) b place (inDesc (place / 4) b) 4 (descClash coarsest top b n place (now (marks .entry))) (descSplitMarks all place (now (marks .entry))) (now (marks .entry)) (read v p n)) usable place n r (now (marks .exit)) v p) ⌝ }
+    ensures { λ r. ⌜ ((v : List ℤ) → Does (testSeen (reader (now (body .entry)) usable all coarsest top) b place (inDesc (place / 4) b) 4 (descClash coarsest top b n place (now (marks .entry))) (descSplitMarks all place (now (marks .entry))) (now (marks .entry)) (read v n)) usable place n r (now (marks .exit)) v) ⌝ }
 {
     match view::read(body, n, usable) {
         Next::Bit(x) => {
@@ -283,7 +266,7 @@ fn test_grand(
     place: usize,
 ) -> Turn
     requires { ⌜ (place < all) × (length (now marks) ≡ all) × (all ≤ allOf mostN) × (16 ≤ all) × (n ≤ usable) × (usable ≤ 8 * length (now body)) ⌝ }
-    ensures { λ r. ⌜ ((v : List ℤ) (p : List ℕ) → Does (testSeen (reader (now (body .entry)) usable all 0 0) b place (inGrand (place / 16) b) 16 (grandClash place (now (marks .entry))) (grandSplitMarks all place (now (marks .entry))) (now (marks .entry)) (read v p n)) usable place n r (now (marks .exit)) v p) ⌝ }
+    ensures { λ r. ⌜ ((v : List ℤ) → Does (testSeen (reader (now (body .entry)) usable all 0 0) b place (inGrand (place / 16) b) 16 (grandClash place (now (marks .entry))) (grandSplitMarks all place (now (marks .entry))) (now (marks .entry)) (read v n)) usable place n r (now (marks .exit)) v) ⌝ }
 {
     match view::read(body, n, usable) {
         Next::Bit(x) => {
@@ -305,7 +288,6 @@ fn sets(
     body: &[u8],
     marks: &mut [u8],
     values: &mut [i32],
-    precisions: &mut [u8],
     all: usize,
     coarsest: usize,
     top: u32,
@@ -314,23 +296,12 @@ fn sets(
     b: u32,
     place: usize,
 ) -> Turn
-    requires { ⌜ Room (now body) (now marks) (now values) (now precisions) all usable place n b × Sizes all coarsest top ⌝ }
-    ensures { λ r. ⌜ Does (setsSeen (reader (now (body .entry)) usable all coarsest top) all b place (getD (now (marks .entry)) place 0) (now (marks .entry)) (read (now (values .entry)) (now (precisions .entry)) n)) usable place n r (now (marks .exit)) (now (values .exit)) (now (precisions .exit)) ⌝ }
+    requires { ⌜ Room (now body) (now marks) (now values) all usable place n b × Sizes all coarsest top ⌝ }
+    ensures { λ r. ⌜ Does (setsSeen (reader (now (body .entry)) usable all coarsest top) all b place (getD (now (marks .entry)) place 0) (now (marks .entry)) (read (now (values .entry)) n)) usable place n r (now (marks .exit)) (now (values .exit)) ⌝ }
 {
     let mark = marks[place];
     if mark == marking::MCP {
-        return coefficient(
-            body,
-            marks,
-            values,
-            precisions,
-            all,
-            usable,
-            n,
-            b,
-            place,
-            true,
-        );
+        return coefficient(body, marks, values, all, usable, n, b, place, true);
     }
     if mark == marking::MD {
         return test_desc(body, marks, all, coarsest, top, usable, n, b, place);
@@ -347,7 +318,6 @@ fn visit(
     body: &[u8],
     marks: &mut [u8],
     values: &mut [i32],
-    precisions: &mut [u8],
     all: usize,
     coarsest: usize,
     top: u32,
@@ -357,28 +327,16 @@ fn visit(
     pass: u32,
     place: usize,
 ) -> Turn
-    requires { ⌜ Room (now body) (now marks) (now values) (now precisions) all usable place n b × Sizes all coarsest top ⌝ }
-    ensures { λ r. ⌜ Does (visitSeen (reader (now (body .entry)) usable all coarsest top) all b pass place (st (now (marks .entry)) (now (values .entry)) (now (precisions .entry)) n)) usable place n r (now (marks .exit)) (now (values .exit)) (now (precisions .exit)) ⌝ }
+    requires { ⌜ Room (now body) (now marks) (now values) all usable place n b × Sizes all coarsest top ⌝ }
+    ensures { λ r. ⌜ Does (visitSeen (reader (now (body .entry)) usable all coarsest top) all b pass place (st (now (marks .entry)) (now (values .entry)) n)) usable place n r (now (marks .exit)) (now (values .exit)) ⌝ }
 {
     if pass == 0 {
-        return pixel(body, marks, values, precisions, all, usable, n, b, place);
+        return pixel(body, marks, values, all, usable, n, b, place);
     }
     if pass == 1 {
-        return sets(
-            body,
-            marks,
-            values,
-            precisions,
-            all,
-            coarsest,
-            top,
-            usable,
-            n,
-            b,
-            place,
-        );
+        return sets(body, marks, values, all, coarsest, top, usable, n, b, place);
     }
-    refine(body, marks, values, precisions, all, usable, n, b, place)
+    refine(body, marks, values, all, usable, n, b, place)
 }
 
 // The scan of `top` planes, left where no usable bit is left or the next one fits no array.
@@ -386,18 +344,18 @@ pub(crate) fn scan(
     body: &[u8],
     marks: &mut [u8],
     values: &mut [i32],
-    precisions: &mut [u8],
     all: usize,
     coarsest: usize,
     top: u32,
     usable: usize,
 ) -> Reached
-    requires { ⌜ (length (now marks) ≡ all) × (length (now values) ≡ all) × (length (now precisions) ≡ all) × (usable ≤ 8 * length (now body)) × Sizes all coarsest top ⌝ }
-    ensures { λ r. ⌜ Holds (planes (scanOf (reader (now (body .entry)) usable all coarsest top) all) top (st (now (marks .entry)) (now (values .entry)) (now (precisions .entry)) 0)) (leftOf (scanOf (reader (now (body .entry)) usable all coarsest top) all) top (st (now (marks .entry)) (now (values .entry)) (now (precisions .entry)) 0)) (r .bits) (r .left) (r .bad) (now (marks .exit)) (now (values .exit)) (now (precisions .exit)) ⌝ }
+    requires { ⌜ (length (now marks) ≡ all) × (length (now values) ≡ all) × (usable ≤ 8 * length (now body)) × Sizes all coarsest top ⌝ }
+    ensures { λ r. ⌜ Holds (planes (scanOf (reader (now (body .entry)) usable all coarsest top) all) top (st (now (marks .entry)) (now (values .entry)) 0)) (leftOf (scanOf (reader (now (body .entry)) usable all coarsest top) all) top (st (now (marks .entry)) (now (values .entry)) 0)) (r .bits) (r .left) (r .stop) (r .bad) (now (marks .exit)) (now (values .exit)) ⌝ }
 {
     let mut n = 0;
     let mut left = top;
     let mut bad = false;
+    let mut stop = 0;
     'scan: while 0 < left {
         let b = left - 1;
         for pass in 0..3 {
@@ -407,7 +365,6 @@ pub(crate) fn scan(
                     body,
                     marks,
                     values,
-                    precisions,
                     all,
                     coarsest,
                     top,
@@ -417,8 +374,9 @@ pub(crate) fn scan(
                     pass,
                     place,
                 ) {
-                    Turn::Stop(k, _) => {
+                    Turn::Stop(k, p) => {
                         n = k;
+                        stop = pass as usize * all + p;
                         break 'scan;
                     }
                     Turn::Bad(k, _) => {
@@ -435,5 +393,10 @@ pub(crate) fn scan(
         }
         left = b;
     }
-    Reached { bits: n, left, bad }
+    Reached {
+        bits: n,
+        left,
+        stop,
+        bad,
+    }
 }

@@ -4,7 +4,7 @@ use mathlib.Core.Path.{_≡_, sym, ap, _∙_}
 use mathlib.Core.List.{List, [], _++_, append-nil}
 use native.Mathlib.Omega.{arith}
 use lib.IntN.{ℤ}
-use lib.ListN.{length, getD, take, drop, length-take, length-drop, List·getD-append}
+use lib.ListN.{length, getD, take, drop, length-take, length-drop}
 use lib.Seq.{take-all, drop-drop, drop-length}
 use Rattle.refusals.specs.Checks.{firstOf, lentAfter}
 use Rattle.refusals.specs.declared.Outcome.{Outcome}
@@ -12,7 +12,7 @@ use Rattle.refusals.proofs.Laws.{lent-done}
 use Rattle.sizes.specs.Sizes.{mostPlanes, allOf, coarsestOf, Sized}
 use Rattle.sizes.specs.Tables.{table}
 use Rattle.sizes.proofs.Laws.{side-least, side-most, sized, coarsest-least, all-sixteen}
-use Rattle.sizes.proofs.Tables.{table-length, table-at}
+use Rattle.sizes.proofs.Tables.{table-length, table-front}
 use Rattle.bits.specs.Bits.{bytesFor, packed}
 use Rattle.coef.specs.Coef.{planesOf}
 use Rattle.coef.proofs.Laws.{first-all, planes-most, planes-of}
@@ -27,11 +27,6 @@ use Rattle.encoder.specs.Writing.{Bytes, writer, st, Summed, Holds}
 use Rattle.encoder.specs.Body.{sentBits, sentMarks, writeAnswer, Loan, writeOutcome, lentTo, Writes}
 use Rattle.encoder.specs.declared.body.WriteAnswer.{WriteAnswer}
 use Rattle.encoder.proofs.Sent.{Says, sends}
-
--- a table that begins with another's entries
-begins-with : (n : ℕ) (f : ℕ → ℕ) (held : List ℕ) (j : ℕ) → j < n → getD (table n f ++ drop (length (table n f)) held) j 0 ≡ f j
-begins-with n f held j h =
-    List·getD-append (table n f) (drop (length (table n f)) held) 0 j (omega (arith, table-length n f)) ∙ table-at n f j 0 h
 
 -- bits under a budget
 pub sent-most : (N L : ℕ) (A : List ℤ) (budget : ℕ) → length (sentBits N L A budget) ≤ budget
@@ -63,8 +58,8 @@ module _ (N L : ℕ) (A : List ℤ) (descs grands outs budget : ℕ) (ready : En
     says : Says N L A d g
     says =
         record {
-          descs = λ j h. ap (λ (l : List ℕ). getD l j 0) ed ∙ begins-with (allOf N / 4) (λ i. descOr N L A i) d₀ j (omega (arith, all-sixteen N L z));
-          grands = λ j h. ap (λ (l : List ℕ). getD l j 0) eg ∙ begins-with (allOf N / 16) (λ i. grandOr N L A i) g₀ j (omega (arith, all-sixteen N L z));
+          descs = λ j h. ap (λ (l : List ℕ). getD l j 0) ed ∙ table-front (allOf N / 4) (λ i. descOr N L A i) _ j 0 (omega (arith, all-sixteen N L z));
+          grands = λ j h. ap (λ (l : List ℕ). getD l j 0) eg ∙ table-front (allOf N / 16) (λ i. grandOr N L A i) _ j 0 (omega (arith, all-sixteen N L z));
         }
 
     module _ (m₀ out₀ m out : List ℕ) (n P cap all coarsest : ℕ) (eo : length out₀ ≡ outs) (ep : P ≡ planesOf A) (ea : all ≡ allOf N) (ec : coarsest ≡ coarsestOf N L)

@@ -1,30 +1,30 @@
 -- The encoder puts the machine's stream, cut at the budget.
-use Prim.Native.Nat.{ℕ, zero, suc, _+_, _*_, _/_, _%_, _^_, _≤_, _<_, min}
-use mathlib.Core.Path.{_≡_, refl, sym, ap, subst, _∙_}
+use Prim.Native.Nat.{ℕ, zero, suc, _+_, _*_, _^_, _≤_, _<_, min}
+use mathlib.Core.Path.{_≡_, refl, sym, ap, _∙_}
 use mathlib.Core.Logic.{_⊎_, inl, inr}
-use mathlib.Core.Option.{Option, none, some}
+use mathlib.Core.Option.{none, some}
 use mathlib.Core.List.{List, [], _∷_, _++_, append-assoc, append-nil}
 use mathlib.Core.Bool.{Bool, true, false, false≢true}
 use native.Mathlib.Omega.{arith}
 use lib.IntN.{ℤ}
-use lib.ListN.{length, set, getD, take, drop, length-append}
+use lib.ListN.{length, getD, take, drop, length-append}
 use lib.Seq.{take-all}
 use Rattle.sizes.specs.Sizes.{leastN, mostN, allOf, coarsestOf, Sized}
 use Rattle.bits.specs.Bits.{bit, bytesFor, packed, withBit}
 use Rattle.bits.proofs.Laws.{packed-nil, put-packed}
-use Rattle.coef.specs.Coef.{magAt, negative, IsPlanes}
+use Rattle.coef.specs.Coef.{IsPlanes}
 use Rattle.tree.specs.Summaries.{descOr, grandOr}
 use Rattle.nls.specs.Marks.{startMarks}
-use Rattle.nls.specs.Scan.{Question, bitOf, signOf, inDesc, inGrand, Pass, pixels, State, stateAt, over, silent, asks, look, tell, settle, ask, next, reach}
+use Rattle.nls.specs.Scan.{Question, bitOf, signOf, inDesc, inGrand, pixels, State, stateAt, asks, look, tell, settle, ask, next, reach}
 use Rattle.nls.specs.Stream.{answer, answers, begin, after, stream, worstBody}
 use Rattle.nls.proofs.Machine.Run.{settle-hush, settle-asks, settle-over}
 use Rattle.nls.proofs.Counting.Sums.{order}
 use Rattle.nls.proofs.Counts.{stream-bound}
 use Rattle.nls.proofs.Streams.{budget-bits}
 use Rattle.walk.specs.Scans.{Ran, out, bad, on, last, planes, leftOf}
-use Rattle.walk.specs.Visits.{Source, Sv, sv, scanOf}
+use Rattle.walk.specs.Visits.{Source, Sv, scanOf}
 use Rattle.encoder.specs.Writing.{Bytes, bytes, replies, writer, st}
-use Rattle.walk.proofs.Good.{Keeps, Proper, Stopped, dry, Barred, barred, Stands}
+use Rattle.walk.proofs.Good.{Keeps, Proper, dry, barred}
 use Rattle.walk.proofs.Whole.{Ended, scan-good}
 use Rattle.walk.proofs.Led.{Led, led-silent, led-there, led-over, led-told, asks-some, over-none, led-start, codes-first}
 
@@ -173,7 +173,7 @@ module _ (N L P : ℕ) (A : List ℤ) (d g : List ℕ) (says : Says N L A d g) (
         (record { held = first; codes = codes-first N (coarsestOf N L) two wide; cap = omega arith }))
       where
         go : (l : ℕ) (r : Ran (Sv Bytes)) → Ended K N Far l r → Put N L P A held sent (last r .rest .n) (last r .marks) (last r .rest .out)
-        go l (out v) (dry s q o f e b c _ h) =
+        go l (out now v) (dry s q o f e b c _ h _ w) =
             put (f .bits) (o .n) (s .marks) (o .out) (taken (f .bits) (settle I s) (omega (arith, f .count, b, c)) (f .rest)) (f .count) (f .wrote)
             (ap (λ (x : State). x .marks) (led-there N (begin N L P) s (f .bits) q (f .led) e))
         go l (bad v) (barred b i q m o f e li h x z) = absurd (false≢true z)

@@ -1,12 +1,12 @@
 -- The turns of the encoder's loops, from what a visit ensures.
-use Prim.Native.Nat.{ℕ, _+_, _≤_, _<_}
-use mathlib.Core.Path.{_≡_, refl, sym, _∙_}
+use Prim.Native.Nat.{ℕ, _+_, _*_, _≤_, _<_}
+use mathlib.Core.Path.{_≡_, sym}
 use mathlib.Core.List.{List}
 use native.Mathlib.Omega.{arith}
 use lib.IntN.{ℤ}
 use lib.ListN.{length}
 use Rattle.walk.specs.Scans.{Seen, halt, refuse, move, Scan, Ran, out}
-use Rattle.walk.specs.Visits.{Source, Sv, sv, visitSeen, scanOf}
+use Rattle.walk.specs.Visits.{Sv, visitSeen, scanOf}
 use Rattle.encoder.specs.Writing.{Bytes, bytes, writer, st, leftBy, stepOf, Falls, Clean, Does}
 use Rattle.encoder.specs.declared.Step.{Step}
 use Rattle.encoder.specs.declared.Step.the-variants.{Stop, Go}
@@ -47,5 +47,5 @@ module _ (A : List ℤ) (d g : List ℕ) (all budget b pass place : ℕ) (m₀ o
       at-go E b pass place (st m₀ o₀ n) p (st m o k) Y i (seen-go place _ r k p m o (s .answered) (s .marked) (s .wrote) (s .clean) e) h (f .0) (f .1) (f .2) (f .3)
 
   pub turn-stop : (k p : ℕ) → At (scanOf (writer A d g budget) all) b pass place (st m₀ o₀ n) Y → Does (visitSeen (writer A d g budget) all b pass place (st m₀ o₀ n)) budget place n r m o
-      → r ≡ Stop k p → place < all → Y ≡ out (st m o k)
+      → r ≡ Stop k p → place < all → Y ≡ out (pass * all + place) (st m o k)
   turn-stop k p i s e h = at-stop E b pass place (st m₀ o₀ n) (st m o k) Y i (seen-stop place _ r k p m o (s .answered) (s .marked) (s .wrote) (s .clean) e) h

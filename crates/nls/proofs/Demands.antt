@@ -1,10 +1,10 @@
 -- What is proved of the scan, in one place. The definitions are those of specs/; each statement is proved by the theorem that it cites.
 -- N and L are any sizes with L from 1 to N-1, P is any number of planes, and an array is a list of 4^N integers.
 use Prim.Native.Nat.{ℕ, _+_, _*_, _^_, _-_, _/_, min, _≤_, _<_}
-use mathlib.Core.Path.{_≡_, ap, subst}
-use mathlib.Core.Bool.{Bool, true}
+use mathlib.Core.Path.{_≡_, subst}
+use mathlib.Core.Bool.{Bool, true, cond}
 use mathlib.Core.List.{List, [], _∷_, _++_}
-use mathlib.Core.Option.{none}
+use mathlib.Core.Option.{none, some}
 use native.Mathlib.Omega.{arith}
 use lib.IntN.{ℤ, pos, natAbs, _-ℤ_}
 use lib.ListN.{length, take, replicate, getD}
@@ -12,10 +12,11 @@ use Rattle.sizes.specs.Sizes.{allOf, coarsestOf, Sized}
 use Rattle.sizes.specs.Tables.{table}
 use Rattle.coef.specs.Coef.{at, IsPlanes}
 use Rattle.nls.specs.Marks.{noMark}
-use Rattle.nls.specs.Scan.{State, silent, look, ask}
+use Rattle.nls.specs.Scan.{Question, State, silent, look, ask}
 use Rattle.nls.specs.Stream.{answers, begin, after, stream, during, worstBody}
 use Rattle.nls.specs.Parts.{sumTo, parts, partSizes, splits, splitsIn, foundIn, nonzeros}
-use Rattle.nls.specs.Reading.{midpoint, valueBy, highBits, lastPlane, precisionAt, valuesBy, precisions, planesFinished, worstError, CompletedBy}
+use Rattle.nls.specs.Reading.{midpoint, known, valueBy, highBits, lastPlane, precisionAt, valuesBy, precisions, planesFinished, worstError, completes, CompletedBy}
+use Rattle.nls.specs.Turns.{precisionOf}
 use Rattle.nls.specs.Judging.{Begins, Fits, Verdict, taken, Judged}
 use Rattle.nls.proofs.Streams as streams
 use Rattle.nls.proofs.Waiting as waiting
@@ -24,7 +25,11 @@ use Rattle.nls.proofs.Values as values
 use Rattle.nls.proofs.Worst.{worst-some}
 use Rattle.nls.proofs.Counts as counts
 use Rattle.nls.proofs.Finished as finished
-use Rattle.nls.proofs.Precise as precise
+use Rattle.nls.proofs.Precision.Answers as answers
+use Rattle.nls.proofs.Precision.Turns as turns
+use Rattle.nls.proofs.Precision.OwnBits as own
+use Rattle.nls.proofs.Precision.OwnBits.{knownOwn}
+use Rattle.nls.proofs.Precision.Tight as tight
 use Rattle.nls.proofs.Visited as visited
 use Rattle.nls.proofs.Visited.{Passed}
 
@@ -66,6 +71,32 @@ module _ (N L P : ℕ) (sized : Sized N L) where
     -- "Every array whose stream begins so differs nowhere by more than the worst error."
     pub near : (i : ℕ) → i < allOf N → natAbs (at (valuesBy N L P u midpoint) i -ℤ at A i) ≤ worstError N L P u
     near i h = values.near N L sized P A u begins midpoint values.midpoint-between i h
+
+    -- "each coefficient is wrong by less than 2^k of its own k" (document 02, T-04), by any rule that stays within what the known bits leave open
+    pub own-near : (rule : ℕ → ℕ → ℕ) → values.Between rule → (i : ℕ) → i < allOf N
+        → natAbs (at (valuesBy N L P u rule) i -ℤ at A i) < 2 ^ precisionAt N L P u i
+    own-near rule fair i h = values.near-own N L sized P A u begins rule fair i h
+
+    -- "Values don't change": they are those of a map that notes each coefficient's own bits alone
+    pub values-before : (rule : ℕ → ℕ → ℕ)
+        → valuesBy N L P u rule
+        ≡ table (allOf N) (λ i. valueBy rule (min (getD (knownOwn N L P u .planes) i 0) (lastPlane N L P u)) (at (knownOwn N L P u .bits) i))
+    values-before rule = own.values-before N L sized P A u begins rule
+
+    -- the precision from the scan's state alone
+    pub precision-of : (i : ℕ) → i < allOf N → precisionAt N L P u i ≡ precisionOf (allOf N) (after N L P u) i
+    precision-of i h = turns.precision-of N L sized P A u begins i h
+
+  -- a plane's end changes no precision: a bit more changes those alone that its answer makes known down to the plane in progress, whether or
+  -- not it ends that plane
+  pub precision-step : (A : List ℤ) (u : List Bool) (a : Bool) → Begins N L P A (u ++ (a ∷ [])) → (q : Question) → ask (allOf N) (after N L P u) ≡ some q → (i : ℕ) → i < allOf N
+      → precisionAt N L P (u ++ (a ∷ [])) i ≡ cond (completes N L ((after N L P u) .pass) q a i) ((after N L P u) .left - 1) (precisionAt N L P u i)
+  precision-step = answers.precision-step N L P sized
+
+  -- the map is tight: where a place has precision k > 0, two arrays that both begin with the bits differ there by at least 2^(k-1)
+  pub own-tight : (u : List Bool) → Fits N L P u → (i : ℕ) → i < allOf N → 1 ≤ precisionAt N L P u i
+      → (A : List ℤ) × (B : List ℤ) × Begins N L P A u × Begins N L P B u × (2 ^ (precisionAt N L P u i - 1) ≤ natAbs (at A i -ℤ at B i))
+  own-tight = tight.own-tight N L sized P
 
   -- "A body is refused by 12 or 13 exactly when no array of that N, L and P has a stream that begins with its usable bits."
   -- Every list of bits has one verdict and no other, and it is `taken` exactly where some array fits.
@@ -137,13 +168,14 @@ module _ (N L P : ℕ) (sized : Sized N L) where
       → (after N L P (u ++ (a ∷ []))) .pending ≡ true → (after N L P (u ++ (a ∷ []))) .marks ≡ (after N L P u) .marks
   sign-missing = waiting.waiting-marks N L P
 
-  -- "A coefficient's precision k: b if its own bit of the plane b in progress was read (with its sign, where one follows)": that plane is left - 1
+  -- "A coefficient's precision k: b if its own bit of the plane b in progress was read (with its sign, where one follows)", and "also .. when a
+  -- set that holds it was tested 0 in the plane in progress": that plane is left - 1
   pub precision-read : (u : List Bool) (i k : ℕ) → i < allOf N → CompletedBy N L P u i k → precisionAt N L P u i + 1 ≡ (after N L P u) .left
-  precision-read = precise.precision-read N L P
+  precision-read = answers.precision-read N L P
 
   -- "else the number of the last finished plane, or P if none"
   pub precision-unread : (u : List Bool) (i : ℕ) → i < allOf N → ((k : ℕ) → CompletedBy N L P u i k → ⊥) → precisionAt N L P u i ≡ lastPlane N L P u
-  precision-unread = precise.precision-unread N L P
+  precision-unread = answers.precision-unread N L P
 
   -- "Skips: MIP, MNP, MSP, MCP 1; MD 4; MG 16; MNk 4^k": none for mark 0, and in no state of a run is a place looked at that has it
   pub no-mark-0 : (s : State) → Passed N L P s → s .place < allOf N → getD (s .marks) (s .place) 0 ≡ noMark → ⊥

@@ -1,12 +1,13 @@
 -- The bits k and above of a number, by its bits; the same with a sign.
 use mathlib.Core.Path.{_≡_, refl, sym, ap, subst, _∙_}
 use mathlib.Core.Bool.{Bool, true, false}
+use mathlib.Core.Logic.{_⊎_, inl, inr}
 use Prim.Native.Nat.{ℕ, zero, suc, _+_, _*_, _-_, _/_, _%_, _^_, _≤_, _<_}
 use native.Mathlib.Omega.{arith}
-use native.Mathlib.Nat.{pow-succ', mul-assoc, add-mul, div-eq-of-lt, div-one}
+use native.Mathlib.Nat.{pow-succ', mul-assoc, add-mul, div-eq-of-lt, div-one, mod-eq-of-lt, one-le-pow, add-mul-mod-self-right}
 use lib.Dec.{eqb}
 use lib.IntN.{ℤ, pos}
-use lib.Pow.{shr-shr}
+use lib.Pow.{shr-shr, pow-lt}
 use borrow.Author.Tests.{eqb-true, eqb-false}
 use Rattle.bits.specs.Bits.{bit, digit}
 use Rattle.coef.specs.Coef.{magnitude, negative, signed}
@@ -87,6 +88,21 @@ high-refined b z h =
     ap (λ (n : Bool). signed n (magnitude (highBits (suc b) z) + digit (bit (magnitude z) b) * 2 ^ b)) (high-negative (suc b) z h)
     ∙ ap (λ (x : ℕ). signed (negative z) (x + digit (bit (magnitude z) b) * 2 ^ b)) (high-magnitude (suc b) z)
     ∙ (unfold highBits in ap (λ (x : ℕ). signed (negative z) x) (sym (plane-adds b (magnitude z))))
+
+-- bits from plane b on that are round to plane b + 1
+pub high-round : (b : ℕ) (z y : ℤ) → (y ≡ highBits (suc b) z) ⊎ (y ≡ highBits b z) → magnitude y % 2 ^ suc b ≡ 0 → y ≡ highBits (suc b) z
+high-round b z y (inl e) h = e
+high-round b z y (inr e) h = on (bit (magnitude z) b) refl
+  where
+    size : magnitude y ≡ magnitude z / 2 ^ suc b * 2 ^ suc b + digit (bit (magnitude z) b) * 2 ^ b
+    size = ap magnitude e ∙ high-magnitude b z ∙ plane-adds b (magnitude z)
+
+    on : (t : Bool) → bit (magnitude z) b ≡ t → y ≡ highBits (suc b) z
+    on false q = e ∙ sym (high-same b (suc b) z (omega arith) (λ x l u. ap (λ (n : ℕ). bit (magnitude z) n) {x = x} {y = b} (omega arith) ∙ q))
+    on true q =
+        let one : magnitude y ≡ 2 ^ b + magnitude z / 2 ^ suc b * 2 ^ suc b = size ∙ ap (λ (t : Bool). magnitude z / 2 ^ suc b * 2 ^ suc b + digit t * 2 ^ b) q ∙ omega arith in
+        let rest : magnitude y % 2 ^ suc b ≡ 2 ^ b = ap (λ (n : ℕ). n % 2 ^ suc b) one ∙ add-mul-mod-self-right (2 ^ b) (magnitude z / 2 ^ suc b) (2 ^ suc b) ∙ mod-eq-of-lt (pow-lt {i = b} {j = suc b} (omega arith)) in
+        absurd (omega (arith, rest, h, one-le-pow b 2 (omega arith)))
 
 -- the highest bit, with the sign
 pub high-first : (b P : ℕ) (z : ℤ) → magnitude z < 2 ^ P → suc b ≤ P → bit (magnitude z) b ≡ true → ((e : ℕ) → suc b ≤ e → e < P → bit (magnitude z) e ≡ false)

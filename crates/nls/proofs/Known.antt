@@ -21,7 +21,7 @@ use Rattle.nls.specs.Marks.{pushFrom, push, splitDesc, splitGrand, pushR
 use Rattle.nls.specs.Scan as scan
 use Rattle.nls.specs.Scan.{State, Look, over, silent, asks, Pass, pixels, sets, refining, look, lookAt, lookPixels, lookSets, lookRefining, tell, tellAt, tellSets, settle, ask, asked, next, reach, start}
 use Rattle.nls.specs.Stream.{begin, after}
-use Rattle.nls.specs.Reading.{Known, nothing, noted, learn, learnAt, learned, known, lastPlane, precisionAt}
+use Rattle.nls.specs.Reading.{Known, nothing, noted, setEach, testedZero, learn, learnAt, learned, known, lastPlane, precisionAt}
 use Rattle.nls.proofs.Counting.Sums.{order}
 use Rattle.nls.proofs.Machine.Run.{Settled, start-settled, next-settled, tell-left}
 use Rattle.nls.proofs.Kept.{ones, AfterMove, settle-keeps}
@@ -114,7 +114,7 @@ pub record Sound (I P : ℕ) (s : State) (k : Known) : Type 0 where
   pub left : s .left ≤ P
   pub most : (j : ℕ) → j < I → getD (k .planes) j 0 ≤ P
   pub least : (j : ℕ) → j < I → s .left ≤ suc (getD (k .planes) j 0)
-  pub fresh : (j : ℕ) → j < I → getD (s .marks) j 0 ≡ 3 → Due (s .pass) (s .place) j → s .left ≤ getD (k .planes) j 0
+  pub fresh : (j : ℕ) → j < I → getD (s .marks) j 0 ≡ 3 → Due (s .pass) (s .place) j → magAt (k .bits) j % 2 ^ s .left ≡ 0
   pub found : 1 ≤ s .left → (j : ℕ) → j < I → 2 ≤ getD (s .marks) j 0 → getD (s .marks) j 0 ≤ 3 → 1 ≤ magAt (k .bits) j
   pub range : (j : ℕ) → j < I → magAt (k .bits) j < 2 ^ P
   pub round : (j : ℕ) → j < I → magAt (k .bits) j % 2 ^ getD (k .planes) j 0 ≡ 0
@@ -131,6 +131,14 @@ by-place k i b z hb hp F j f g = on (ℕ-discrete j i)
         (rw (getD-set-same (k .bits) i z (pos 0) hb, getD-set-same (k .planes) i b 0 hp) (f e))
     on (no e) = rw (getD-set-other (k .bits) i j z (pos 0) e, getD-set-other (k .planes) i j b 0 e) (g e)
 
+-- the entry at j after b is put at i: that one or the old one
+pub plane-at : (l : List ℕ) (i b : ℕ) (F : ℕ → Type 0) (j : ℕ) → j < length l → (j ≡ i → F b) → F (getD l j 0) → F (getD (set l i b) j 0)
+plane-at l i b F j h f g = on (ℕ-discrete j i)
+  where
+    on : Dec (j ≡ i) → F (getD (set l i b) j 0)
+    on (yes e) = subst F (sym (ap (λ (x : ℕ). getD (set l i b) x 0) e ∙ getD-set-same l i b 0 (omega arith))) (f e)
+    on (no e) = subst F (sym (getD-set-other l i j b 0 e)) g
+
 due-next : (p : Pass) (i j : ℕ) → Due p (i + 1) j → Due p i j
 due-next pixels i j d = tt
 due-next sets i j d = tt
@@ -146,7 +154,7 @@ other-mark m i v j c e n h = (off, sym (getD-set-other m i j v 0 off) ∙ e)
 module _ (I P : ℕ) where
   -- the scan goes on, and nothing is noted
   moved : {s t : State} {k : Known} → Sound I P s k → t .left ≤ s .left → (t .pending ≡ true → t .place < I)
-      → ((j : ℕ) → j < I → getD (t .marks) j 0 ≡ 3 → Due (t .pass) (t .place) j → t .left ≤ getD (k .planes) j 0)
+      → ((j : ℕ) → j < I → getD (t .marks) j 0 ≡ 3 → Due (t .pass) (t .place) j → magAt (k .bits) j % 2 ^ t .left ≡ 0)
       → ((j : ℕ) → j < I → 2 ≤ getD (t .marks) j 0 → getD (t .marks) j 0 ≤ 3 → (2 ≤ getD (s .marks) j 0) × (getD (s .marks) j 0 ≤ 3))
       → Sound I P t k
   moved h l w f g = record {
@@ -188,11 +196,11 @@ module _ (I P : ℕ) where
   quiet-sets b i m k true false false false h = passed h (λ j d. tt)
 
   quiet-refining : (b i : ℕ) (m : List ℕ) (k : Known) (x s n : Bool) → eqb (getD m i 0) 2 ≡ n → Sound I P (scan.stateAt (suc b) refining i m) k → Quiet k (lookRefining b i m x s n)
-  quiet-refining b i m k false s n en h = moved h (omega arith) (λ e. absurd (false≢true e)) (λ j hj e d. omega (arith, h .least j hj)) (λ j hj a b. (a, b))
+  quiet-refining b i m k false s n en h = moved h (omega arith) (λ e. absurd (false≢true e)) (λ j hj e d. lower-round b (getD (k .planes) j 0) (magAt (k .bits) j) (omega (arith, h .least j hj)) (h .round j hj)) (λ j hj a b. (a, b))
   quiet-refining b i m k true true n en h = tt
   quiet-refining b i m k true false true en h = moved h (omega arith) (λ e. absurd (false≢true e)) fr fd
     where
-      fr : (j : ℕ) → j < I → getD (set m i 3) j 0 ≡ 3 → i + 1 ≤ j → suc b ≤ getD (k .planes) j 0
+      fr : (j : ℕ) → j < I → getD (set m i 3) j 0 ≡ 3 → i + 1 ≤ j → magAt (k .bits) j % 2 ^ suc b ≡ 0
       fr j hj e d = h .fresh j hj (sym (getD-set-other m i j 3 0 (λ q. omega arith)) ∙ e) (omega arith)
 
       fd : (j : ℕ) → j < I → 2 ≤ getD (set m i 3) j 0 → getD (set m i 3) j 0 ≤ 3 → (2 ≤ getD m j 0) × (getD m j 0 ≤ 3)
@@ -225,7 +233,7 @@ module _ (I P : ℕ) where
     left = omega (arith, h .left);
     most = λ j hj. at-plane (λ n. n ≤ P) j (λ e. omega (arith, h .left)) (λ e. h .most j hj);
     least = λ j hj. at-plane (λ n. t .left ≤ suc n) j (λ e. omega arith) (λ e. omega (arith, h .least j hj));
-    fresh = λ j hj e d. at-plane (λ n. t .left ≤ n) j (λ q. absurd (fr j hj e d .0 q)) (λ q. omega (arith, h .fresh j hj (fr j hj e d .1) (fr j hj e d .2)));
+    fresh = λ j hj e d. at-bits (λ z. magnitude z % 2 ^ t .left ≡ 0) j (λ q. absurd (fr j hj e d .0 q)) (λ q. subst (λ (n : ℕ). magAt (k .bits) j % 2 ^ n ≡ 0) (ls ∙ sym lt) (h .fresh j hj (fr j hj e d .1) (fr j hj e d .2)));
     found = λ o j hj x y. at-bits (λ z. 1 ≤ magnitude z) j (fd j hj x y .0) (λ q. h .found (omega arith) j hj (fd j hj x y .1 q .0) (fd j hj x y .1 q .1));
     range = λ j hj. at-bits (λ z. magnitude z < 2 ^ P) j (λ e. small) (λ e. h .range j hj);
     round = λ j hj. by-place k i b z (omega (arith, h .longBits)) (omega (arith, h .longPlanes)) (λ z n. magnitude z % 2 ^ n ≡ 0) j (λ e. whole) (λ e. h .round j hj);
@@ -246,11 +254,27 @@ module _ (I P : ℕ) where
     left = omega arith;
     most = h .most;
     least = λ j hj. omega arith;
-    fresh = λ j hj m d. omega arith;
+    fresh = λ j hj m d. lower-round (t .left) (getD (k .planes) j 0) (magAt (k .bits) j) (omega arith) (h .round j hj);
     found = λ o. absurd (omega arith);
     range = h .range;
     round = h .round;
     inside = λ w o. absurd (omega arith);
+  }
+
+  -- the precision of one place goes down to plane b
+  pub zero-one : {s : State} {k : Known} (i b : ℕ) → Sound I P s k → s .left ≡ suc b → Sound I P s (record { bits = k .bits; planes = set (k .planes) i b })
+  zero-one {s} {k} i b h e = record {
+    longBits = h .longBits;
+    longPlanes = length-set (k .planes) i b ∙ h .longPlanes;
+    left = h .left;
+    most = λ j hj. plane-at (k .planes) i b (λ n. n ≤ P) j (omega (arith, h .longPlanes)) (λ q. omega (arith, h .left)) (h .most j hj);
+    least = λ j hj. plane-at (k .planes) i b (λ n. s .left ≤ suc n) j (omega (arith, h .longPlanes)) (λ q. omega arith) (h .least j hj);
+    fresh = h .fresh;
+    found = h .found;
+    range = h .range;
+    round = λ j hj. plane-at (k .planes) i b (λ n. magAt (k .bits) j % 2 ^ n ≡ 0) j (omega (arith, h .longPlanes))
+        (λ q. lower-round b (getD (k .planes) j 0) (magAt (k .bits) j) (omega (arith, h .least j hj)) (h .round j hj)) (h .round j hj);
+    inside = h .inside;
   }
 
   -- a test bit 0
@@ -282,7 +306,7 @@ module _ (I P : ℕ) where
       (λ j hj z d. ((λ q. omega arith), z, omega arith))
       (λ j hj x y. ((λ q. rw magnitude-signed grown), λ q. (x, y)))
     where
-      high : suc b ≤ getD (k .planes) i 0
+      high : magAt (k .bits) i % 2 ^ suc b ≡ 0
       high = h .fresh i hi e (omega arith)
 
       more : 1 ≤ magAt (k .bits) i
@@ -296,88 +320,95 @@ module _ (I P : ℕ) where
       bit-small false = omega arith
 
       small : magAt (k .bits) i + digit a * 2 ^ b < 2 ^ P
-      small = omega (arith, bit-small a, room (getD (k .planes) i 0) P (magAt (k .bits) i) (h .most i hi) (h .round i hi) (h .range i hi), pow-lt {i = b} {j = getD (k .planes) i 0} high)
+      small = omega (arith, bit-small a, room (suc b) P (magAt (k .bits) i) (h .left) high (h .range i hi), pow-lt {i = b} {j = suc b} (omega arith))
 
       whole : (magAt (k .bits) i + digit a * 2 ^ b) % 2 ^ b ≡ 0
-      whole = add-mul-mod-self-right (magAt (k .bits) i) (digit a) (2 ^ b) ∙ lower-round b (getD (k .planes) i 0) (magAt (k .bits) i) (omega (arith, high)) (h .round i hi)
+      whole = add-mul-mod-self-right (magAt (k .bits) i) (digit a) (2 ^ b) ∙ lower-round b (suc b) (magAt (k .bits) i) (omega arith) high
 
-  -- an answer a in plane b, in pass p; t is the state after it
-  abbrev Answered : ℕ → Pass → Bool → Known → State → Look → Type 0
-  Answered b p a k t over = Sound I P t k
-  Answered b p a k t (silent r) = Unit {0}
-  Answered b p a k t (asks q) = Sound I P t (learn p b q a k)
+  -- members of a set that was tested 0 in plane b
+  pub zero-each : {s : State} {k : Known} (l : List ℕ) (b : ℕ) → Sound I P s k → s .left ≡ suc b → Sound I P s (testedZero l b k)
+  unfolding setEach
+  zero-each [] b h e = h
+  zero-each {s} {k} (i ∷ l) b h e = zero-each l b (zero-one i b h e) e
 
-  answered-pixels : (b i : ℕ) (m : List ℕ) (a : Bool) (k : Known) (x y : Bool) → ltb i I ≡ x → eqb (getD m i 0) 1 ≡ y → Sound I P (scan.stateAt (suc b) pixels i m) k
-      → Answered b pixels a k (tellAt I (suc b) pixels i false m a) (lookPixels b i m x y)
-  answered-pixels b i m a k false y ex ey h = tt
-  answered-pixels b i m a k true false ex ey h = tt
-  answered-pixels b i m true k true true ex ey h = moved h (omega arith) (λ e. ltb-true i I ex) (λ j hj e d. h .fresh j hj e tt) (λ j hj x y. (x, y))
-  answered-pixels b i m false k true true ex ey h =
-      zero-sound i b h (ltb-true i I ex) refl refl refl (λ j hj e d. (not-here j (omega arith), e, tt)) (λ j hj x y. (not-here j x, x, y))
-    where
-      not-here : (j : ℕ) → 2 ≤ getD m j 0 → j ≡ i → ⊥
-      not-here j x q = omega (arith, eqb-true (getD m i 0) 1 ey, ap (λ (x : ℕ). getD m x 0) q)
+  module _ (N L : ℕ) where
+    -- an answer a in plane b, in pass p; t is the state after it
+    abbrev Answered : ℕ → Pass → Bool → Known → State → Look → Type 0
+    Answered b p a k t over = Sound I P t k
+    Answered b p a k t (silent r) = Unit {0}
+    Answered b p a k t (asks q) = Sound I P t (learn N L p b q a k)
 
-  answered-sets : (b i : ℕ) (m : List ℕ) (a : Bool) (k : Known) (x d g c : Bool) → ltb i I ≡ x → Sound I P (scan.stateAt (suc b) sets i m) k
-      → Answered b sets a k (tellSets I (suc b) i m a d g) (lookSets b i m x d g c)
-  answered-sets b i m a k false d g c ex h = tt
-  answered-sets b i m true k true true g c ex h = parted h (old-desc I i m (ltb (4 * i) I))
-  answered-sets b i m false k true true g c ex h = passed h (λ j d. tt)
-  answered-sets b i m true k true false true c ex h = parted h (old-grand I i m)
-  answered-sets b i m false k true false true c ex h = passed h (λ j d. tt)
-  answered-sets b i m true k true false false true ex h = moved h (omega arith) (λ e. ltb-true i I ex) (λ j hj e d. h .fresh j hj e tt) (λ j hj x y. (x, y))
-  answered-sets b i m false k true false false true ex h =
-      zero-sound i b h (ltb-true i I ex) refl refl refl
-      (λ j hj e d. (let o : (j ≡ i → ⊥) × (getD m j 0 ≡ 3) = other-mark m i 1 j 3 e (λ q. omega arith) (omega arith) in (o .0, o .1, tt)))
-      (λ j hj x y.
-      let o : (j ≡ i → ⊥) × (getD m j 0 ≡ getD (set m i 1) j 0) = other-mark m i 1 j (getD (set m i 1) j 0) refl (λ q. omega arith) (omega arith) in
-      (o .0, omega arith, omega arith))
-  answered-sets b i m a k true false false false ex h = tt
+    answered-pixels : (b i : ℕ) (m : List ℕ) (a : Bool) (k : Known) (x y : Bool) → ltb i I ≡ x → eqb (getD m i 0) 1 ≡ y → Sound I P (scan.stateAt (suc b) pixels i m) k
+        → Answered b pixels a k (tellAt I (suc b) pixels i false m a) (lookPixels b i m x y)
+    answered-pixels b i m a k false y ex ey h = tt
+    answered-pixels b i m a k true false ex ey h = tt
+    answered-pixels b i m true k true true ex ey h = moved h (omega arith) (λ e. ltb-true i I ex) (λ j hj e d. h .fresh j hj e tt) (λ j hj x y. (x, y))
+    answered-pixels b i m false k true true ex ey h =
+        zero-sound i b h (ltb-true i I ex) refl refl refl (λ j hj e d. (not-here j (omega arith), e, tt)) (λ j hj x y. (not-here j x, x, y))
+      where
+        not-here : (j : ℕ) → 2 ≤ getD m j 0 → j ≡ i → ⊥
+        not-here j x q = omega (arith, eqb-true (getD m i 0) 1 ey, ap (λ (x : ℕ). getD m x 0) q)
 
-  answered-refining : (b i : ℕ) (m : List ℕ) (a : Bool) (k : Known) (x s n : Bool) → ltb i I ≡ x → eqb (getD m i 0) 3 ≡ s → Sound I P (scan.stateAt (suc b) refining i m) k
-      → Answered b refining a k (scan.stateAt (suc b) refining (i + 1) m) (lookRefining b i m x s n)
-  answered-refining b i m a k false s n ex es h = tt
-  answered-refining b i m a k true true n ex es h = refined-sound b i a m h (ltb-true i I ex) (eqb-true (getD m i 0) 3 es)
-  answered-refining b i m a k true false true ex es h = tt
-  answered-refining b i m a k true false false ex es h = tt
+    answered-sets : (b i : ℕ) (m : List ℕ) (a : Bool) (k : Known) (x d g c : Bool) → ltb i I ≡ x → Sound I P (scan.stateAt (suc b) sets i m) k
+        → Answered b sets a k (tellSets I (suc b) i m a d g) (lookSets b i m x d g c)
+    answered-sets b i m a k false d g c ex h = tt
+    answered-sets b i m true k true true g c ex h = parted h (old-desc I i m (ltb (4 * i) I))
+    answered-sets b i m false k true true g c ex h = zero-each _ b (passed h (λ j d. tt)) refl
+    answered-sets b i m true k true false true c ex h = parted h (old-grand I i m)
+    answered-sets b i m false k true false true c ex h = zero-each _ b (passed h (λ j d. tt)) refl
+    answered-sets b i m true k true false false true ex h = moved h (omega arith) (λ e. ltb-true i I ex) (λ j hj e d. h .fresh j hj e tt) (λ j hj x y. (x, y))
+    answered-sets b i m false k true false false true ex h =
+        zero-sound i b h (ltb-true i I ex) refl refl refl
+        (λ j hj e d. (let o : (j ≡ i → ⊥) × (getD m j 0 ≡ 3) = other-mark m i 1 j 3 e (λ q. omega arith) (omega arith) in (o .0, o .1, tt)))
+        (λ j hj x y.
+        let o : (j ≡ i → ⊥) × (getD m j 0 ≡ getD (set m i 1) j 0) = other-mark m i 1 j (getD (set m i 1) j 0) refl (λ q. omega arith) (omega arith) in
+        (o .0, omega arith, omega arith))
+    answered-sets b i m a k true false false false ex h = tt
 
-  answered-in : (b : ℕ) (p : Pass) (i : ℕ) (w : Bool) (m : List ℕ) (a : Bool) (k : Known) → Sound I P (record { left = suc b; pass = p; place = i; pending = w; marks = m }) k
-      → Answered b p a k (tellAt I (suc b) p i w m a) (lookAt I (suc b) p i w m)
-  answered-in b pixels i true m a k h = sign-sound b i pixels true a m h (h .inside refl (omega arith))
-  answered-in b sets i true m a k h = sign-sound b i sets true a m h (h .inside refl (omega arith))
-  answered-in b refining i true m a k h = sign-sound b i refining true a m h (h .inside refl (omega arith))
-  answered-in b pixels i false m a k h = answered-pixels b i m a k (ltb i I) (eqb (getD m i 0) 1) refl refl h
-  answered-in b sets i false m a k h = answered-sets b i m a k (ltb i I) (eqb (getD m i 0) 5) (eqb (getD m i 0) 6) (eqb (getD m i 0) 4) refl h
-  answered-in b refining i false m a k h = answered-refining b i m a k (ltb i I) (eqb (getD m i 0) 3) (eqb (getD m i 0) 2) refl refl h
+    answered-refining : (b i : ℕ) (m : List ℕ) (a : Bool) (k : Known) (x s n : Bool) → ltb i I ≡ x → eqb (getD m i 0) 3 ≡ s → Sound I P (scan.stateAt (suc b) refining i m) k
+        → Answered b refining a k (scan.stateAt (suc b) refining (i + 1) m) (lookRefining b i m x s n)
+    answered-refining b i m a k false s n ex es h = tt
+    answered-refining b i m a k true true n ex es h = refined-sound b i a m h (ltb-true i I ex) (eqb-true (getD m i 0) 3 es)
+    answered-refining b i m a k true false true ex es h = tt
+    answered-refining b i m a k true false false ex es h = tt
 
-  answered : (l : ℕ) (p : Pass) (i : ℕ) (w : Bool) (m : List ℕ) (a : Bool) (k : Known) → Sound I P (record { left = l; pass = p; place = i; pending = w; marks = m }) k
-      → Answered (l - 1) p a k (tellAt I l p i w m a) (lookAt I l p i w m)
-  answered zero p i w m a k h = ended h (tell-left I zero p i w m a)
-  answered (suc b) p i w m a k h =
-      let e : b ≡ suc b - 1 = omega arith in
-      subst (λ (c : ℕ). Answered c p a k (tellAt I (suc b) p i w m a) (lookAt I (suc b) p i w m)) e (answered-in b p i w m a k h)
+    answered-in : (b : ℕ) (p : Pass) (i : ℕ) (w : Bool) (m : List ℕ) (a : Bool) (k : Known) → Sound I P (record { left = suc b; pass = p; place = i; pending = w; marks = m }) k
+        → Answered b p a k (tellAt I (suc b) p i w m a) (lookAt I (suc b) p i w m)
+    answered-in b pixels i true m a k h = sign-sound b i pixels true a m h (h .inside refl (omega arith))
+    answered-in b sets i true m a k h = sign-sound b i sets true a m h (h .inside refl (omega arith))
+    answered-in b refining i true m a k h = sign-sound b i refining true a m h (h .inside refl (omega arith))
+    answered-in b pixels i false m a k h = answered-pixels b i m a k (ltb i I) (eqb (getD m i 0) 1) refl refl h
+    answered-in b sets i false m a k h = answered-sets b i m a k (ltb i I) (eqb (getD m i 0) 5) (eqb (getD m i 0) 6) (eqb (getD m i 0) 4) refl h
+    answered-in b refining i false m a k h = answered-refining b i m a k (ltb i I) (eqb (getD m i 0) 3) (eqb (getD m i 0) 2) refl refl h
 
-  pub sound-next : (s : State) (k : Known) (a : Bool) → Settled I s → Sound I P s k → Sound I P (next I s a) (learnAt (ask I s) s a k)
-  unfolding next ask
-  sound-next s k a q h =
-      sound-settle (tell I s a) (learnAt (asked I (look I s)) s a k)
-      (on (look I s) refl (answered (s .left) (s .pass) (s .place) (s .pending) (s .marks) a k h))
-    where
-      on : (L : Look) → look I s ≡ L → Answered (s .left - 1) (s .pass) a k (tell I s a) L → Sound I P (tell I s a) (learnAt (asked I L) s a k)
-      on over e h = h
-      on (silent t) e h = absurd (q t e)
-      on (asks r) e h = h
+    answered : (l : ℕ) (p : Pass) (i : ℕ) (w : Bool) (m : List ℕ) (a : Bool) (k : Known) → Sound I P (record { left = l; pass = p; place = i; pending = w; marks = m }) k
+        → Answered (l - 1) p a k (tellAt I l p i w m a) (lookAt I l p i w m)
+    answered zero p i w m a k h = ended h (tell-left I zero p i w m a)
+    answered (suc b) p i w m a k h =
+        let e : b ≡ suc b - 1 = omega arith in
+        subst (λ (c : ℕ). Answered c p a k (tellAt I (suc b) p i w m a) (lookAt I (suc b) p i w m)) e (answered-in b p i w m a k h)
+
+    pub sound-next : (s : State) (k : Known) (a : Bool) → Settled I s → Sound I P s k → Sound I P (next I s a) (learnAt N L (ask I s) s a k)
+    unfolding next ask
+    sound-next s k a q h =
+        sound-settle (tell I s a) (learnAt N L (asked I (look I s)) s a k)
+        (on (look I s) refl (answered (s .left) (s .pass) (s .place) (s .pending) (s .marks) a k h))
+      where
+        on : (x : Look) → look I s ≡ x → Answered (s .left - 1) (s .pass) a k (tell I s a) x → Sound I P (tell I s a) (learnAt N L (asked I x) s a k)
+        on over e h = h
+        on (silent t) e h = absurd (q t e)
+        on (asks r) e h = h
 
 -- bits after bits
-pub learned-append : (N : ℕ) (s : State) (k : Known) (u v : List Bool) → learned N s k (u ++ v) ≡ learned N (reach (allOf N) s u) (learned N s k u) v
+pub learned-append : (N L : ℕ) (s : State) (k : Known) (u v : List Bool) → learned N L s k (u ++ v) ≡ learned N L (reach (allOf N) s u) (learned N L s k u) v
 unfolding reach learned
-learned-append N s k [] v = refl
-learned-append N s k (a ∷ u) v = learned-append N (next (allOf N) s a) (learnAt (ask (allOf N) s) s a k) u v
+learned-append N L s k [] v = refl
+learned-append N L s k (a ∷ u) v = learned-append N L (next (allOf N) s a) (learnAt N L (ask (allOf N) s) s a k) u v
 
-sound-run : (N P : ℕ) (s : State) (k : Known) (u : List Bool) → Settled (allOf N) s → Sound (allOf N) P s k → Sound (allOf N) P (reach (allOf N) s u) (learned N s k u)
+sound-run : (N L P : ℕ) (s : State) (k : Known) (u : List Bool) → Settled (allOf N) s → Sound (allOf N) P s k → Sound (allOf N) P (reach (allOf N) s u) (learned N L s k u)
 unfolding reach learned
-sound-run N P s k [] q h = h
-sound-run N P s k (a ∷ u) q h = sound-run N P (next (allOf N) s a) (learnAt (ask (allOf N) s) s a k) u (next-settled (allOf N) s a) (sound-next (allOf N) P s k a q h)
+sound-run N L P s k [] q h = h
+sound-run N L P s k (a ∷ u) q h = sound-run N L P (next (allOf N) s a) (learnAt N L (ask (allOf N) s) s a k) u (next-settled (allOf N) s a) (sound-next (allOf N) P N L s k a q h)
 
 module _ (N L P : ℕ) where
   abbrev I : ℕ
@@ -400,7 +431,7 @@ module _ (N L P : ℕ) where
     left = omega arith;
     most = λ j hj. omega (arith, planes-0 j hj);
     least = λ j hj. omega (arith, planes-0 j hj);
-    fresh = λ j hj e d. omega (arith, planes-0 j hj);
+    fresh = λ j hj e d. rw (bits-0 j hj) (zero-mod _);
     found = λ o j hj x y. absurd (omega (arith, ones D (I - D) j, old-start I D .same j (omega arith) y));
     range = λ j hj. rw (bits-0 j hj) (one-le-pow P 2 (omega arith));
     round = λ j hj. rw (bits-0 j hj) (zero-mod _);
@@ -409,7 +440,7 @@ module _ (N L P : ℕ) where
 
   -- on any bits
   pub known-sound : (u : List Bool) → Sound I P (after N L P u) (known N L P u)
-  known-sound u = sound-run N P (begin N L P) (nothing N P) u (start-settled I D P) sound-begin
+  known-sound u = sound-run N L P (begin N L P) (nothing N P) u (start-settled I D P) sound-begin
 
   pub bits-length : (u : List Bool) → length (known N L P u .bits) ≡ I
   bits-length u = known-sound u .longBits

@@ -3,7 +3,7 @@ use mathlib.Core.Path.{_≡_, refl, sym, ap, subst, _∙_}
 use mathlib.Core.Bool.{Bool, true, false, _&&_, _||_, true≢false, false≢true}
 use mathlib.Core.Logic.{_⊎_, inl, inr, ⊎-elim}
 use mathlib.Core.List.{List, [], _∷_}
-use Prim.Native.Nat.{ℕ, zero, suc, _+_, _*_, _-_, _^_, _≤_, _<_}
+use Prim.Native.Nat.{ℕ, zero, suc, _+_, _*_, _-_, _/_, _^_, _≤_, _<_}
 use native.Mathlib.Omega.{arith}
 use native.Mathlib.Nat.{min-le-left}
 use native.Mathlib.Decide.{ℕ-discrete}
@@ -11,17 +11,22 @@ use lib.Dec.{ltb, eqb}
 use lib.IntN.{ℤ, pos}
 use lib.ListN.{getD, set, getD-replicate}
 use lib.Seq.{set-getD}
-use borrow.Author.Tests.{ltb-true, eqb-true}
+use borrow.Author.Tests.{ltb-true, eqb-true, lt-ltb}
 use Rattle.sizes.specs.Sizes.{allOf, coarsestOf, Sized}
+use Rattle.sizes.proofs.Laws.{both}
 use Rattle.bits.specs.Bits.{bit, digit}
 use Rattle.coef.specs.Coef.{at, magAt, magnitude, negative, signed}
 use Rattle.nls.specs.Scan as scan
-use Rattle.nls.specs.Scan.{State, Look, over, silent, asks, bitOf, signOf, Pass, pixels, sets, refining, look, lookAt, lookPixels, lookSets, lookRefining, tell, tellAt, tellSets, settle, ask, asked, next, reach}
+use Rattle.nls.specs.Scan.{State, Look, over, silent, asks, bitOf, signOf, inDesc, inGrand, Pass, pixels, sets, refining, look, lookAt, lookPixels, lookSets, lookRefining, tell, tellAt, tellSets, settle, ask, asked, next, reach}
 use Rattle.nls.specs.Stream.{begin, after}
-use Rattle.nls.specs.Reading.{Known, nothing, noted, learn, learnAt, learned, known, highBits, precisionAt}
+use Rattle.nls.specs.Reading.{Known, nothing, noted, setEach, testedZero, learn, learnAt, learned, known, highBits, precisionAt}
 use Rattle.nls.specs.Judging.{Begins}
 use Rattle.nls.proofs.Tiled.{Tiled, tiled}
-use Rattle.nls.proofs.Arrays.{Bits, bits-of, ans, told, Fit}
+use Rattle.nls.proofs.Arrays.{Bits, bits-of, below, inside, ans, told, member, Fit}
+use Rattle.tree.specs.Tree.{desc, grand}
+use Rattle.tree.proofs.Lists.{Each, each-to}
+use Rattle.tree.proofs.Members.{under, InDesc, InGrand, each-desc, each-grand}
+use Rattle.nls.proofs.Counting.Sums.{order}
 use Rattle.nls.proofs.Machine.Table.{Cfg, alone}
 use Rattle.nls.proofs.Machine.Cover.{Core, More, is-alone, Alone-at}
 use Rattle.nls.proofs.Machine.Steps.{Good-at, From, preds, from-good}
@@ -32,8 +37,8 @@ use Rattle.nls.proofs.Reading.Told.{fam, one-bit, run}
 use Rattle.nls.proofs.Kept.{AfterMove, settle-keeps}
 use Rattle.nls.proofs.Lists.{arrOf}
 use Rattle.nls.proofs.Streams.{begins-iff}
-use Rattle.nls.proofs.HighBits.{high-same, high-none, high-refined, high-first}
-use Rattle.nls.proofs.Known.{Sound, by-place, sound-next, sound-begin, known-sound}
+use Rattle.nls.proofs.HighBits.{high-same, high-none, high-refined, high-first, high-round}
+use Rattle.nls.proofs.Known.{Sound, by-place, plane-at, zero-one, sound-next, sound-begin, known-sound}
 use Rattle.nls.proofs.Machine.Run.{Settled, start-settled, next-settled}
 
 -- a bit that is known after bit b of i was answered with 1: that one, or one that was known
@@ -45,6 +50,15 @@ know-old i b k j e = on (eqb j i) refl (eqb e b) refl
     on true ex true ey h = inl (eqb-true j i ex, eqb-true e b ey)
     on true ex false ey h = inr h
     on false ex y ey h = inr h
+
+off : (x : Bool) {y : Bool} → (x ≡ true → y ≡ true) → y ≡ false → x ≡ false
+off true f e = absurd (true≢false (sym (f refl) ∙ e))
+off false f e = refl
+
+pub under-is : (n g j : ℕ) → below n g j ≡ under n g j
+unfolding below under
+under-is zero g j = refl
+under-is (suc n) g j = ap (λ (x : Bool). eqb (j / 4) g || x) (under-is n g (j / 4))
 
 module _ (N L : ℕ) (size : Sized N L) (P : ℕ) (A : List ℤ) (under : (i : ℕ) → magAt A i < 2 ^ P) where
   abbrev I : ℕ
@@ -173,18 +187,58 @@ module _ (N L : ℕ) (size : Sized N L) (P : ℕ) (A : List ℤ) (under : (i : �
         (high-refined b (at A i) (subst (λ (z : ℤ). 1 ≤ magnitude z) held (h .found (omega arith) i hi (omega arith) (omega arith))))))
         (grown a)
       where
+        -- the bits noted lie above plane b, whether or not its 0 is noted
         held : at (o .bits) i ≡ highBits (suc b) (at A i)
-        held = r .high i hi ∙ high-same (suc b) (getD (o .planes) i 0) (at A i) (h .fresh i hi v (omega arith)) (λ x l u. gap k (suc b) refining i false m o g h r i hi x l u)
+        held = high-round b (at A i) (at (o .bits) i) (here (order (suc b) (getD (o .planes) i 0))) (h .fresh i hi v (omega arith))
+          where
+            here : (suc b ≤ getD (o .planes) i 0) ⊎ (getD (o .planes) i 0 < suc b) → (at (o .bits) i ≡ highBits (suc b) (at A i)) ⊎ (at (o .bits) i ≡ highBits b (at A i))
+            here (inl y) = inl (r .high i hi ∙ high-same (suc b) (getD (o .planes) i 0) (at A i) y (λ x l u. gap k (suc b) refining i false m o g h r i hi x l u))
+            here (inr y) = inr (r .high i hi ∙ ap (λ (n : ℕ). highBits n (at A i)) {x = getD (o .planes) i 0} {y = b} (omega (arith, h .least i hi)))
 
         grown : (a : Bool) (j x : ℕ) → (know (bitOf i b) a k) .has j x ≡ true → ((j ≡ i) × (x ≡ b)) ⊎ (k .has j x ≡ true)
         grown true j x y = know-old i b k j x y
         grown false j x y = inr (unfold know in y)
 
+  -- a set was tested 0 in plane b: so has each of its members bit b
+  abbrev Zero : ℕ → ℕ → Type 0
+  Zero b j = (j < I) × (bit (magAt A j) b ≡ false)
+
+  desc-zero : (g b : ℕ) → ans N B (inDesc g b) ≡ false → (j : ℕ) → InDesc N L g j → Zero b j
+  unfolding ans inside
+  desc-zero g b e j z = (z .1, off (bit (magAt A j) b) (λ y. member N (λ j. below N g j) B b j (both (lt-ltb j (4 ^ N) (z .1)) (under-is N g j ∙ z .2)) y) e)
+
+  grand-zero : (g b : ℕ) → ans N B (inGrand g b) ≡ false → (j : ℕ) → InGrand N L g j → Zero b j
+  unfolding ans inside
+  grand-zero g b e j z = (z .1, off (bit (magAt A j) b) (λ y. member N (λ j. below N g (j / 4)) B b j (both (lt-ltb j (4 ^ N) (z .1)) (under-is N g (j / 4) ∙ z .2)) y) e)
+
+  module _ (o : Known) (k : Bits) (b i : ℕ) (m : List ℕ) (g : Good k (suc b) sets i false m) where
+    right-member : Sound I P (scan.stateAt (suc b) sets i m) o → Right (scan.stateAt (suc b) sets i m) o k → (j : ℕ) → Zero b j
+        → Right (scan.stateAt (suc b) sets i m) (record { bits = o .bits; planes = set (o .planes) j b }) k
+    right-member h r j z = record {
+      high = λ x hx. plane-at (o .planes) j b (λ n. at (o .bits) x ≡ highBits n (at A x)) x (omega (arith, h .longPlanes)) (same x hx) (r .high x hx);
+      own = λ x e hx y n. plane-at (o .planes) j b (λ n. n ≤ e) x (omega (arith, h .longPlanes)) (λ q. omega (arith, h .least x hx, r .own x e hx y n)) (r .own x e hx y n);
+      first = λ c w. absurd (false≢true w);
+    }
+      where
+        same : (x : ℕ) → x < I → x ≡ j → at (o .bits) x ≡ highBits b (at A x)
+        same x hx q = r .high x hx ∙ high-same b (getD (o .planes) x 0) (at A x) (omega (arith, h .least x hx)) (λ e l u. on e l u (ℕ-discrete e b))
+          where
+            on : (e : ℕ) → b ≤ e → e < getD (o .planes) x 0 → Dec (e ≡ b) → bit (magAt A x) e ≡ false
+            on e l u (yes y) = ap (λ (n : ℕ). bit (magAt A x) n) y ∙ ap (λ (n : ℕ). bit (magAt A n) b) q ∙ z .1
+            on e l u (no y) = gap k (suc b) sets i false m o g h r x hx e (omega arith) u
+
+  right-each : (o : Known) (k : Bits) (b i : ℕ) (m : List ℕ) → Good k (suc b) sets i false m → Sound I P (scan.stateAt (suc b) sets i m) o
+      → Right (scan.stateAt (suc b) sets i m) o k → (l : List ℕ) → Each (Zero b) l → Right (scan.stateAt (suc b) sets i m) (testedZero l b o) k
+  unfolding Each setEach
+  right-each o k b i m g h r [] z = r
+  right-each o k b i m g h r (j ∷ l) z =
+      right-each (record { bits = o .bits; planes = set (o .planes) j b }) k b i m g (zero-one I P j b h refl) (right-member o k b i m g h r j (z .0)) l (z .1)
+
   -- A's answer a in plane b, in pass p; t is the state after it
   abbrev Learns : ℕ → Pass → Bool → Known → Bits → State → Look → Type 0
   Learns b p a o k t over = Unit {0}
   Learns b p a o k t (silent r) = Unit {0}
-  Learns b p a o k t (asks q) = ans N B q ≡ a → Right t (learn p b q a o) (know q a k)
+  Learns b p a o k t (asks q) = ans N B q ≡ a → Right t (learn N L p b q a o) (know q a k)
 
   learns-pixels : (b i : ℕ) (m : List ℕ) (a : Bool) (o : Known) (k : Bits) (x y : Bool) → ltb i I ≡ x → eqb (getD m i 0) 1 ≡ y
       → Good k (suc b) pixels i false m → Sound I P (scan.stateAt (suc b) pixels i m) o → Right (scan.stateAt (suc b) pixels i m) o k
@@ -202,9 +256,9 @@ module _ (N L : ℕ) (size : Sized N L) (P : ℕ) (A : List ℤ) (under : (i : �
   unfolding ans know
   learns-sets b i m a o k false d n c ex ec g h r = tt
   learns-sets b i m true o k true true n c ex ec g h r = λ e. right-on refl refl r
-  learns-sets b i m false o k true true n c ex ec g h r = λ e. right-on refl refl r
+  learns-sets b i m false o k true true n c ex ec g h r = λ e. right-on refl refl (right-each o k b i m g h r (desc N L (i / 4)) (each-to (InDesc N L (i / 4)) (Zero b) (desc-zero (i / 4) b e) (desc N L (i / 4)) (each-desc N L size (i / 4))))
   learns-sets b i m true o k true false true c ex ec g h r = λ e. right-on refl refl r
-  learns-sets b i m false o k true false true c ex ec g h r = λ e. right-on refl refl r
+  learns-sets b i m false o k true false true c ex ec g h r = λ e. right-on refl refl (right-each o k b i m g h r (grand N L (i / 16)) (each-to (InGrand N L (i / 16)) (Zero b) (grand-zero (i / 16) b e) (grand N L (i / 16)) (each-grand N L size (i / 16))))
   learns-sets b i m true o k true false false true ex ec g h r = λ e.
       right-one o k b i m sets r e (unfound k b i m (g .1 .0) (g .0) (g .1 .1 .core) (g .1 .1 .more) (ltb-true i I ex) (inr (eqb-true (getD m i 0) 4 ec)))
   learns-sets b i m false o k true false false true ex ec g h r = λ e. right-zero o k b i m sets g h r (ltb-true i I ex) refl e
@@ -271,23 +325,23 @@ module _ (N L : ℕ) (size : Sized N L) (P : ℕ) (A : List ℤ) (under : (i : �
   right-settle o k s = settle-keeps I (λ t. Right t o k) (λ t. right-look o k (t .left) (t .pass) (t .place) (t .pending) (t .marks)) s
 
   -- one bit
-  right-next : (o : Known) (k : Bits) (s : State) (a : Bool) → Good-of k s → Sound I P s o → Right s o k → told N B (ask I s) a → Right (next I s a) (learnAt (ask I s) s a o) (knowO (ask I s) a k)
+  right-next : (o : Known) (k : Bits) (s : State) (a : Bool) → Good-of k s → Sound I P s o → Right s o k → told N B (ask I s) a → Right (next I s a) (learnAt N L (ask I s) s a o) (knowO (ask I s) a k)
   unfolding next ask
   right-next o k s a g h r t =
-      right-settle (learnAt (asked I (look I s)) s a o) (knowO (asked I (look I s)) a k) (tell I s a)
+      right-settle (learnAt N L (asked I (look I s)) s a o) (knowO (asked I (look I s)) a k) (tell I s a)
       (on (look I s) t (learns (s .left) (s .pass) (s .place) (s .pending) (s .marks) a o k g h r))
     where
-      on : (l : Look) → told N B (asked I l) a → Learns (s .left - 1) (s .pass) a o k (tell I s a) l → Right (tell I s a) (learnAt (asked I l) s a o) (knowO (asked I l) a k)
+      on : (l : Look) → told N B (asked I l) a → Learns (s .left - 1) (s .pass) a o k (tell I s a) l → Right (tell I s a) (learnAt N L (asked I l) s a o) (knowO (asked I l) a k)
       on over t f = absurd t
       on (silent r) t f = absurd t
       on (asks q) t f = f t
 
   right-run : (o : Known) (k : Bits) (s : State) (u : List Bool) → Settled I s → Good-of k s → Sound I P s o → Right s o k → Fit N B s u
-      → Right (reach I s u) (learned N s o u) (least N s u k)
+      → Right (reach I s u) (learned N L s o u) (least N s u k)
   unfolding reach learned
   right-run o k s [] n g h r f = r
   right-run o k s (a ∷ u) n g h r f =
-      right-run (learnAt (ask I s) s a o) (knowO (ask I s) a k) (next I s a) u (next-settled I s a) (one-bit N P sz B k s a g (f .0)) (sound-next I P s o a n h) (right-next o k s a g h r (f .0)) (f .1)
+      right-run (learnAt N L (ask I s) s a o) (knowO (ask I s) a k) (next I s a) u (next-settled I s a) (one-bit N P sz B k s a g (f .0)) (sound-next I P N L s o a n h) (right-next o k s a g h r (f .0)) (f .1)
 
   -- before the first bit
   good-begin : Good-of first.nothing (begin N L P)
@@ -300,6 +354,14 @@ module _ (N L : ℕ) (size : Sized N L) (P : ℕ) (A : List ℤ) (under : (i : �
     own = λ j e hj h n. absurd (false≢true h);
     first = λ b w. absurd (false≢true w);
   })
+
+  right-after : (u : List Bool) → Fit N B (begin N L P) u → Right (after N L P u) (known N L P u) (least N (begin N L P) u first.nothing)
+  right-after u f = right-run (nothing N P) first.nothing (begin N L P) u (start-settled (allOf N) (coarsestOf N L) P) good-begin (sound-begin N L P) right-begin f
+
+  -- a bit 1 that was read lies at its coefficient's plane or above, but one whose sign is still to come
+  pub answered-own : (u : List Bool) → Fit N B (begin N L P) u → (j e : ℕ) → j < I → (least N (begin N L P) u first.nothing) .has j e ≡ true
+      → ((after N L P u) .pending ≡ true → j ≡ (after N L P u) .place → suc e ≡ (after N L P u) .left → ⊥) → getD (known N L P u .planes) j 0 ≤ e
+  answered-own u f = right-after u f .own
 
   -- the known bits of each coefficient are A's, down to its precision
   pub answered-bits : (u : List Bool) → Fit N B (begin N L P) u → (i : ℕ) → i < I → at (known N L P u .bits) i ≡ highBits (precisionAt N L P u i) (at A i)
@@ -315,7 +377,7 @@ module _ (N L : ℕ) (size : Sized N L) (P : ℕ) (A : List ℤ) (under : (i : �
       t = after N L P u
 
       r : Right (after N L P u) (known N L P u) (least N (begin N L P) u first.nothing)
-      r = right-run (nothing N P) first.nothing (begin N L P) u (start-settled (allOf N) (coarsestOf N L) P) good-begin (sound-begin N L P) right-begin f
+      r = right-after u f
 
 -- of every array whose stream begins so, the bits down to each coefficient's precision
 pub known-bits : (N L : ℕ) → Sized N L → (P : ℕ) (A : List ℤ) (u : List Bool) → Begins N L P A u

@@ -20,8 +20,8 @@ pub mod HighBits
 pub mod Known
 pub mod KnownBits
 pub mod Values
+pub mod Precision
 pub mod Finished
-pub mod Precise
 pub mod Visited
 pub mod Samples
 pub mod Demands

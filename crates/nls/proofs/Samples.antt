@@ -15,9 +15,9 @@ use Rattle.nls.specs.Marks.{skip, setSkip, pushFrom, pushRoots, startMar
 use Rattle.nls.specs.Scan.{silently, settle, ask, next, reach, start}
 use Rattle.nls.specs.Stream.{answer, answers, worstBody, stream, during}
 use Rattle.nls.specs.Parts.{sumTo, found, descSplit, grandSplit, standsAlone, descStands, grandStands, parts, splits, nonzeros}
-use Rattle.nls.specs.Reading.{learned, valueBy}
+use Rattle.nls.specs.Reading.{setEach, learned, valueBy}
 use Rattle.nls.specs.Judging.{Verdict, contradiction, Judged}
-use Rattle.nls.specs.Samples.{raster, linear, whole, valuesAt, errorAt, pictured, wholePicture, scanSamples, Each}
+use Rattle.nls.specs.Samples.{raster, linear, whole, valuesAt, errorAt, precisionsAt, pictured, wholePicture, scanSamples, Each}
 use Rattle.nls.proofs.Verdicts.{no-one-found, no-child-found, verdict-judged}
 
 small : Sized 2 1
@@ -35,8 +35,8 @@ unfolding body
 eight = subst (λ (v : Verdict). Judged 2 1 1 body v) no-child-found (verdict-judged 2 1 small 1 body)
 
 pub all-samples : Each scanSamples
-unfolding body raster linear whole valuesAt errorAt pictured wholePicture scanSamples table bit packed number linearly toRaster rowOf colOf planesOf largest digits
+unfolding body raster linear whole valuesAt errorAt precisionsAt pictured wholePicture scanSamples table bit packed number linearly toRaster rowOf colOf planesOf largest digits
     children descendants desc grand anyIn flatMap orAll descOr grandOr skip setSkip pushFrom pushRoots startMarks
     silently settle ask next reach start answer answers worstBody stream during
-    sumTo found descSplit grandSplit standsAlone descStands grandStands parts splits nonzeros learned valueBy
-all-samples = (refl, (refl, (refl, (refl, (refl, (refl, (refl, (refl, (refl, (refl, (refl, (refl, (refl, (refl, (six, (eight, (refl, (refl, (refl, (refl, (refl, tt)))))))))))))))))))))
+    sumTo found descSplit grandSplit standsAlone descStands grandStands parts splits nonzeros setEach learned valueBy
+all-samples = (refl, (refl, (refl, (refl, (refl, (refl, (refl, (refl, (refl, (refl, (refl, (refl, (refl, (refl, (refl, (refl, (six, (eight, (refl, (refl, (refl, (refl, (refl, tt)))))))))))))))))))))))

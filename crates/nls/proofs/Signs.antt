@@ -150,7 +150,7 @@ bit-some : (x b : ℕ) → bit x b ≡ true → x ≡ 0 → ⊥
 bit-some x b h e = true≢false (sym h ∙ ap (λ (y : ℕ). bit y b) e ∙ bit-none b)
 
 module _ (n : ℕ) (A : Arr) (rest : (j : ℕ) → n ≤ j → A .mag j ≡ 0) where
-  list-mag : (j : ℕ) → magAt (listOf n A) j ≡ A .mag j
+  pub list-mag : (j : ℕ) → magAt (listOf n A) j ≡ A .mag j
   list-mag j = on (order n j)
     where
       on : (n ≤ j) ⊎ (j < n) → magAt (listOf n A) j ≡ A .mag j
@@ -159,7 +159,7 @@ module _ (n : ℕ) (A : Arr) (rest : (j : ℕ) → n ≤ j → A .mag j ≡ 0) w
           ∙ sym (rest j h)
       on (inr h) = ap (λ (z : ℤ). magnitude z) (table-at n (λ j. signed (A .neg j) (A .mag j)) j (pos 0) h) ∙ magnitude-signed (A .neg j) (A .mag j)
 
-  list-neg : (j b : ℕ) → bit (A .mag j) b ≡ true → A .neg j ≡ negative (at (listOf n A) j)
+  pub list-neg : (j b : ℕ) → bit (A .mag j) b ≡ true → A .neg j ≡ negative (at (listOf n A) j)
   list-neg j b h = on (order n j)
     where
       on : (n ≤ j) ⊎ (j < n) → A .neg j ≡ negative (at (listOf n A) j)
@@ -203,7 +203,7 @@ module _ (N L : ℕ) (z : Sized N L) (P : ℕ) where
       on (inl f) = absurd (omega (arith, p .least (P - 1) (λ i. all f i (order (allOf N) i))))
       on (inr r) = (r .0, P - 1, r .1, omega arith, r .2)
 
-  top-planes : (A : Arr) (rest : (j : ℕ) → allOf N ≤ j → A .mag j ≡ 0) → Planes (allOf N) P A → IsPlanes (listOf (allOf N) A) P
+  pub top-planes : (A : Arr) (rest : (j : ℕ) → allOf N ≤ j → A .mag j ≡ 0) → Planes (allOf N) P A → IsPlanes (listOf (allOf N) A) P
   top-planes A rest p =
       record {
         below = λ i. omega (arith, list-mag (allOf N) A rest i, p .under i);
@@ -213,7 +213,7 @@ module _ (N L : ℕ) (z : Sized N L) (P : ℕ) where
       }
 
   -- some bits fit exactly if some list of numbers does
-  pub lists-fit : (u : List Bool) → BitsFit N L P u → J.Fits N L P u
+  unfoldable pub lists-fit : (u : List Bool) → BitsFit N L P u → J.Fits N L P u
   lists-fit u w =
       let r = to-list N (coarsestOf N L) P u w in
       let A : Arr = r .0 in

@@ -1,6 +1,6 @@
 -- The stream of an array of numbers: it ends, a budget cuts it, and which bits begin it.
 use Prim.Native.Nat.{ℕ, _+_, _-_, _*_, _^_, min, _≤_, _<_}
-use mathlib.Core.Path.{_≡_, refl, sym, ap, subst, _∙_}
+use mathlib.Core.Path.{_≡_, sym, ap, subst, _∙_}
 use mathlib.Core.Bool.{Bool}
 use mathlib.Core.Logic.{⊎-elim}
 use mathlib.Core.Option.{none}
@@ -13,7 +13,7 @@ use lib.Seq.{take-all}
 use Rattle.sizes.specs.Sizes.{allOf, coarsestOf, Sized}
 use Rattle.sizes.proofs.Laws.{coarsest-least}
 use Rattle.coef.specs.Coef.{magAt, IsPlanes}
-use Rattle.nls.specs.Scan.{State, pixels, stateAt, ask, reach}
+use Rattle.nls.specs.Scan.{State, pixels, stateAt, ask}
 use Rattle.nls.specs.Stream.{answers, begin, after, stream}
 use Rattle.nls.specs.Judging.{Begins}
 use Rattle.nls.proofs.Arrays.{bits-of, answersOf, Fit}
@@ -117,3 +117,7 @@ module _ (N L : ℕ) (z : Sized N L) (P : ℕ) where
       (λ b. (b .size, b .planes, begins-answered u (b .same))),
       λ w. record { size = w .0; planes = w .1; same = answered-begins (w .1 .below) u (w .2) },
     )
+
+    -- and then with any fewer
+    pub begins-less : (u v : List Bool) → Begins N L P A (u ++ v) → Begins N L P A u
+    begins-less u v b = let w = begins-iff (u ++ v) .0 b in begins-iff u .1 (w .0, w .1, fit-prefix N (bits-of (arrOf A)) (begin N L P) u v (w .2))

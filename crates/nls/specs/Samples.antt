@@ -6,7 +6,7 @@ use lib.{IntN.ℤ, IntN.pos, IntN.negsuc, ListN.length, ListN.take, ListN.replic
 use Rattle.bits.specs.Bits.{packed}
 use Rattle.places.specs.Order.{linearly}
 use Rattle.coef.specs.Coef.{planesOf}
-use Rattle.nls.specs.{Stream.begin, Stream.worstBody, Stream.stream, Stream.during, Parts.sumTo, Parts.parts, Parts.splits, Parts.splitsIn, Parts.nonzeros, Reading.midpoint, Reading.valuesBy, Reading.worstError, Judging.Verdict, Judging.contradiction, Judging.Judged}
+use Rattle.nls.specs.{Stream.begin, Stream.worstBody, Stream.stream, Stream.during, Parts.sumTo, Parts.parts, Parts.splits, Parts.splitsIn, Parts.nonzeros, Reading.midpoint, Reading.valuesBy, Reading.precisions, Reading.worstError, Judging.Verdict, Judging.contradiction, Judging.Judged}
 
 -- "N=2, L=1, raster rows 5 -3 0 0 / 0 1 2 0 / 0 0 0 -1 / 0 0 0 0."
 unfoldable pub raster : List ℤ
@@ -29,6 +29,10 @@ valuesAt n = valuesBy 2 1 3 (take n whole) midpoint
 
 unfoldable pub errorAt : ℕ → ℕ
 errorAt n = worstError 2 1 3 (take n whole)
+
+-- the precisions after the first n bits; what is said of them is the second coder's
+unfoldable pub precisionsAt : ℕ → List ℕ
+precisionsAt n = precisions 2 1 3 (take n whole)
 
 -- A picture of N=3, L=2, so that GRAND, MG and MN2 come in: that of Shapiro's paper on embedded zerotrees (1993), in linear order.
 -- The numbers said of it are the second coder's (tests/second.py).
@@ -82,6 +86,9 @@ scanSamples =
     -- "21 bits: 5, -3, place 6 is 3, others 0; worst error 1"
     ∷ coefficients (valuesAt 21) (pos 5 ∷ negsuc 2 ∷ pos 0 ∷ pos 0 ∷ pos 0 ∷ pos 0 ∷ pos 3 ∷ replicate 9 (pos 0))
     ∷ numbers (errorAt 21 ∷ []) (1 ∷ [])
+    -- after 7 bits two of the three sets of plane 2 were tested 0; after 20 all of plane 1 is known but the refinement of place 0
+    ∷ numbers (precisionsAt 7) (2 ∷ 2 ∷ 2 ∷ 2 ∷ 2 ∷ 2 ∷ 2 ∷ 2 ∷ 2 ∷ 2 ∷ 2 ∷ 2 ∷ 3 ∷ 3 ∷ 3 ∷ 3 ∷ [])
+    ∷ numbers (precisionsAt 20) (2 ∷ replicate 15 1)
     -- "P=1, body 0000000: refusal 12 at bit 6", "P=1, body 000010000: refusal 12 at bit 8"
     ∷ judged 1 (replicate 7 false) (contradiction 6)
     ∷ judged 1 (replicate 4 false ++ (true ∷ replicate 4 false)) (contradiction 8)

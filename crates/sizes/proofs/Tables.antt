@@ -31,6 +31,10 @@ module _ {A : Type 0} where
           let k : i < n = omega (arith, eqb-false i n e) in
           List·getD-append (table n f) (f n ∷ []) d i (omega (arith, table-length n f)) ∙ ih k
 
+  -- and where anything stands behind it
+  pub table-front : (n : ℕ) (f : ℕ → A) (rest : List A) (i : ℕ) (d : A) → i < n → getD (table n f ++ rest) i d ≡ f i
+  table-front n f rest i d h = List·getD-append (table n f) rest d i (omega (arith, table-length n f)) ∙ table-at n f i d h
+
   pub table-ext : (n : ℕ) (f g : ℕ → A) → ((i : ℕ) → i < n → f i ≡ g i) → table n f ≡ table n g
   unfolding table
   table-ext zero f g h = refl

@@ -7,7 +7,7 @@ use lib.Bits.{bitOr, or-zero-r}
 use lib.ListN.{length, getD, take, drop, set, length-append, length-drop, take-append-drop, List·getD-append}
 use lib.Seq.{length-take-le, take-suc, drop-cons, set-at, drop-at, getD-append-add, getD-drop, getD-take, take-append-le, take-take, drop-append-le, drop-append-add, drop-drop, ext-getD}
 use Rattle.sizes.specs.Tables.{table}
-use Rattle.sizes.proofs.Tables.{table-length, table-at, table-is}
+use Rattle.sizes.proofs.Tables.{table-length, table-at, table-front, table-is}
 use Rattle.bits.specs.Bits.{orAll}
 use Rattle.tree.specs.Tree.{fours}
 use Rattle.tree.specs.Filling.{filledFrom}
@@ -115,6 +115,5 @@ filled-whole n i f held room l h =
     table-is i (λ k. 0) 0 (take i full)
     (length-take-le i full (omega (arith, table-length n f, length-append (table n f) (drop (length (table n f)) held))))
     (λ k m.
-    getD-take i full k 0 m ∙ List·getD-append (table n f) (drop (length (table n f)) held) 0 k (omega (arith, table-length n f))
-    ∙ table-at n f k 0 (omega arith) ∙ h k m) in
+    getD-take i full k 0 m ∙ table-front n f (drop (length (table n f)) held) k 0 (omega arith) ∙ h k m) in
     rw (e, ← t) (take-append-drop i full)

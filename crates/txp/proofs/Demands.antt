@@ -30,6 +30,7 @@ use Rattle.nls.specs.Judging.{Begins, Fits, Verdict, taken, contradiction, beyo
 use Rattle.nls.proofs.Demands as scan
 use Rattle.nls.proofs.Counts.{stream-bound}
 use Rattle.nls.proofs.Streams.{marks-length}
+use Rattle.nls.proofs.Values.{midpoint-between}
 use Rattle.room.specs.Room.{roomIn}
 use Rattle.room.specs.Ready.{EncodeReady}
 use Rattle.room.proofs.Laws.{encode-ready}
@@ -139,6 +140,11 @@ module _ (N L : ℕ) (side : sideFits N ≡ true) (levels : levelsFit N L ≡ tr
         → natAbs (at (valuesBy N L (planesOf A) (usableBits (take (headerSize + k) (fileOf N L A budget))) midpoint) i -ℤ at A i)
         ≤ worstError N L (planesOf A) (usableBits (take (headerSize + k) (fileOf N L A budget)))
     cut-near i h = scan.near N L (planesOf A) z A (usableBits (take (headerSize + k) (fileOf N L A budget))) cut-begins i h
+
+    pub cut-own-near : (i : ℕ) → i < allOf N
+        → natAbs (at (valuesBy N L (planesOf A) (usableBits (take (headerSize + k) (fileOf N L A budget))) midpoint) i -ℤ at A i)
+        < 2 ^ precisionAt N L (planesOf A) (usableBits (take (headerSize + k) (fileOf N L A budget))) i
+    cut-own-near i h = scan.own-near N L (planesOf A) z A (usableBits (take (headerSize + k) (fileOf N L A budget))) cut-begins midpoint midpoint-between i h
 
     -- so whatever decoding may answer and leave, it took the bits
     pub cut-taken : (held left : Tables) (answer : DecodeAnswer) → roomIn (allOf N) (length (held .values)) (length (held .precisions)) (length (held .marks)) ≡ true

@@ -1,17 +1,18 @@
 -- What the scan's machine keeps, the visits keep: for any source of answers, and any P over the machine's state and the source's.
-use Prim.Native.Nat.{ℕ, zero, suc, _+_, _-_, _*_, _/_, _%_, _^_, _≤_, _<_}
+use Prim.Native.Nat.{ℕ, suc, _+_, _-_, _*_, _/_, _^_, _≤_, _<_}
 use mathlib.Core.Path.{_≡_, refl, sym, ap, subst, _∙_}
-use mathlib.Core.List.{List, [], _∷_, _++_}
+use mathlib.Core.List.{List}
 use mathlib.Core.Bool.{Bool, true, false, not, cond}
 use native.Mathlib.Omega.{arith}
-use lib.ListN.{length, set, getD}
+use lib.ListN.{set, getD}
 use lib.Seq.{set-getD}
 use lib.Dec.{ltb, eqb}
-use borrow.Author.Tests.{lt-ltb, le-ltb, ltb-true, ltb-false, eqb-true, eqb-false, eq-eqb, ne-eqb}
+use borrow.Author.Tests.{lt-ltb, ltb-true, ltb-false, eqb-true}
 use Rattle.sizes.specs.Sizes.{leastN, mostN, allOf}
 use Rattle.sizes.proofs.Laws.{all-most}
-use Rattle.nls.specs.Marks.{skip, setSkip, push, splitDesc, splitGrand}
-use Rattle.nls.specs.Scan.{Question, bitOf, signOf, inDesc, inGrand, Pass, pixels, sets, refining, State, stateAt, Look, over, silent, asks, look, tell}
+use Rattle.nls.specs.Marks.{skip, setSkip, push, splitGrand}
+use Rattle.nls.specs.Scan.{Question, bitOf, signOf, inDesc, inGrand, Pass, pixels, sets, refining, State, stateAt, over, silent, asks, look, tell}
+use Rattle.nls.specs.Turns.{standing}
 use Rattle.nls.proofs.Machine.Run.{skip-pos, sskip-pos}
 use Rattle.nls.proofs.Joined.Codes.{Codes, set-low, codes-desc, codes-grand, far}
 use Rattle.walk.specs.Scans.{Seen, halt, refuse, move}
@@ -43,10 +44,10 @@ pub record Keeps {O : Type 0} (K : Source O) (I : ℕ) (P : State → O → Type
       → i < I → Proper I q → K .used o < K .budget → Free K b p i e q m o → P (tell I (state (suc b) p i e m) (K .next q o)) (got K p b q o)
   pub counts : (p : Pass) (b : ℕ) (q : Question) (x : Bool) (o : O) → K .used (K .keep p b q x o) ≡ K .used o + 1
 
--- the scan has stopped: a question is unanswered and no bit is left
-pub data Stopped {O : Type 0} (K : Source O) (I : ℕ) (P : State → O → Type 0) : ℕ → Sv O → Type 0 where
+-- the scan has stopped, with so many planes not finished, where it stands: a question is unanswered and no bit is left
+pub data Stopped {O : Type 0} (K : Source O) (I : ℕ) (P : State → O → Type 0) : ℕ → ℕ → Sv O → Type 0 where
   dry : (s : State) (q : Question) (o : O) → P s o → look I s ≡ asks q → K .budget ≤ K .used o → K .used o ≤ K .budget → (l : ℕ) → s .left ≡ l
-      → Stopped K I P l (sv (s .marks) o)
+      → (now : ℕ) → standing I (s .pass) (s .place) ≡ now → Stopped K I P l now (sv (s .marks) o)
 
 -- or the 0 that would answer it is refused
 pub data Barred {O : Type 0} (K : Source O) (I : ℕ) (P : State → O → Type 0) : ℕ → Sv O → Type 0 where
@@ -66,7 +67,7 @@ pub record Moved {O : Type 0} (K : Source O) (N : ℕ) (P : State → O → Type
   pub falls : i + n < j + K .used (v .rest)
 
 abbrev pub Good : {O : Type 0} → Source O → ℕ → (State → O → Type 0) → ℕ → Pass → ℕ → ℕ → Seen (Sv O) → Type 0
-Good K N P b p i n (halt v) = Stopped K (4 ^ N) P (suc b) v
+Good K N P b p i n (halt v) = Stopped K (4 ^ N) P (suc b) (standing (4 ^ N) p i) v
 Good K N P b p i n (refuse v) = Barred K (4 ^ N) P (suc b) v
 Good K N P b p i n (move j v) = Moved K N P b p i n j v
 
@@ -151,7 +152,7 @@ module _ {O : Type 0} (K : Source O) (N : ℕ) (P : State → O → Type 0) (w :
           falls = omega (arith, n₁, n₂);
         }
     one-sign false y g d =
-        dry (state (suc b) p i true m) (signOf i) o₁ g refl (ltb-false (K .used o₁) (K .budget) y) (omega (arith, n₁, d)) (suc b) refl
+        dry (state (suc b) p i true m) (signOf i) o₁ g refl (ltb-false (K .used o₁) (K .budget) y) (omega (arith, n₁, d)) (suc b) refl _ refl
 
     one-zero : (x : Bool) → bar ≡ x → K .next (bitOf i b) o ≡ false → K .used o < K .budget
         → G b p i (K .used o) (cond x (refuse (sv m o)) (move (i + 1) (sv (set m i 1) o₁)))
@@ -173,7 +174,7 @@ module _ {O : Type 0} (K : Source O) (N : ℕ) (P : State → O → Type 0) (w :
             → G b p i (K .used o) (cond x (cond (K .next (bitOf i b) o) (cond (more K o₁) (move (i + 1) (sv (set m i 2) (got K p b (signOf i) o₁))) (halt (sv m o₁)))
             (cond bar (refuse (sv m o)) (move (i + 1) (sv (set m i 1) o₁)))) (halt (sv m o)))
         go true y = one-bit (K .next (bitOf i b) o) refl (ltb-true (K .used o) (K .budget) y)
-        go false y = dry (stateAt (suc b) p i m) (bitOf i b) o h a (ltb-false (K .used o) (K .budget) y) c (suc b) refl
+        go false y = dry (stateAt (suc b) p i m) (bitOf i b) o h a (ltb-false (K .used o) (K .budget) y) c (suc b) refl _ refl
 
   -- a set's test
   module _ (b i : ℕ) (q : Question) (d : ℕ) (m m₁ : List ℕ) (o : O) (h : P (stateAt (suc b) sets i m) o) (v : Codes N m) (v₁ : Codes N m₁) (c : K .used o ≤ K .budget) (li : i < I)
@@ -198,7 +199,7 @@ module _ {O : Type 0} (K : Source O) (N : ℕ) (P : State → O → Type 0) (w :
         go : (x : Bool) → more K o ≡ x
             → G b sets i (K .used o) (cond x (cond (K .next q o) (move i (sv m₁ (got K sets b q o))) (cond bar (refuse (sv m o)) (move (i + d) (sv m (got K sets b q o))))) (halt (sv m o)))
         go true y = bit (K .next q o) refl (ltb-true (K .used o) (K .budget) y)
-        go false y = dry (stateAt (suc b) sets i m) q o h a (ltb-false (K .used o) (K .budget) y) c (suc b) refl
+        go false y = dry (stateAt (suc b) sets i m) q o h a (ltb-false (K .used o) (K .budget) y) c (suc b) refl _ refl
 
   -- the three passes
   module _ (b i : ℕ) (m : List ℕ) (o : O) (v : Codes N m) (l : i < I) (c : K .used o ≤ K .budget) where
@@ -230,7 +231,7 @@ module _ {O : Type 0} (K : Source O) (N : ℕ) (P : State → O → Type 0) (w :
       where
         bit : (x : Bool) → more K o ≡ x → eqb k 3 ≡ true → G b refining i (K .used o) (cond x (move (i + 1) (sv m (got K refining b (bitOf i b) o))) (halt (sv m o)))
         bit true z y = step b refining i (i + 1) (bitOf i b) m o (w .told b refining i false m (bitOf i b) o h (rw (lt-ltb i I l, y)) l l (ltb-true (K .used o) (K .budget) z) tt) v (ltb-true (K .used o) (K .budget) z) (omega arith)
-        bit false z y = dry (stateAt (suc b) refining i m) (bitOf i b) o h (rw (lt-ltb i I l, y)) (ltb-false (K .used o) (K .budget) z) c (suc b) refl
+        bit false z y = dry (stateAt (suc b) refining i m) (bitOf i b) o h (rw (lt-ltb i I l, y)) (ltb-false (K .used o) (K .budget) z) c (suc b) refl _ refl
 
         new : (x : Bool) → eqb k 2 ≡ x → eqb k 3 ≡ false → G b refining i (K .used o) (cond x (move (i + 1) (sv (set m i 3) o)) (move (i + skipOf k) (sv m o)))
         new true z y =

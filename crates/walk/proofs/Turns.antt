@@ -1,11 +1,9 @@
 -- The turns of the scan's three loops, over any state and any visit.
-use Prim.Native.Nat.{ℕ, zero, suc, _+_, _-_, _≤_, _<_}
+use Prim.Native.Nat.{ℕ, zero, suc, _+_, _*_, _-_, _≤_, _<_}
 use mathlib.Core.Path.{_≡_, refl, sym, ap, _∙_}
-use mathlib.Core.Bool.{Bool, true, false}
 use native.Mathlib.Omega.{arith}
-use lib.Dec.{ltb}
 use borrow.Author.Tests.{lt-ltb, le-ltb}
-use Rattle.walk.specs.Scans.{Seen, halt, refuse, move, Ran, out, bad, on, Scan, then, follow, places, passes, planes, leftOf}
+use Rattle.walk.specs.Scans.{halt, refuse, move, Ran, out, bad, on, Scan, places, passes, planes, leftOf}
 
 -- the places from one on end as Y, with visits enough
 pub record At {S : Type 0} (E : Scan S) (b pass place : ℕ) (t : S) (Y : Ran S) : Type 0 where
@@ -23,7 +21,7 @@ module _ {S : Type 0} (E : Scan S) (b pass : ℕ) where
   unfolding places
   places-go f place t p u e h = rw (lt-ltb place (E .all) h, places) (rw e)
 
-  places-stop : (f place : ℕ) (t u : S) → E .visit b pass place t ≡ halt u → place < E .all → places E b pass (suc f) place t ≡ out u
+  places-stop : (f place : ℕ) (t u : S) → E .visit b pass place t ≡ halt u → place < E .all → places E b pass (suc f) place t ≡ out (pass * E .all + place) u
   unfolding places
   places-stop f place t u e h = rw (lt-ltb place (E .all) h, places) (rw e)
 
@@ -41,11 +39,11 @@ module _ {S : Type 0} (E : Scan S) (b pass : ℕ) where
   places-bad f place t u e h = rw (lt-ltb place (E .all) h, places) (rw e)
 
   stop-fuel : (f place : ℕ) (t u : S) (Y : Ran S) → places E b pass f place t ≡ Y → E .visit b pass place t ≡ halt u
-      → (E .all - place) + (E .budget - E .used t) ≤ f → place < E .all → Y ≡ out u
+      → (E .all - place) + (E .budget - E .used t) ≤ f → place < E .all → Y ≡ out (pass * E .all + place) u
   stop-fuel zero place t u Y e v en h = absurd (omega arith)
   stop-fuel (suc f) place t u Y e v en h = sym e ∙ places-stop f place t u v h
 
-  pub at-stop : (place : ℕ) (t u : S) (Y : Ran S) → At E b pass place t Y → E .visit b pass place t ≡ halt u → place < E .all → Y ≡ out u
+  pub at-stop : (place : ℕ) (t u : S) (Y : Ran S) → At E b pass place t Y → E .visit b pass place t ≡ halt u → place < E .all → Y ≡ out (pass * E .all + place) u
   at-stop place t u Y i v h = stop-fuel (i .fuel) place t u Y (i .same) v (i .enough) h
 
   bad-fuel : (f place : ℕ) (t u : S) (Y : Ran S) → places E b pass f place t ≡ Y → E .visit b pass place t ≡ refuse u
@@ -68,9 +66,9 @@ module _ {S : Type 0} (E : Scan S) (b : ℕ) where
   unfolding passes
   pass-go pass t u X e v h = let s : 3 - pass ≡ suc (3 - (pass + 1)) = omega arith in rw (s, v) at e
 
-  pub pass-stop : (pass : ℕ) (t u : S) (X : Ran S) → passes E b (3 - pass) pass t ≡ X → places E b pass (E .all + E .budget) 0 t ≡ out u → pass < 3 → X ≡ out u
+  pub pass-stop : (pass now : ℕ) (t u : S) (X : Ran S) → passes E b (3 - pass) pass t ≡ X → places E b pass (E .all + E .budget) 0 t ≡ out now u → pass < 3 → X ≡ out now u
   unfolding passes
-  pass-stop pass t u X e v h = let s : 3 - pass ≡ suc (3 - (pass + 1)) = omega arith in sym (rw (s, v) at e)
+  pass-stop pass now t u X e v h = let s : 3 - pass ≡ suc (3 - (pass + 1)) = omega arith in sym (rw (s, v) at e)
 
   pub pass-bad : (pass : ℕ) (t u : S) (X : Ran S) → passes E b (3 - pass) pass t ≡ X → places E b pass (E .all + E .budget) 0 t ≡ bad u → pass < 3 → X ≡ bad u
   unfolding passes
@@ -85,9 +83,9 @@ module _ {S : Type 0} (E : Scan S) where
   unfolding planes
   plane-go b t u X e v h = let s : b ≡ suc (b - 1) = omega arith in rw (s, v) at e
 
-  pub plane-stop : (b : ℕ) (t u : S) (X : Ran S) → planes E b t ≡ X → passes E (b - 1) 3 0 t ≡ out u → 0 < b → X ≡ out u
+  pub plane-stop : (b now : ℕ) (t u : S) (X : Ran S) → planes E b t ≡ X → passes E (b - 1) 3 0 t ≡ out now u → 0 < b → X ≡ out now u
   unfolding planes
-  plane-stop b t u X e v h = let s : b ≡ suc (b - 1) = omega arith in sym (rw (s, v) at e)
+  plane-stop b now t u X e v h = let s : b ≡ suc (b - 1) = omega arith in sym (rw (s, v) at e)
 
   pub plane-bad : (b : ℕ) (t u : S) (X : Ran S) → planes E b t ≡ X → passes E (b - 1) 3 0 t ≡ bad u → 0 < b → X ≡ bad u
   unfolding planes
@@ -108,10 +106,10 @@ module _ {S : Type 0} (E : Scan S) where
       let z : leftOf E (suc b) t ≡ leftOf E b u = rw (w, leftOf) in
       ap (λ (k : ℕ). leftOf E k u) s ∙ sym z ∙ e
 
-  pub left-stop : (b : ℕ) (t u : S) (X : ℕ) → leftOf E b t ≡ X → passes E (b - 1) 3 0 t ≡ out u → 0 < b → X ≡ b
+  pub left-stop : (b now : ℕ) (t u : S) (X : ℕ) → leftOf E b t ≡ X → passes E (b - 1) 3 0 t ≡ out now u → 0 < b → X ≡ b
   unfolding leftOf
-  left-stop zero t u X e v h = absurd (omega arith)
-  left-stop (suc b) t u X e v h = let s : suc b - 1 ≡ b = omega arith in let w : passes E b 3 0 t ≡ out u = sym (ap (λ (k : ℕ). passes E k 3 0 t) s) ∙ v in sym e ∙ rw (w, leftOf)
+  left-stop zero now t u X e v h = absurd (omega arith)
+  left-stop (suc b) now t u X e v h = let s : suc b - 1 ≡ b = omega arith in let w : passes E b 3 0 t ≡ out now u = sym (ap (λ (k : ℕ). passes E k 3 0 t) s) ∙ v in sym e ∙ rw (w, leftOf)
 
   pub left-bad : (b : ℕ) (t u : S) (X : ℕ) → leftOf E b t ≡ X → passes E (b - 1) 3 0 t ≡ bad u → 0 < b → X ≡ b
   unfolding leftOf

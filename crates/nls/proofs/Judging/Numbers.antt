@@ -20,7 +20,7 @@ num n f = number n (λ k. f (n - 1 - k))
 num-lt : (n : ℕ) (f : ℕ → Bool) → num n f < 2 ^ n
 num-lt n f = number-lt n (λ k. f (n - 1 - k))
 
-num-bit : (n : ℕ) (f : ℕ → Bool) (b : ℕ) → b < n → bit (num n f) b ≡ f b
+pub num-bit : (n : ℕ) (f : ℕ → Bool) (b : ℕ) → b < n → bit (num n f) b ≡ f b
 num-bit n f b h =
     subst (λ (x : ℕ). bit (num n f) x ≡ f x) {x = n - 1 - (n - 1 - b)} {y = b} (omega arith) (number-bit n (λ k. f (n - 1 - k)) (n - 1 - b) (omega arith))
 

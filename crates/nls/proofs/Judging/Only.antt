@@ -58,11 +58,11 @@ keep : (x y : Bool) → x ≡ true → (x && y) ≡ y
 keep true y e = refl
 keep false y e = absurd (false≢true e)
 
-drop : (x y : Bool) → x ≡ false → (x && y) ≡ false
+pub drop : (x y : Bool) → x ≡ false → (x && y) ≡ false
 drop true y e = absurd (true≢false e)
 drop false y e = refl
 
-number-0 : (n : ℕ) (f : ℕ → Bool) → ((k : ℕ) → f k ≡ false) → number n f ≡ 0
+pub number-0 : (n : ℕ) (f : ℕ → Bool) → ((k : ℕ) → f k ≡ false) → number n f ≡ 0
 unfolding number
 number-0 zero f h = refl
 number-0 (suc n) f h = let none : digit (f n) ≡ 0 = ap (λ (x : Bool). digit x) (h n) in omega (arith, number-0 n f h)
@@ -95,7 +95,7 @@ module _ (N : ℕ) where
   }
 
   -- some array of bits is some array of numbers that is 0 from I on
-  pub to-list : (D P : ℕ) (u : List Bool) → (B : Bits) × Valid (4 ^ N) P B × Fit N B (start (4 ^ N) D P) u
+  unfoldable pub to-list : (D P : ℕ) (u : List Bool) → (B : Bits) × Valid (4 ^ N) P B × Fit N B (start (4 ^ N) D P) u
       → (A : Arr) × Planes (4 ^ N) P A × Fit N (bits-of A) (start (4 ^ N) D P) u × ((j : ℕ) → 4 ^ N ≤ j → A .mag j ≡ 0)
   to-list D P u w = (
     arr-of P (only (4 ^ N) (w .0)),

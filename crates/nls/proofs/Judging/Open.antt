@@ -43,19 +43,19 @@ module _ (N : ℕ) where
   unfolding clear
   clear-out q b w j e n h = stays (inside N q j) (eqb e b) (w .has j e) (λ x y. n x (eqb-true e b y)) h
 
-  one0 : (i b : ℕ) (w : Bits) (j e : ℕ) → (j ≡ i → e ≡ b → ⊥) → w .has j e ≡ true → (after N (bitOf i b) false w) .has j e ≡ true
+  pub one0 : (i b : ℕ) (w : Bits) (j e : ℕ) → (j ≡ i → e ≡ b → ⊥) → w .has j e ≡ true → (after N (bitOf i b) false w) .has j e ≡ true
   unfolding after inside
   one0 i b w j e n h = clear-out (bitOf i b) b w j e (λ x. n (eqb-true j i x)) h
 
-  desc0 : (g b : ℕ) (w : Bits) (j e : ℕ) → (Under g j → e ≡ b → ⊥) → w .has j e ≡ true → (after N (inDesc g b) false w) .has j e ≡ true
+  pub desc0 : (g b : ℕ) (w : Bits) (j e : ℕ) → (Under g j → e ≡ b → ⊥) → w .has j e ≡ true → (after N (inDesc g b) false w) .has j e ≡ true
   unfolding after inside
   desc0 g b w j e n h = clear-out (inDesc g b) b w j e (λ x. n (below-under N g j (both-right (ltb j (4 ^ N)) (below N g j) x))) h
 
-  grand0 : (g b : ℕ) (w : Bits) (j e : ℕ) → (Under g (j / 4) → e ≡ b → ⊥) → w .has j e ≡ true → (after N (inGrand g b) false w) .has j e ≡ true
+  pub grand0 : (g b : ℕ) (w : Bits) (j e : ℕ) → (Under g (j / 4) → e ≡ b → ⊥) → w .has j e ≡ true → (after N (inGrand g b) false w) .has j e ≡ true
   unfolding after inside
   grand0 g b w j e n h = clear-out (inGrand g b) b w j e (λ x. n (below-under N g (j / 4) (both-right (ltb j (4 ^ N)) (below N g (j / 4)) x))) h
 
-  sgn-has : (i : ℕ) (a : Bool) (w : Bits) (j e : ℕ) → (after N (signOf i) a w) .has j e ≡ w .has j e
+  pub sgn-has : (i : ℕ) (a : Bool) (w : Bits) (j e : ℕ) → (after N (signOf i) a w) .has j e ≡ w .has j e
   unfolding after sign
   sgn-has i true w j e = refl
   sgn-has i false w j e = refl

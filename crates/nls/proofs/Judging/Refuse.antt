@@ -31,12 +31,12 @@ module _ (N : ℕ) where
   unfolding clear
   clear-in q b W j i h = gone (inside N q j) (eqb b b) (W .has j b) i (eq-eqb b b refl) h
 
-  clear-below : (q : Question) (b : ℕ) (W : Bits) (j e : ℕ) → (clear N q b W) .has j e ≡ true → W .has j e ≡ true
+  pub clear-below : (q : Question) (b : ℕ) (W : Bits) (j e : ℕ) → (clear N q b W) .has j e ≡ true → W .has j e ≡ true
   unfolding clear
   clear-below q b W j e h = both-right (not (inside N q j && eqb e b)) (W .has j e) h
 
   -- the answer is 0 afterwards
-  cleared-one : (i b : ℕ) (W : Bits) → ans N (clear N (bitOf i b) b W) (bitOf i b) ≡ false
+  pub cleared-one : (i b : ℕ) (W : Bits) → ans N (clear N (bitOf i b) b W) (bitOf i b) ≡ false
   unfolding ans inside
   cleared-one i b W = not-true-false _ (λ h. clear-in (bitOf i b) b W i (eq-eqb i i refl) h)
 
@@ -68,7 +68,7 @@ module _ (N : ℕ) where
   unfolding inside
   grand-in g b j h = (below-under N g (j / 4) (both-right (ltb j (4 ^ N)) (below N g (j / 4)) h), ltb-true j (4 ^ N) (both-left (ltb j (4 ^ N)) (below N g (j / 4)) h))
 
-  one-in : (i b j : ℕ) → inside N (bitOf i b) j ≡ true → j ≡ i
+  pub one-in : (i b j : ℕ) → inside N (bitOf i b) j ≡ true → j ≡ i
   unfolding inside
   one-in i b j h = eqb-true j i h
 

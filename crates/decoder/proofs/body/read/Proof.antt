@@ -12,7 +12,7 @@ use Rattle.nls.proofs.Verdicts.{verdict}
 use Rattle.marking.proofs.Laws.{start-so}
 use Rattle.room.proofs.Laws.{sizes-near}
 use Rattle.decoder.specs.Body.{tables}
-use Rattle.decoder.proofs.DecodeLaws.{Took, Ends, ends, bits-most, judged-taken, refused-12, refused-13, left-in, not-below, in-range, power-one, accepted}
+use Rattle.decoder.proofs.DecodeLaws.{Took, Ends, ends, bits-most, judged-taken, refused-12, refused-13, left-in, stood, power-one, accepted}
 use Rattle.decoder.proofs.body.read.Statement.{statement}
 use Rattle.decoder.proofs.body.read.Tie as tie
 
@@ -42,56 +42,44 @@ begun c =
 clear-requires : tie.Need-clear-requires
 clear-requires c κs = search needs
 
-cast-fill : tie.Need-cast-fill
-cast-fill c = search needs
-
-fill-requires : tie.Need-fill-requires
-fill-requires c κs = search needs
-
 scan-requires : tie.Need-scan-requires
 scan-requires c κs =
-    let start = c .before .before .before .before .before .before .before .before .before .before .before .before .before .before .before .before .before .before .before in
-    let e = all-so (c .before .before .before .before .before .before .before .before .before .before .before .before .before .before .before) in
-    let s = sizes-near (start .args .n) (start .args .l) (c .before .before .before .before .before .before .before .before .before .before .before .before .before .before .before .all-of .result) (c .before .before .before .before .before .before .before .before .before .before .before .before .before .before .coarsest-of .result) e (coarsest-so (c .before .before .before .before .before .before .before .before .before .before .before .before .before .before)) (start .pre .0 .side) (start .pre .0 .levels) in (
-      c .before .before .before .before .before .before .before .before .before .before .before .before .start .kept .0 ∙ start .pre .0 .marksSize ∙ sym e,
-      c .before .before .before .before .before .before .before .before .clear .kept .0 ∙ start .pre .0 .valuesSize ∙ sym e,
-      c .before .before .before .before .before .fill .kept .0 ∙ start .pre .0 .precisionsSize ∙ sym e,
+    let start = c .before .before .before .before .before .before .before .before .before .before .before .before .before .before in
+    let e = all-so (c .before .before .before .before .before .before .before .before .before .before) in
+    let s = sizes-near (start .args .n) (start .args .l) (c .before .before .before .before .before .before .before .before .before .before .all-of .result) (c .before .before .before .before .before .before .before .before .before .coarsest-of .result) e (coarsest-so (c .before .before .before .before .before .before .before .before .before)) (start .pre .0 .side) (start .pre .0 .levels) in (
+      c .before .before .before .before .before .before .before .start .kept .0 ∙ start .pre .0 .marksSize ∙ sym e,
+      c .before .before .before .clear .kept .0 ∙ start .pre .0 .valuesSize ∙ sym e,
       start .pre .1,
       record { near = s .0; wide = s .1; room = s .2; tops = omega (arith, start .pre .0 .planes) },
     )
 
 -- where the scan ended, by the verdict
 ended : (c : tie.After-scan)
-    → let a = c .before .before .before .before .before .before .before .before .before .before .before .before .before .before .before .before .before .before .before .before .args in
-    let r = c .scan .result in
-    Ends (a .n) (a .l) (a .p) (length (a .values .now)) (length (a .precisions .now)) (length (a .marks .now)) (c .before .before .before .before .before .before .before .before .before .before .before .before .before .before .before .before .before .before .before .before .pre .0) (a .body .now) (a .usable) (r .bits) (r .left) (r .bad) (c .scan .last .1 .0) (c .scan .last .1 .1 .0) (c .scan .last .1 .1 .1 .0) (verdict (a .n) (a .l) (a .p) (bitsOf (a .usable) (a .body .now)))
-ended c =
-    let start = c .before .before .before .before .before .before .before .before .before .before .before .before .before .before .before .before .before .before .before .before in
+    → let start = c .before .before .before .before .before .before .before .before .before .before .before .before .before .before .before in
     let a = start .args in
-    let r = c .scan .result in
-    ends (a .n) (a .l) (a .p) (length (a .values .now)) (length (a .precisions .now)) (length (a .marks .now)) (start .pre .0) (a .body .now) (a .usable) (r .bits) (r .left) (r .bad) (c .scan .last .1 .0) (c .scan .last .1 .1 .0) (c .scan .last .1 .1 .1 .0)
-    (c .before .before .before .before .before .before .before .before .before .before .before .before .before .start .last .0) (c .before .before .before .before .before .before .before .before .before .clear .last .0) (c .before .before .before .before .before .before .fill .last .0) (c .before .before .before .before .before .before .before .before .before .before .before .before .before .before .before .before .all-of .result) (c .before .before .before .before .before .before .before .before .before .before .before .before .before .before .before .coarsest-of .result)
-    (all-so (c .before .before .before .before .before .before .before .before .before .before .before .before .before .before .before .before)) (coarsest-so (c .before .before .before .before .before .before .before .before .before .before .before .before .before .before .before)) (begun (c .before .before .before .before .before .before .before .before .before .before .before .before .before))
-    (c .before .before .before .before .before .before .before .before .before .clear .ensures ∙ ap (λ (k : ℕ). replicate k (pos 0)) (start .pre .0 .valuesSize))
-    (c .before .before .before .before .before .before .fill .ensures ∙ ap (λ (k : ℕ). replicate k (a .p)) (start .pre .0 .precisionsSize))
-    (c .scan .ensures)
+    let s = c .scan in
+    Ends (a .n) (a .l) (a .p) (length (a .values .now)) (length (a .precisions .now)) (length (a .marks .now)) (start .pre .0) (a .body .now) (a .usable) (s .result .bits) (s .result .left) (s .result .stop) (s .result .bad) (s .last .1 .0) (s .last .1 .1 .0) (verdict (a .n) (a .l) (a .p) (bitsOf (a .usable) (a .body .now)))
+ended c =
+    let start = c .before .before .before .before .before .before .before .before .before .before .before .before .before .before .before in
+    let a = start .args in
+    let s = c .scan in
+    ends (a .n) (a .l) (a .p) (length (a .values .now)) (length (a .precisions .now)) (length (a .marks .now)) (start .pre .0) (a .body .now) (a .usable) (s .result .bits) (s .result .left) (s .result .stop) (s .result .bad) (s .last .1 .0) (s .last .1 .1 .0)
+    (c .before .before .before .before .before .before .before .before .start .last .0) (c .before .before .before .before .clear .last .0) (c .before .before .before .before .before .before .before .before .before .before .before .all-of .result) (c .before .before .before .before .before .before .before .before .before .before .coarsest-of .result)
+    (all-so (c .before .before .before .before .before .before .before .before .before .before .before)) (coarsest-so (c .before .before .before .before .before .before .before .before .before .before)) (begun (c .before .before .before .before .before .before .before .before)) (c .before .before .before .before .clear .ensures ∙ ap (λ (k : ℕ). replicate k (pos 0)) (start .pre .0 .valuesSize)) (s .ensures)
 
 -- the tables keep their sizes
-values-so : (c : tie.After-scan) → length (c .scan .last .1 .1 .0) ≡ allOf (c .before .before .before .before .before .before .before .before .before .before .before .before .before .before .before .before .before .before .before .before .args .n)
-values-so c = c .scan .kept .1 .1 .0 ∙ c .before .before .before .before .before .before .before .before .before .clear .kept .0 ∙ c .before .before .before .before .before .before .before .before .before .before .before .before .before .before .before .before .before .before .before .before .pre .0 .valuesSize
+values-so : (c : tie.After-scan) → length (c .scan .last .1 .1 .0) ≡ allOf (c .before .before .before .before .before .before .before .before .before .before .before .before .before .before .before .args .n)
+values-so c = c .scan .kept .1 .1 .0 ∙ c .before .before .before .before .clear .kept .0 ∙ c .before .before .before .before .before .before .before .before .before .before .before .before .before .before .before .pre .0 .valuesSize
 
-precisions-so : (c : tie.After-scan) → length (c .scan .last .1 .1 .1 .0) ≡ allOf (c .before .before .before .before .before .before .before .before .before .before .before .before .before .before .before .before .before .before .before .before .args .n)
-precisions-so c = c .scan .kept .1 .1 .1 .0 ∙ c .before .before .before .before .before .before .fill .kept .0 ∙ c .before .before .before .before .before .before .before .before .before .before .before .before .before .before .before .before .before .before .before .before .pre .0 .precisionsSize
-
-marks-so : (c : tie.After-scan) → length (c .scan .last .1 .0) ≡ allOf (c .before .before .before .before .before .before .before .before .before .before .before .before .before .before .before .before .before .before .before .before .args .n)
-marks-so c = c .scan .kept .1 .0 ∙ c .before .before .before .before .before .before .before .before .before .before .before .before .before .start .kept .0 ∙ c .before .before .before .before .before .before .before .before .before .before .before .before .before .before .before .before .before .before .before .before .pre .0 .marksSize
+marks-so : (c : tie.After-scan) → length (c .scan .last .1 .0) ≡ allOf (c .before .before .before .before .before .before .before .before .before .before .before .before .before .before .before .args .n)
+marks-so c = c .scan .kept .1 .0 ∙ c .before .before .before .before .before .before .before .before .start .kept .0 ∙ c .before .before .before .before .before .before .before .before .before .before .before .before .before .before .before .pre .0 .marksSize
 
 cast-bits : tie.Need-cast-bits
 cast-bits c =
-    let start = c .before .before .before .before .before .before .before .before .before .before .before .before .before .before .before .before .before .before .before .before .before .before .before .before .before .before in
+    let start = c .before .before .before .before .before .before .before .before .before .before .before .before .before .before .before .before .before .before .before in
     let a = start .args in
-    let s = c .before .before .before .before .before .before .scan in
-    record { fits = omega (arith, bits-most (a .n) (a .l) (a .p) (length (a .values .now)) (length (a .precisions .now)) (length (a .marks .now)) (start .pre .0) (a .body .now) (a .usable) (s .result .bits) (s .result .left) (s .result .bad) (s .last .1 .0) (s .last .1 .1 .0) (s .last .1 .1 .1 .0) (ended (c .before .before .before .before .before .before)), start .fits .usable .fits) }
+    let s = c .before .before .before .before .scan in
+    record { fits = omega (arith, bits-most (a .n) (a .l) (a .p) (length (a .values .now)) (length (a .precisions .now)) (length (a .marks .now)) (start .pre .0) (a .body .now) (a .usable) (s .result .bits) (s .result .left) (s .result .stop) (s .result .bad) (s .last .1 .0) (s .last .1 .1 .0) (ended (c .before .before .before .before)), start .fits .usable .fits) }
 
 clear-requires-2 : tie.Need-clear-requires-2
 clear-requires-2 c κs = search needs
@@ -107,15 +95,15 @@ same-length-3 c = search needs
 
 returns : tie.Need-returns
 returns c =
-    let start = c .before .before .before .before .before .before .before .before .before .before .before .before .before .before .before .before .before .before .before .before .before .before .before .before .before .before .before .before .before .before .before .before .before .before .before .before in
+    let start = c .before .before .before .before .before .before .before .before .before .before .before .before .before .before .before .before .before .before .before .before .before .before .before .before .before .before .before .before .before in
     let a = start .args in
-    let s = c .before .before .before .before .before .before .before .before .before .before .before .before .before .before .before .before .scan in
+    let s = c .before .before .before .before .before .before .before .before .before .before .before .before .before .before .scan in
     let k = c .before .before .before .before .before .clear2 in
-    refused-12 (a .n) (a .l) (a .p) (length (a .values .now)) (length (a .precisions .now)) (length (a .marks .now)) (start .pre .0) (a .body .now) (a .usable) (s .result .bits) (s .result .left) (s .result .bad) (s .last .1 .0) (s .last .1 .1 .0) (s .last .1 .1 .1 .0) (ended (c .before .before .before .before .before .before .before .before .before .before .before .before .before .before .before .before)) (tables (a .values .now) (a .precisions .now) (a .marks .now)) (start .pre .0 .valuesSize) (start .pre .0 .precisionsSize) (start .pre .0 .marksSize)
+    refused-12 (a .n) (a .l) (a .p) (length (a .values .now)) (length (a .precisions .now)) (length (a .marks .now)) (start .pre .0) (a .body .now) (a .usable) (s .result .bits) (s .result .left) (s .result .stop) (s .result .bad) (s .last .1 .0) (s .last .1 .1 .0) (ended (c .before .before .before .before .before .before .before .before .before .before .before .before .before .before)) (tables (a .values .now) (a .precisions .now) (a .marks .now)) (start .pre .0 .valuesSize) (start .pre .0 .precisionsSize) (start .pre .0 .marksSize)
     (k .last .0) (k .last .1 .0) (k .last .1 .1 .0)
-    (k .ensures .0 ∙ ap (λ (x : ℕ). replicate x (pos 0)) (values-so (c .before .before .before .before .before .before .before .before .before .before .before .before .before .before .before .before)))
-    (k .ensures .1 .0 ∙ ap (λ (x : ℕ). replicate x 0) (precisions-so (c .before .before .before .before .before .before .before .before .before .before .before .before .before .before .before .before)))
-    (k .ensures .1 .1 ∙ ap (λ (x : ℕ). replicate x 0) (marks-so (c .before .before .before .before .before .before .before .before .before .before .before .before .before .before .before .before)))
+    (k .ensures .0 ∙ ap (λ (x : ℕ). replicate x (pos 0)) (values-so (c .before .before .before .before .before .before .before .before .before .before .before .before .before .before)))
+    (k .ensures .1 .0 ∙ ap (λ (x : ℕ). replicate x 0) (start .pre .0 .precisionsSize))
+    (k .ensures .1 .1 ∙ ap (λ (x : ℕ). replicate x 0) (marks-so (c .before .before .before .before .before .before .before .before .before .before .before .before .before .before)))
     (c .before .before .before .before .before .before .before .before .before .if1 .taken)
 
 clear-requires-3 : tie.Need-clear-requires-3
@@ -132,56 +120,56 @@ same-length-6 c = search needs
 
 returns-2 : tie.Need-returns-2
 returns-2 c =
-    let start = c .before .before .before .before .before .before .before .before .before .before .before .before .before .before .before .before .before .before .before .before .before .before .before .before .before .before .before .before .before .before .before .before .before .before .before .before .before in
+    let start = c .before .before .before .before .before .before .before .before .before .before .before .before .before .before .before .before .before .before .before .before .before .before .before .before .before .before .before .before .before .before in
     let a = start .args in
-    let s = c .before .before .before .before .before .before .before .before .before .before .before .before .before .before .before .before .before .scan in
+    let s = c .before .before .before .before .before .before .before .before .before .before .before .before .before .before .before .scan in
     let k = c .before .before .before .before .before .clear3 in
-    refused-13 (a .n) (a .l) (a .p) (length (a .values .now)) (length (a .precisions .now)) (length (a .marks .now)) (start .pre .0) (a .body .now) (a .usable) (s .result .bits) (s .result .left) (s .result .bad) (s .last .1 .0) (s .last .1 .1 .0) (s .last .1 .1 .1 .0) (ended (c .before .before .before .before .before .before .before .before .before .before .before .before .before .before .before .before .before)) (tables (a .values .now) (a .precisions .now) (a .marks .now)) (start .pre .0 .valuesSize) (start .pre .0 .precisionsSize) (start .pre .0 .marksSize)
+    refused-13 (a .n) (a .l) (a .p) (length (a .values .now)) (length (a .precisions .now)) (length (a .marks .now)) (start .pre .0) (a .body .now) (a .usable) (s .result .bits) (s .result .left) (s .result .stop) (s .result .bad) (s .last .1 .0) (s .last .1 .1 .0) (ended (c .before .before .before .before .before .before .before .before .before .before .before .before .before .before .before)) (tables (a .values .now) (a .precisions .now) (a .marks .now)) (start .pre .0 .valuesSize) (start .pre .0 .precisionsSize) (start .pre .0 .marksSize)
     (k .last .0) (k .last .1 .0) (k .last .1 .1 .0)
-    (k .ensures .0 ∙ ap (λ (x : ℕ). replicate x (pos 0)) (values-so (c .before .before .before .before .before .before .before .before .before .before .before .before .before .before .before .before .before)))
-    (k .ensures .1 .0 ∙ ap (λ (x : ℕ). replicate x 0) (precisions-so (c .before .before .before .before .before .before .before .before .before .before .before .before .before .before .before .before .before)))
-    (k .ensures .1 .1 ∙ ap (λ (x : ℕ). replicate x 0) (marks-so (c .before .before .before .before .before .before .before .before .before .before .before .before .before .before .before .before .before)))
+    (k .ensures .0 ∙ ap (λ (x : ℕ). replicate x (pos 0)) (values-so (c .before .before .before .before .before .before .before .before .before .before .before .before .before .before .before)))
+    (k .ensures .1 .0 ∙ ap (λ (x : ℕ). replicate x 0) (start .pre .0 .precisionsSize))
+    (k .ensures .1 .1 ∙ ap (λ (x : ℕ). replicate x 0) (marks-so (c .before .before .before .before .before .before .before .before .before .before .before .before .before .before .before)))
     (c .before .before .before .before .before .before .before .before .before .before .if1 .left) (c .before .before .before .before .before .before .before .before .before .if2 .taken)
 
 -- all bits were used
 took : (c : tie.Else2)
-    → let a = c .before .before .before .before .before .before .before .before .before .before .before .before .before .before .before .before .before .before .before .before .before .before .before .before .before .before .before .before .args in
-    let s = c .before .before .before .before .before .before .before .before .scan in
-    Judged (a .n) (a .l) (a .p) (bitsOf (a .usable) (a .body .now)) taken
-    × Took (a .n) (a .l) (a .p) (length (a .values .now)) (length (a .precisions .now)) (length (a .marks .now)) (c .before .before .before .before .before .before .before .before .before .before .before .before .before .before .before .before .before .before .before .before .before .before .before .before .before .before .before .before .pre .0) (a .body .now) (a .usable) (s .result .bits) (s .result .left) (s .result .bad) (s .last .1 .0) (s .last .1 .1 .0) (s .last .1 .1 .1 .0)
-took c =
-    let start = c .before .before .before .before .before .before .before .before .before .before .before .before .before .before .before .before .before .before .before .before .before .before .before .before .before .before .before .before in
+    → let start = c .before .before .before .before .before .before .before .before .before .before .before .before .before .before .before .before .before .before .before .before .before in
     let a = start .args in
-    let s = c .before .before .before .before .before .before .before .before .scan in
-    judged-taken (a .n) (a .l) (a .p) (length (a .values .now)) (length (a .precisions .now)) (length (a .marks .now)) (start .pre .0) (a .body .now) (a .usable) (s .result .bits) (s .result .left) (s .result .bad) (s .last .1 .0) (s .last .1 .1 .0) (s .last .1 .1 .1 .0) (ended (c .before .before .before .before .before .before .before .before)) (c .before .if1 .left) (c .if2 .left)
+    let s = c .before .before .before .before .before .before .scan in
+    Judged (a .n) (a .l) (a .p) (bitsOf (a .usable) (a .body .now)) taken × Took (a .n) (a .l) (a .p) (length (a .values .now)) (length (a .precisions .now)) (length (a .marks .now)) (start .pre .0) (a .body .now) (a .usable) (s .result .bits) (s .result .left) (s .result .stop) (s .result .bad) (s .last .1 .0) (s .last .1 .1 .0)
+took c =
+    let start = c .before .before .before .before .before .before .before .before .before .before .before .before .before .before .before .before .before .before .before .before .before in
+    let a = start .args in
+    let s = c .before .before .before .before .before .before .scan in
+    judged-taken (a .n) (a .l) (a .p) (length (a .values .now)) (length (a .precisions .now)) (length (a .marks .now)) (start .pre .0) (a .body .now) (a .usable) (s .result .bits) (s .result .left) (s .result .stop) (s .result .bad) (s .last .1 .0) (s .last .1 .1 .0) (ended (c .before .before .before .before .before .before)) (c .before .if1 .left) (c .if2 .left)
 
 finish-requires : tie.Need-finish-requires
 finish-requires c κs =
-    let start = c .before .before .before .before .before .before .before .before .before .before .before .before .before .before .before .before .before .before .before .before .before .before .before .before .before .before .before .before .before .before in
+    let start = c .before .before .before .before .before .before .before .before .before .before .before .before .before .before .before .before .before .before .before .before .before .before .before .before in
     let a = start .args in
-    let s = c .before .before .before .before .before .before .before .before .before .before .scan in
-    let t = took (c .before .before) .1 in (
-      values-so (c .before .before .before .before .before .before .before .before .before .before) ∙ sym (precisions-so (c .before .before .before .before .before .before .before .before .before .before)),
-      omega (arith, left-in (a .n) (a .l) (a .p) (length (a .values .now)) (length (a .precisions .now)) (length (a .marks .now)) (start .pre .0) (a .body .now) (a .usable) (s .result .bits) (s .result .left) (s .result .bad) (s .last .1 .0) (s .last .1 .1 .0) (s .last .1 .1 .1 .0) t, start .pre .0 .planes),
-      λ i h. (not-below (a .n) (a .l) (a .p) (length (a .values .now)) (length (a .precisions .now)) (length (a .marks .now)) (start .pre .0) (a .body .now) (a .usable) (s .result .bits) (s .result .left) (s .result .bad) (s .last .1 .0) (s .last .1 .1 .0) (s .last .1 .1 .1 .0) t i, in-range (a .n) (a .l) (a .p) (length (a .values .now)) (length (a .precisions .now)) (length (a .marks .now)) (start .pre .0) (a .body .now) (a .usable) (s .result .bits) (s .result .left) (s .result .bad) (s .last .1 .0) (s .last .1 .1 .0) (s .last .1 .1 .1 .0) t i (omega (arith, h, values-so (c .before .before .before .before .before .before .before .before .before .before)))),
+    let s = c .before .before .before .before .before .before .before .before .before .scan in
+    let t = took (c .before .before .before) in (
+      values-so (c .before .before .before .before .before .before .before .before .before) ∙ sym (marks-so (c .before .before .before .before .before .before .before .before .before)),
+      start .pre .0 .precisionsSize ∙ sym (marks-so (c .before .before .before .before .before .before .before .before .before)),
+      (stood (a .n) (a .l) (a .p) (length (a .values .now)) (length (a .precisions .now)) (length (a .marks .now)) (start .pre .0) (a .body .now) (a .usable) (s .result .bits) (s .result .left) (s .result .stop) (s .result .bad) (s .last .1 .0) (s .last .1 .1 .0) (t .1) (t .0), t .1 .valued),
     )
 
-sub-t50 : tie.Need-sub-t50
-sub-t50 c =
-    let start = c .before .before .before .before .before .before .before .before .before .before .before .before .before .before .before .before .before .before .before .before .before .before .before .before .before .before .before .before .before .before .before .before .before .before in
+sub-t47 : tie.Need-sub-t47
+sub-t47 c =
+    let start = c .before .before .before .before .before .before .before .before .before .before .before .before .before .before .before .before .before .before .before .before .before .before .before .before .before .before .before .before in
     let a = start .args in
-    let s = c .before .before .before .before .before .before .before .before .before .before .before .before .before .before .scan in
-    left-in (a .n) (a .l) (a .p) (length (a .values .now)) (length (a .precisions .now)) (length (a .marks .now)) (start .pre .0) (a .body .now) (a .usable) (s .result .bits) (s .result .left) (s .result .bad) (s .last .1 .0) (s .last .1 .1 .0) (s .last .1 .1 .1 .0) (took (c .before .before .before .before .before .before) .1)
+    let s = c .before .before .before .before .before .before .before .before .before .before .before .before .before .scan in
+    left-in (a .n) (a .l) (a .p) (length (a .values .now)) (length (a .precisions .now)) (length (a .marks .now)) (start .pre .0) (a .body .now) (a .usable) (s .result .bits) (s .result .left) (s .result .stop) (s .result .bad) (s .last .1 .0) (s .last .1 .1 .0) (took (c .before .before .before .before .before .before .before) .1)
 
-shl-t51 : tie.Need-shl-t51
-shl-t51 c = search needs
+shl-t48 : tie.Need-shl-t48
+shl-t48 c = search needs
 
-sub-t52 : tie.Need-sub-t52
-sub-t52 c =
-    let start = c .before .before .before .before .before .before .before .before .before .before .before .before .before .before .before .before .before .before .before .before .before .before .before .before .before .before .before .before .before .before .before .before .before .before in
+sub-t49 : tie.Need-sub-t49
+sub-t49 c =
+    let start = c .before .before .before .before .before .before .before .before .before .before .before .before .before .before .before .before .before .before .before .before .before .before .before .before .before .before .before .before in
     let a = start .args in
-    let s = c .before .before .before .before .before .before .before .before .before .before .before .before .before .before .scan in
-    power-one (a .n) (a .l) (a .p) (length (a .values .now)) (length (a .precisions .now)) (length (a .marks .now)) (start .pre .0) (a .body .now) (a .usable) (s .result .bits) (s .result .left) (s .result .bad) (s .last .1 .0) (s .last .1 .1 .0) (s .last .1 .1 .1 .0) (took (c .before .before .before .before .before .before) .1)
+    let s = c .before .before .before .before .before .before .before .before .before .before .before .before .before .scan in
+    power-one (a .n) (a .l) (a .p) (length (a .values .now)) (length (a .precisions .now)) (length (a .marks .now)) (start .pre .0) (a .body .now) (a .usable) (s .result .bits) (s .result .left) (s .result .stop) (s .result .bad) (s .last .1 .0) (s .last .1 .1 .0) (took (c .before .before .before .before .before .before .before) .1)
 
 same-length-7 : tie.Need-same-length-7
 same-length-7 c = search needs
@@ -194,13 +182,13 @@ same-length-9 c = search needs
 
 returns-3 : tie.Need-returns-3
 returns-3 c =
-    let start = c .before .before .before .before .before .before .before .before .before .before .before .before .before .before .before .before .before .before .before .before .before .before .before .before .before .before .before .before .before .before .before .before .before .before in
+    let start = c .before .before .before .before .before .before .before .before .before .before .before .before .before .before .before .before .before .before .before .before .before .before .before .before .before .before .before .before in
     let a = start .args in
-    let s = c .before .before .before .before .before .before .before .before .before .before .before .before .before .before .scan in
-    let t = took (c .before .before .before .before .before .before) in
+    let s = c .before .before .before .before .before .before .before .before .before .before .before .before .before .scan in
+    let t = took (c .before .before .before .before .before .before .before) in
     let f = c .before .before .before .finish in
-    accepted (a .n) (a .l) (a .p) (length (a .values .now)) (length (a .precisions .now)) (length (a .marks .now)) (start .pre .0) (a .body .now) (a .usable) (s .result .bits) (s .result .left) (s .result .bad) (s .last .1 .0) (s .last .1 .1 .0) (s .last .1 .1 .1 .0) (t .1) (t .0) (tables (a .values .now) (a .precisions .now) (a .marks .now)) (start .pre .0 .valuesSize) (start .pre .0 .precisionsSize) (start .pre .0 .marksSize)
-    (f .last .0) (f .last .1 .0) (length (s .last .1 .1 .0)) (length (s .last .1 .1 .1 .0)) (values-so (c .before .before .before .before .before .before .before .before .before .before .before .before .before .before)) (precisions-so (c .before .before .before .before .before .before .before .before .before .before .before .before .before .before)) (f .ensures .0) (f .ensures .1)
+    accepted (a .n) (a .l) (a .p) (length (a .values .now)) (length (a .precisions .now)) (length (a .marks .now)) (start .pre .0) (a .body .now) (a .usable) (s .result .bits) (s .result .left) (s .result .stop) (s .result .bad) (s .last .1 .0) (s .last .1 .1 .0) (t .1) (t .0) (tables (a .values .now) (a .precisions .now) (a .marks .now)) (start .pre .0 .valuesSize) (start .pre .0 .precisionsSize) (start .pre .0 .marksSize)
+    (f .last .0) (f .last .1 .0) (length (s .last .1 .0)) (marks-so (c .before .before .before .before .before .before .before .before .before .before .before .before .before)) (f .ensures .0) (f .ensures .1)
 
 pub read-spec : {M : Type 1} → statement M
 read-spec =
@@ -210,8 +198,6 @@ read-spec =
     coarsest-of-requires
     start-requires
     clear-requires
-    cast-fill
-    fill-requires
     scan-requires
     cast-bits
     clear-requires-2
@@ -225,9 +211,9 @@ read-spec =
     same-length-6
     returns-2
     finish-requires
-    sub-t50
-    shl-t51
-    sub-t52
+    sub-t47
+    shl-t48
+    sub-t49
     same-length-7
     same-length-8
     same-length-9

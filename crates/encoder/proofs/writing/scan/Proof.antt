@@ -118,8 +118,8 @@ same-length-4 c = c .before .before .before .before .before .before .before .vis
 -- src/writing.rt:210:1
 returns-2 : tie.Need-returns-2 Inv-loop2 μ-loop2 Inv-loop μ-loop Inv-scan μ-scan
 returns-2 c = let y = turn-stop _ _ _ _ _ _ _ _ _ _ _ _ _ _ _ _ _ (c .before .before .before .before .before .before .before .before .before .before .before .loop2 .inv .1) (c .before .before .before .before .before .before .before .visit .ensures) (c .before .k .given .1) (c .before .before .before .before .before .before .before .before .before .before .loop2-test .taken) in
-    let x = pass-stop _ _ _ _ _ _ (c .before .before .before .before .before .before .before .before .before .before .before .before .before .loop .inv .2) y (c .before .before .before .before .before .before .before .before .before .before .before .before .loop-test .taken) in
-    let w = plane-stop _ _ _ _ _ (c .before .before .before .before .before .before .before .before .before .before .before .before .before .before .before .scan .inv .1) x (c .before .before .before .before .before .before .before .before .before .before .before .before .before .before .scan-test .taken) in
+    let x = pass-stop _ _ _ _ _ _ _ (c .before .before .before .before .before .before .before .before .before .before .before .before .before .loop .inv .2) y (c .before .before .before .before .before .before .before .before .before .before .before .before .loop-test .taken) in
+    let w = plane-stop _ _ _ _ _ _ (c .before .before .before .before .before .before .before .before .before .before .before .before .before .before .before .scan .inv .1) x (c .before .before .before .before .before .before .before .before .before .before .before .before .before .before .scan-test .taken) in
     rw w (record { count = refl; marked = refl; wrote = refl })
 
 pub scan-spec : {M : Type 1} → statement M
