@@ -1,8 +1,9 @@
 // Whole streams of 2^N x 2^N coefficients, L levels, through plain C, C written for speed, and the proved library; what
-// encoding them costs before the first bits; and the planes of such an array and the change between its two orders, in
+// encoding them costs before the first bits, and decoding them where they are cut; and the planes of such an array and the change between its two orders, in
 // plain C and in the proved library.
 //   bench count N L 12|20    each coder encodes and decodes once: what callgrind counts (bench.sh)
 //   bench open N L 12|20 M   each coder encodes once with a budget of M thousandths of the stream: the same
+//   bench cut N L 12|20 M    each coder decodes once what M thousandths of the stream's bits allow, or M bits (300b): the same
 //   bench planes N L 12|20   the planes once, by each code: the same
 //   bench order N            both changes of order once, by each code: the same
 //   bench figures N L        the figures of each plane by itself, and of all at once: the same
@@ -168,6 +169,34 @@ static int opening(unsigned n, unsigned l, unsigned planes, unsigned thousandths
     return printf("%u\n", budget), 0;
 }
 
+// Each coder decodes a cut stream: a part of it in thousandths, or in bits where a b follows. The answer and the three tables
+// are those of plain C, which comes first.
+static int cut(unsigned n, unsigned l, unsigned planes, const char *part) {
+    static int32_t first[I];
+    static uint8_t first_prec[I], first_marks[I];
+    uint32_t all = TXP_ENTRIES(n), most = (uint32_t)atoi(part);
+    data(n, l, planes);
+    nls_result e = nls_plain_encode(coef, n, l, UINT32_MAX, desc, grand, marks, body), f = {0};
+    uint32_t bits = strchr(part, 'b') ? most : (uint32_t)((uint64_t)e.bits * most / 1000);
+    if (e.no || e.planes != planes || bits > e.bits) return printf("cut, N = %u, L = %u, P = %u: wrong\n", n, l, planes), 1;
+    for (unsigned k = 0; k < 3; k++) {
+        memset(values, 1, all * sizeof *values);
+        memset(prec, 1, all);
+        memset(marks, 1, all);
+        nls_result d = coders[k].decode(body, bits, n, l, planes, values, prec, marks);
+        if (k == 0) {
+            f = d;
+            memcpy(first, values, all * sizeof *values);
+            memcpy(first_prec, prec, all);
+            memcpy(first_marks, marks, all);
+        }
+        if (d.no || d.bits != bits || d.finished != f.finished || d.worst != f.worst || memcmp(first, values, all * sizeof *values)
+            || memcmp(first_prec, prec, all) || memcmp(first_marks, marks, all))
+            return printf("%s, N = %u, L = %u, P = %u, %u bits: wrong\n", coders[k].name, n, l, planes, bits), 1;
+    }
+    return printf("%u\n", bits), 0;
+}
+
 static int tops(unsigned n, unsigned l, unsigned planes) {
     data(n, l, planes);
     if (nls_plain_planes(coef, n) != planes || txp_bench_planes(coef, n) != planes)
@@ -201,10 +230,11 @@ int main(int argc, char **argv) {
     if (n > 1 && n <= NLS_MAX_N && l > 0 && l < n) {
         if (argc == 5 && !strcmp(argv[1], "count") && (last == 12 || last == 20)) return count(n, l, last);
         if (argc == 6 && !strcmp(argv[1], "open") && (last == 12 || last == 20)) return opening(n, l, last, (unsigned)atoi(argv[5]));
+        if (argc == 6 && !strcmp(argv[1], "cut") && (last == 12 || last == 20)) return cut(n, l, last, argv[5]);
         if (argc == 5 && !strcmp(argv[1], "planes") && (last == 12 || last == 20)) return tops(n, l, last);
         if (argc == 3 && !strcmp(argv[1], "order")) return order(n);
         if (argc == 4 && !strcmp(argv[1], "figures")) return figures(n, l);
         if (argc == 5 && !strcmp(argv[1], "time") && last > 0) return times(n, l, last);
     }
-    return fprintf(stderr, "usage: bench count N L 12|20, bench open N L 12|20 THOUSANDTHS, bench planes N L 12|20, bench order N, bench figures N L, or bench time N L REPS\n"), 2;
+    return fprintf(stderr, "usage: bench count N L 12|20, bench open N L 12|20 THOUSANDTHS, bench cut N L 12|20 THOUSANDTHS or BITSb, bench planes N L 12|20, bench order N, bench figures N L, or bench time N L REPS\n"), 2;
 }

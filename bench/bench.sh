@@ -1,9 +1,10 @@
 #!/bin/sh
 # Counts the instructions that encode and decode execute on a whole stream, in plain C, in C written for speed, and in
 # the proved library through its C interface; those of encode with a budget of no bits and of one per cent of the stream,
-# by the same three; those of the planes and of the change between the two orders of a whole array, in plain C and in the
-# library; those of the figures of one plane and of all; then the coders' times on this machine.
-# The streams are of 256 by 256 and of 1,024 by 1,024, the latter with two numbers of levels.
+# and of decode where the stream is cut, by the same three; those of the planes and of the change between the two orders
+# of a whole array, in plain C and in the library; those of the figures of one plane and of all; then the coders' times on
+# this machine.
+# The streams are of 256 by 256 and of 1,024 by 1,024, the latter with two numbers of levels; the cut ones of 256 by 256.
 #   sh bench/bench.sh [REPS]
 # Needs gcc and valgrind. On a machine that is not x86-64 it needs gcc, Debian's gcc-x86-64-linux-gnu and qemu-user: the
 # instructions are then counted in the emulator (bench/count.c), and no times are taken.
@@ -60,6 +61,17 @@ opens() { # N L: the rows of encode with a small budget, in thousandths of the s
         done
     done
 }
+cuts() { # N L: the rows of decode of cut streams, at parts in thousandths or, with a b, in bits
+    for planes in 12 20; do
+        for part in 900 500 250 50 300b; do
+            bits=$(run cut "$1" "$2" $planes $part)
+            for coder in plain fast txp; do
+                x=$(counted $coder decode)
+                printf '%4d %2s %-6s %-5s %9d %13d %6s\n' $((1 << $1)) "$2" $planes $coder "$bits" "$x" "$(ratio "$x" "$(counted plain decode)")"
+            done
+        done
+    done
+}
 columns bits 'a bit' encode decode
 streams 8 5
 streams 10 7
@@ -67,6 +79,8 @@ streams 10 9
 printf '%4s %2s %-6s %-5s %9s %13s %6s\n' side L planes coder budget 'encode insns' 'to C'
 opens 8 5
 opens 10 7
+printf '%4s %2s %-6s %-5s %9s %13s %6s\n' side L planes coder 'bits read' 'decode insns' 'to C'
+cuts 8 5
 for n in 8 10; do
     run planes $n 5 12
     x=$(counted txp planes) y=$(counted plain planes)
