@@ -32,7 +32,7 @@ extern "C" {
 /* The version of this library's interface, and that of the files that it writes and reads. A change of the first number may break
  * a caller, a change of the second only adds. */
 #define TXP_VERSION_MAJOR 2
-#define TXP_VERSION_MINOR 1
+#define TXP_VERSION_MINOR 2
 #define TXP_FILE_VERSION 1
 
 /* Limits. */
@@ -127,7 +127,10 @@ uint32_t txp_encode(uint32_t n, uint32_t l, const int32_t *coefs, size_t coefs_l
  * values, precisions, marks: TXP_ENTRIES(n) or more each, for the N that txp_header answers; TXP_ENTRIES(TXP_MOST_N) always will do.
  * Refusals 7, 8, 1, 2, 9, 10, 11, 5: nothing that is lent is touched.
  * Refusals 12, 13 (place: a bit of the body): the first I entries of the three are 0.
- * Done: values hold the coefficients as near as the bits allow, precisions each one's lowest known bit, marks where the scan stopped.
+ * Done: values hold the coefficients as near as the bits allow, marks where the scan stopped, and precisions how near each one is:
+ * every array whose stream begins with these bits differs from values[i] by less than 2^precisions[i]. This is the number of the plane
+ * in progress if in it the coefficient's own bit was read (with its sign, where one follows) or a set that holds it was tested 0; else
+ * that of the last finished plane, or P if none is. A whole stream has precisions 0.
  * Answer: n, l, planes, declared, bits (used), finished, error. */
 uint32_t txp_decode(const uint8_t *file, size_t file_len, int32_t *values, size_t values_len, uint8_t *precisions,
                     size_t precisions_len, uint8_t *marks, size_t marks_len, txp_answer *answer);

@@ -32,6 +32,16 @@ static void print_row(uint32_t n, const int32_t *linear, int32_t *raster)
     printf("\n");
 }
 
+/* How many of the coefficients are known down to the plane in progress: their precision is below `last`, the last finished plane. */
+static size_t known(const uint8_t *precisions, size_t all, uint32_t last)
+{
+    size_t count = 0;
+    for (size_t i = 0; i < all; i++) {
+        count += precisions[i] < last;
+    }
+    return count;
+}
+
 /* Decodes the first bytes of a file, and prints how near the values are. The header says how much is to be lent. */
 static void show(const uint8_t *file, size_t bytes)
 {
@@ -50,8 +60,12 @@ static void show(const uint8_t *file, size_t bytes)
     } else if (txp_decode(file, bytes, values, all, tables, all, tables + all, all, &answer) != TXP_DONE) {
         printf("refusal %u at place %u\n", (unsigned)answer.refusal, (unsigned)answer.place);
     } else {
-        printf("%u of %u bits, %u of %u planes, worst error %u; row 0:", (unsigned)answer.bits, (unsigned)answer.declared,
-               (unsigned)answer.finished, (unsigned)answer.planes, (unsigned)answer.error);
+        printf("%u of %u bits, %u of %u planes", (unsigned)answer.bits, (unsigned)answer.declared, (unsigned)answer.finished,
+               (unsigned)answer.planes);
+        if (answer.finished < answer.planes) {
+            printf(" and of the next %zu of %zu", known(tables, all, answer.planes - answer.finished), all);
+        }
+        printf(", worst error %u; row 0:", (unsigned)answer.error);
         print_row(n, values, values + all);
     }
     free(values);

@@ -23,10 +23,15 @@ fn row(n: u32, linear: &[i32]) -> Result<String, Refusal> {
 fn shown(file: &[u8]) -> Result<String, Refusal> {
     let n = txp::header(file)?.n;
     let all = txp::entries(n);
-    let mut values = vec![0; all];
-    let d = txp::decode(file, &mut values, &mut vec![0; all], &mut vec![0; all])?;
+    let (mut values, mut precisions) = (vec![0; all], vec![0; all]);
+    let d = txp::decode(file, &mut values, &mut precisions, &mut vec![0; all])?;
     let row = row(n, &values)?;
-    Ok(format!("{} of {} bits, {} of {} planes, worst error {}; row 0:{row}", d.bits, d.declared, d.finished, d.planes, d.error))
+    let last = d.planes - d.finished;
+    let next = match last {
+        0 => String::new(),
+        _ => format!(" and of the next {} of {all}", precisions.iter().filter(|&&k| u32::from(k) < last).count()),
+    };
+    Ok(format!("{} of {} bits, {} of {} planes{next}, worst error {}; row 0:{row}", d.bits, d.declared, d.finished, d.planes, d.error))
 }
 
 fn show(file: &[u8]) {
