@@ -1,6 +1,6 @@
 // Whole streams of 2^N x 2^N coefficients, L levels, through plain C, C written for speed, and the proved library; what
-// encoding them costs before the first bits, and decoding them where they are cut; and the planes of such an array and the change between its two orders, in
-// plain C and in the proved library.
+// encoding them costs before the first bits, and decoding them where they are cut; and the planes of such an array and
+// the change between its two orders, in plain C and in the proved library.
 //   bench count N L 12|20    each coder encodes and decodes once: what callgrind counts (bench.sh)
 //   bench open N L 12|20 M   each coder encodes once with a budget of M thousandths of the stream: the same
 //   bench cut N L 12|20 M    each coder decodes once what M thousandths of the stream's bits allow, or M bits (300b): the same
