@@ -120,24 +120,24 @@ pub record Sound (I P : ℕ) (s : State) (k : Known) : Type 0 where
   pub round : (j : ℕ) → j < I → magAt (k .bits) j % 2 ^ getD (k .planes) j 0 ≡ 0
   pub inside : s .pending ≡ true → 1 ≤ s .left → s .place < I
 
--- what holds of the coefficient at j after that at i is noted: by whether it is that one
+-- what holds of the entry at j after v is put at i: by whether it is that one
+pub by-entry : {A : Type 0} (l : List A) (i : ℕ) (v d : A) (j : ℕ) → (j ≡ i → i < length l) → (F : A → Type 0) → (j ≡ i → F v) → ((j ≡ i → ⊥) → F (getD l j d)) → F (getD (set l i v) j d)
+by-entry {A} l i v d j h F f g = on (ℕ-discrete j i)
+  where
+    on : Dec (j ≡ i) → F (getD (set l i v) j d)
+    on (yes e) = subst F (sym (ap (λ (x : ℕ). getD (set l i v) x d) e ∙ getD-set-same l i v d (h e))) (f e)
+    on (no e) = subst F (sym (getD-set-other l i j v d e)) (g e)
+
+-- and of the coefficient at j after that at i is noted
 pub by-place : (k : Known) (i b : ℕ) (z : ℤ) → i < length (k .bits) → i < length (k .planes) → (F : ℤ → ℕ → Type 0) (j : ℕ)
     → (j ≡ i → F z b) → ((j ≡ i → ⊥) → F (at (k .bits) j) (getD (k .planes) j 0)) → F (at (set (k .bits) i z) j) (getD (set (k .planes) i b) j 0)
-by-place k i b z hb hp F j f g = on (ℕ-discrete j i)
-  where
-    on : Dec (j ≡ i) → F (at (set (k .bits) i z) j) (getD (set (k .planes) i b) j 0)
-    on (yes e) =
-        subst (λ (x : ℕ). F (at (set (k .bits) i z) x) (getD (set (k .planes) i b) x 0)) (sym e)
-        (rw (getD-set-same (k .bits) i z (pos 0) hb, getD-set-same (k .planes) i b 0 hp) (f e))
-    on (no e) = rw (getD-set-other (k .bits) i j z (pos 0) e, getD-set-other (k .planes) i j b 0 e) (g e)
+by-place k i b z hb hp F j f g =
+    by-entry (k .bits) i z (pos 0) j (λ e. hb) (λ y. F y (getD (set (k .planes) i b) j 0)) (λ e. by-entry (k .planes) i b 0 j (λ e. hp) (λ n. F z n) f (λ n. absurd (n e)))
+    (λ n. by-entry (k .planes) i b 0 j (λ e. hp) (λ m. F (at (k .bits) j) m) (λ e. absurd (n e)) g)
 
--- the entry at j after b is put at i: that one or the old one
+-- or of the plane alone
 pub plane-at : (l : List ℕ) (i b : ℕ) (F : ℕ → Type 0) (j : ℕ) → j < length l → (j ≡ i → F b) → F (getD l j 0) → F (getD (set l i b) j 0)
-plane-at l i b F j h f g = on (ℕ-discrete j i)
-  where
-    on : Dec (j ≡ i) → F (getD (set l i b) j 0)
-    on (yes e) = subst F (sym (ap (λ (x : ℕ). getD (set l i b) x 0) e ∙ getD-set-same l i b 0 (omega arith))) (f e)
-    on (no e) = subst F (sym (getD-set-other l i j b 0 e)) g
+plane-at l i b F j h f g = by-entry l i b 0 j (λ e. omega (arith, e, h)) F f (λ e. g)
 
 due-next : (p : Pass) (i j : ℕ) → Due p (i + 1) j → Due p i j
 due-next pixels i j d = tt

@@ -7,18 +7,15 @@ use Prim.Native.Nat.{ℕ, _-_, _≤_, _<_}
 use native.Mathlib.Omega.{arith}
 use lib.Dec.{eqb}
 use lib.ListN.{length, getD, set, length-set}
-use lib.Seq.{getD-set-same, getD-set-other}
-use borrow.Author.Tests.{eqb-true, eqb-false}
+use borrow.Author.Tests.{eq-eqb, ne-eqb}
 use Rattle.tree.specs.Tree.{desc, grand, anyIn}
 use Rattle.nls.specs.Scan.{Question, bitOf, signOf, inDesc, inGrand, State, Pass, pixels, sets, refining}
 use Rattle.nls.specs.Reading.{Known, setEach, learn, learnAt, completes}
+use Rattle.nls.proofs.Known.{by-entry}
 
 set-plane : (l : List ℕ) (j v i : ℕ) → i < length l → getD (set l j v) i 0 ≡ cond (eqb j i) v (getD l i 0)
-set-plane l j v i h = on (eqb j i) refl
-  where
-    on : (t : Bool) → eqb j i ≡ t → getD (set l j v) i 0 ≡ cond t v (getD l i 0)
-    on true e = let s : j ≡ i = eqb-true j i e in ap (λ (x : ℕ). getD (set l x v) i 0) s ∙ getD-set-same l i v 0 h
-    on false e = getD-set-other l j i v 0 (λ q. eqb-false j i e (sym q))
+set-plane l j v i h =
+    by-entry l j v 0 i (λ e. omega (arith, e, h)) (λ n. n ≡ cond (eqb j i) v (getD l i 0)) (λ e. rw (eq-eqb j i (sym e))) (λ n. rw (ne-eqb j i (λ e. n (sym e))))
 
 -- a test bit: 0 is noted, 1 is not
 test-0 : (x : Bool) (v w : ℕ) → cond x v w ≡ cond (x && true) v w

@@ -37,7 +37,7 @@ use Rattle.nls.proofs.Reading.Know.{knowO, least}
 use Rattle.nls.proofs.Judging.Clash.{dead-D, dead-G}
 use Rattle.nls.proofs.Kept.{AfterMove, settle-keeps}
 use Rattle.nls.proofs.Machine.Run.{Settled, start-settled, next-settled}
-use Rattle.nls.proofs.Known.{Sound, sound-next, sound-begin}
+use Rattle.nls.proofs.Known.{by-entry, Sound, sound-next, sound-begin}
 use Rattle.nls.proofs.Precision.PlaneEnds.{notes, ends-tell}
 use Rattle.nls.proofs.Precision.Noted.{each-length, each-out}
 use Rattle.nls.proofs.Precision.Seen.{kept-D, kept-G, of-desc, of-grand}
@@ -72,30 +72,23 @@ record Same (I : ℕ) (m : List ℕ) (o o′ : Known) : Type 0 where
 same-marks : {I : ℕ} {m m′ : List ℕ} {o o′ : Known} → ((j : ℕ) → j < I → 2 ≤ getD m j 0 → getD m j 0 ≤ 3 → (2 ≤ getD m′ j 0) × (getD m′ j 0 ≤ 3)) → Same I m o o′ → Same I m′ o o′
 same-marks f r = record { bits = r .bits; long = r .long; planes = r .planes; found = λ j hj e. let s = r .found j hj e in f j hj (s .0) (s .1) }
 
+-- two lists in which b is put at i have one entry at j, where it is that one or they had
+put-both : (l l′ : List ℕ) (i b j : ℕ) → j < length l → j < length l′ → ((j ≡ i → ⊥) → getD l j 0 ≡ getD l′ j 0) → getD (set l i b) j 0 ≡ getD (set l′ i b) j 0
+put-both l l′ i b j h h′ f =
+    by-entry l i b 0 j (λ e. omega (arith, e, h)) (λ n. n ≡ getD (set l′ i b) j 0) (λ e. by-entry l′ i b 0 j (λ x. omega (arith, x, h′)) (λ n. b ≡ n) (λ x. refl) (λ n. absurd (n e)))
+    (λ n. f n ∙ sym (getD-set-other l′ i j b 0 n))
+
 -- both note i in plane b, with the known bits z
 same-noted : {I : ℕ} {m m′ : List ℕ} {o o′ : Known} (i b : ℕ) (z : ℤ) → (1 ≤ magnitude z → (2 ≤ getD m′ i 0) × (getD m′ i 0 ≤ 3)) → ((j : ℕ) → j < I → (j ≡ i → ⊥) → 2 ≤ getD m j 0 → getD m j 0 ≤ 3 → (2 ≤ getD m′ j 0) × (getD m′ j 0 ≤ 3))
     → Same I m o o′ → Same I m′ (noted i z b o) (noted i z b o′)
 same-noted {I} {m} {m′} {o} {o′} i b z f g r = record {
   bits = ap (λ (l : List ℤ). set l i z) (r .bits);
   long = (length-set (o .bits) i z ∙ r .long .0, length-set (o .planes) i b ∙ r .long .1, length-set (o′ .planes) i b ∙ r .long .2);
-  found = λ j hj e. on j hj e (ℕ-discrete j i);
-  planes = λ j hj e. at-plane j hj e (ℕ-discrete j i);
+  found = λ j hj. by-entry (o .bits) i z (pos 0) j (λ e. omega (arith, e, hj, r .long .0)) (λ x. 1 ≤ magnitude x → (2 ≤ getD m′ j 0) × (getD m′ j 0 ≤ 3))
+      (λ q e. subst (λ (x : ℕ). (2 ≤ getD m′ x 0) × (getD m′ x 0 ≤ 3)) (sym q) (f e)) (λ q e. let s = r .found j hj e in g j hj q (s .0) (s .1));
+  planes = λ j hj e. put-both (o .planes) (o′ .planes) i b j (omega (arith, hj, r .long .1)) (omega (arith, hj, r .long .2))
+      (λ q. r .planes j hj (subst (λ (x : ℤ). 1 ≤ magnitude x) (getD-set-other (o .bits) i j z (pos 0) q) e));
 }
-  where
-    on : (j : ℕ) → j < I → 1 ≤ magAt (set (o .bits) i z) j → Dec (j ≡ i) → (2 ≤ getD m′ j 0) × (getD m′ j 0 ≤ 3)
-    on j hj e (yes q) =
-        subst (λ (x : ℕ). (2 ≤ getD m′ x 0) × (getD m′ x 0 ≤ 3)) (sym q)
-        (f (subst (λ (x : ℤ). 1 ≤ magnitude x) (ap (λ (x : ℕ). at (set (o .bits) i z) x) q ∙ getD-set-same (o .bits) i z (pos 0) (omega (arith, r .long .0))) e))
-    on j hj e (no q) =
-        let s : (2 ≤ getD m j 0) × (getD m j 0 ≤ 3) = r .found j hj (subst (λ (x : ℤ). 1 ≤ magnitude x) (getD-set-other (o .bits) i j z (pos 0) q) e) in
-        g j hj q (s .0) (s .1)
-
-    at-plane : (j : ℕ) → j < I → 1 ≤ magAt (set (o .bits) i z) j → Dec (j ≡ i) → getD (set (o .planes) i b) j 0 ≡ getD (set (o′ .planes) i b) j 0
-    at-plane j hj e (yes q) =
-        ap (λ (x : ℕ). getD (set (o .planes) i b) x 0) q ∙ getD-set-same (o .planes) i b 0 (omega (arith, r .long .1))
-        ∙ sym (ap (λ (x : ℕ). getD (set (o′ .planes) i b) x 0) q ∙ getD-set-same (o′ .planes) i b 0 (omega (arith, r .long .2)))
-    at-plane j hj e (no q) =
-        getD-set-other (o .planes) i j b 0 q ∙ r .planes j hj (subst (λ (x : ℤ). 1 ≤ magnitude x) (getD-set-other (o .bits) i j z (pos 0) q) e) ∙ sym (getD-set-other (o′ .planes) i j b 0 q)
 
 -- both note a 0 at i in plane b
 same-zero : {I : ℕ} {m m′ : List ℕ} {o o′ : Known} (i b : ℕ) → ((j : ℕ) → j < I → 2 ≤ getD m j 0 → getD m j 0 ≤ 3 → (2 ≤ getD m′ j 0) × (getD m′ j 0 ≤ 3))
@@ -104,14 +97,8 @@ same-zero {I} {m} {m′} {o} {o′} i b g r = record {
   bits = r .bits;
   long = (r .long .0, length-set (o .planes) i b ∙ r .long .1, length-set (o′ .planes) i b ∙ r .long .2);
   found = λ j hj e. let s = r .found j hj e in g j hj (s .0) (s .1);
-  planes = λ j hj e. on j hj e (ℕ-discrete j i);
+  planes = λ j hj e. put-both (o .planes) (o′ .planes) i b j (omega (arith, hj, r .long .1)) (omega (arith, hj, r .long .2)) (λ q. r .planes j hj e);
 }
-  where
-    on : (j : ℕ) → j < I → 1 ≤ magAt (o .bits) j → Dec (j ≡ i) → getD (set (o .planes) i b) j 0 ≡ getD (set (o′ .planes) i b) j 0
-    on j hj e (yes q) =
-        ap (λ (x : ℕ). getD (set (o .planes) i b) x 0) q ∙ getD-set-same (o .planes) i b 0 (omega (arith, r .long .1))
-        ∙ sym (ap (λ (x : ℕ). getD (set (o′ .planes) i b) x 0) q ∙ getD-set-same (o′ .planes) i b 0 (omega (arith, r .long .2)))
-    on j hj e (no q) = getD-set-other (o .planes) i j b 0 q ∙ r .planes j hj e ∙ sym (getD-set-other (o′ .planes) i j b 0 q)
 
 -- a set of coefficients that were not found
 same-each : {I : ℕ} {m : List ℕ} {o o′ : Known} (l : List ℕ) (b : ℕ) → ((j : ℕ) → j < I → 2 ≤ getD m j 0 → getD m j 0 ≤ 3 → anyIn (λ x. eqb x j) l ≡ false) → Same I m o o′ → Same I m (testedZero l b o) o′
