@@ -1,6 +1,6 @@
--- The numbers for no, and the places reported (document 01, "Numbers for no").
+-- The numbers for no, and the places reported (document 01, "Numbers for no"; 14 to 16 document 02, T-01).
 use Prim.Native.Nat.{ℕ}
-use Rattle.refusals.specs.{declared.Refusal.Refusal, declared.Refusal.the-variants.Side, declared.Refusal.the-variants.Levels, declared.Refusal.the-variants.Length, declared.Refusal.the-variants.Coefficient, declared.Refusal.the-variants.Lent, declared.Refusal.the-variants.Output, declared.Refusal.the-variants.Letters, declared.Refusal.the-variants.Version, declared.Refusal.the-variants.Planes, declared.Refusal.the-variants.Surplus, declared.Refusal.the-variants.Padding, declared.Refusal.the-variants.Contradiction, declared.Refusal.the-variants.Beyond}
+use Rattle.refusals.specs.{declared.Refusal.Refusal, declared.Refusal.the-variants.Side, declared.Refusal.the-variants.Levels, declared.Refusal.the-variants.Length, declared.Refusal.the-variants.Coefficient, declared.Refusal.the-variants.Lent, declared.Refusal.the-variants.Output, declared.Refusal.the-variants.Letters, declared.Refusal.the-variants.Version, declared.Refusal.the-variants.Planes, declared.Refusal.the-variants.Surplus, declared.Refusal.the-variants.Padding, declared.Refusal.the-variants.Contradiction, declared.Refusal.the-variants.Beyond, declared.Refusal.the-variants.First, declared.Refusal.the-variants.Spent, declared.Refusal.the-variants.Record}
 
 -- column "no."
 abbrev pub numberOf : Refusal → ℕ
@@ -17,6 +17,9 @@ numberOf Surplus = 10
 numberOf Padding = 11
 numberOf (Contradiction bit) = 12
 numberOf (Beyond bit) = 13
+numberOf First = 14
+numberOf Spent = 15
+numberOf Record = 16
 
 -- column "place reported"
 abbrev pub placeOf : Refusal → ℕ
@@ -33,3 +36,6 @@ placeOf Surplus = 0
 placeOf Padding = 0
 placeOf (Contradiction bit) = bit
 placeOf (Beyond bit) = bit
+placeOf First = 0
+placeOf Spent = 0
+placeOf Record = 0

@@ -1,4 +1,4 @@
-// The numbers for no: one case for each line of document 01's table. A case holds the place that it reports, where that is not always 0.
+// The numbers for no: one case for each line of document 01's table, and for each that document 02 adds. A case holds the place that it reports, where that is not always 0.
 ghost use mathlib.Core.Path.{_≡_};
 ghost use Rattle.refusals.specs.Refusals.{numberOf, placeOf};
 
@@ -29,6 +29,12 @@ pub enum Refusal {
     Contradiction(u32),
     // 13: usable bits left where plane 0 has ended or P is 0; the first of them
     Beyond(u32),
+    // 14: a step back at bit 0
+    First,
+    // 15: a step forward with no usable bit left
+    Spent,
+    // 16: a scan record out of range, or whose bits used pass the usable ones
+    Record,
 }
 
 // The answer of a call that gives back nothing else: done, or refused.
@@ -55,6 +61,9 @@ pub fn number(why: Refusal) -> u32
         Refusal::Padding => 11,
         Refusal::Contradiction(_) => 12,
         Refusal::Beyond(_) => 13,
+        Refusal::First => 14,
+        Refusal::Spent => 15,
+        Refusal::Record => 16,
     }
 }
 
@@ -76,5 +85,8 @@ pub fn place(why: Refusal) -> u32
         Refusal::Padding => 0,
         Refusal::Contradiction(bit) => bit,
         Refusal::Beyond(bit) => bit,
+        Refusal::First => 0,
+        Refusal::Spent => 0,
+        Refusal::Record => 0,
     }
 }
