@@ -7,5 +7,7 @@ pub mod Seen
 pub mod Turns
 pub mod Rows
 pub mod OwnBits
+pub mod Before
+pub mod ValueSteps
 pub mod Greatest
 pub mod Tight

@@ -69,7 +69,7 @@ cut-with [] a r = refl
 cut-with (x ∷ u) a r = ap (λ (v : List Bool). x ∷ v) (cut-with u a r)
 
 -- the last bit of what fits is told
-last-told : (N : ℕ) (B : Bits) (s : State) (u : List Bool) (a : Bool) → Fit N B s (u ++ (a ∷ [])) → told N B (ask (allOf N) (reach (allOf N) s u)) a
+pub last-told : (N : ℕ) (B : Bits) (s : State) (u : List Bool) (a : Bool) → Fit N B s (u ++ (a ∷ [])) → told N B (ask (allOf N) (reach (allOf N) s u)) a
 unfolding reach
 last-told N B s [] a f = f .0
 last-told N B s (x ∷ u) a f = last-told N B (next (allOf N) s x) u a (f .1)

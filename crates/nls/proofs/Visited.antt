@@ -4,7 +4,7 @@ use mathlib.Core.Bool.{Bool, true, false}
 use mathlib.Core.List.{List}
 use Prim.Native.Nat.{ℕ, zero, suc, _+_, _*_, _/_, _%_, _≤_, _<_}
 use native.Mathlib.Omega.{arith}
-use native.Mathlib.Decide.{decLt, ℕ-discrete}
+use native.Mathlib.Decide.{decLt}
 use lib.ListN.{getD, set}
 use lib.Seq.{getD-set-same}
 use lib.Dec.{ltb, eqb, lit<, lit≤}
@@ -17,7 +17,7 @@ use Rattle.nls.proofs.Kept.{AfterMove}
 use Rattle.nls.proofs.Machine.Table.{Cfg, no-alone, skip-5}
 use Rattle.nls.proofs.Machine.Push.{sD-G, stands-G-on}
 use Rattle.nls.proofs.Machine.Split.{withA, withG}
-use Rattle.nls.proofs.Machine.Cover.{Core, Sets, Alone-at, Desc-at, Grand-at, is-alone, is-D, is-G, mark-D, split-kids, core-A, sets-G1, skip-1, sskip-small, sskip-big}
+use Rattle.nls.proofs.Machine.Cover.{Core, Sets, Alone-at, Desc-at, Grand-at, is-alone, is-D, is-G, mark-D, split-kids, core-A, core-G, sets-even, skip-1, sskip-small, sskip-big}
 use Rattle.nls.proofs.Machine.Steps.{Fam, preds, Good, Good-at, Good-look, Learned, On-ask, good-look, good-tell}
 use Rattle.nls.proofs.Machine.Start.{c0, pix-0, good-first}
 use Rattle.nls.proofs.Machine.Blocks.{after-block, after-four, at-0}
@@ -51,18 +51,18 @@ free-learned I (inGrand g b) false = ((λ o i h u. tt), λ j z. z)
 
 module _ {D I : ℕ} (sz : Tiled D I) (P : ℕ) where
   -- the place is the start of a block, or lies past the table
-  abbrev Begun : List ℕ → ℕ → Type 0
+  abbrev pub Begun : List ℕ → ℕ → Type 0
   Begun m i = i < I → getD m i 0 ≡ 0 → ⊥
 
   abbrev Shown : State → Type 0
   Shown s = Begun (s .marks) (s .place)
 
   -- past a coefficient
-  past-one : (c : Cfg) (m : List ℕ) → Core sz c m → (i : ℕ) → i < I → (getD m i 0 ≡ 0 → ⊥) → getD m i 0 < 5 → Begun m (i + 1)
+  pub past-one : (c : Cfg) (m : List ℕ) → Core sz c m → (i : ℕ) → i < I → (getD m i 0 ≡ 0 → ⊥) → getD m i 0 < 5 → Begun m (i + 1)
   past-one c m k i h n s = subst (λ (x : ℕ). Begun m (i + x)) (skip-1 (getD m i 0) s) (after-block sz c m k i h n)
 
   -- past one that has got the mark v
-  past-marked : (c : Cfg) (m : List ℕ) → Core sz c m → (i v : ℕ) → i < I → 1 ≤ getD m i 0 → getD m i 0 < 5 → 1 ≤ v → v ≤ 4 → Begun (set m i v) (i + 1)
+  pub past-marked : (c : Cfg) (m : List ℕ) → Core sz c m → (i v : ℕ) → i < I → 1 ≤ getD m i 0 → getD m i 0 < 5 → 1 ≤ v → v ≤ 4 → Begun (set m i v) (i + 1)
   past-marked c m k i v h lo hi v1 v4 =
       let it : Alone-at D I c m i = is-alone sz c m k i h lo hi in
       let now : getD (set m i v) i 0 ≡ v = getD-set-same m i v 0 (omega (arith, h, k .len)) in
@@ -89,15 +89,10 @@ module _ {D I : ℕ} (sz : Tiled D I) (P : ℕ) where
       p : Sets sz (preds free b) (λ j. Unit {0}) i (g .1 .0) m
       p = g .1 .1
 
-      -- at a place that is no multiple of 4 the mark is MCP
-      aligned : Dec (i % 4 ≡ 0) → i % 4 ≡ 0
-      aligned (yes z) = z
-      aligned (no z) = absurd (eqb-false (getD m i 0) 4 ec (p .core .tab .solo i hi ((p .ali z) .1) ∙ (p .ali z) .2))
-
       on : Dec (getD m i 0 < 5) → Begun m (i + setSkip (getD m i 0))
       on (yes z) =
           subst (λ (x : ℕ). Begun m (i + x)) (sym (sskip-small (getD m i 0) z))
-          (after-four sz (g .1 .0) m (p .core) i hi (aligned (ℕ-discrete (i % 4) 0)) ((is-alone sz (g .1 .0) m (p .core) i hi (omega (arith, r hi)) z) .0))
+          (after-four sz (g .1 .0) m (p .core) i hi (sets-even sz (preds free b) (λ j. Unit {0}) i (g .1 .0) m p hi (eqb-false (getD m i 0) 4 ec)) ((is-alone sz (g .1 .0) m (p .core) i hi (omega (arith, r hi)) z) .0))
       on (no z) =
           subst (λ (x : ℕ). Begun m (i + x)) (sym (sskip-big (getD m i 0) (omega (arith, z)))) (after-block sz (g .1 .0) m (p .core) i hi (r hi))
 
@@ -132,7 +127,7 @@ module _ {D I : ℕ} (sz : Tiled D I) (P : ℕ) where
       let hi : i < I = ltb-true i I ex in past-one (g .1 .0) m (g .1 .1 .core) i hi (r hi) (omega (arith, eqb-true (getD m i 0) 1 ey))
 
   -- where GRAND was split there is MD
-  grand-split : (c : Cfg) (m : List ℕ) → Core sz c m → (i : ℕ) → i < I → getD m i 0 ≡ 6 → Core sz (withG (i / 16) c) (splitGrand I i m)
+  pub grand-split : (c : Cfg) (m : List ℕ) → Core sz c m → (i : ℕ) → i < I → getD m i 0 ≡ 6 → Core sz (withG (i / 16) c) (splitGrand I i m)
       → getD (splitGrand I i m) i 0 ≡ 5
   grand-split c m k i hi e6 kg =
       let s : Grand-at D I c i = is-G sz c m k i hi e6 in
@@ -158,7 +153,7 @@ module _ {D I : ℕ} (sz : Tiled D I) (P : ℕ) where
   told-sets b i m true false true c true ex ed eg ec g r =
       let hi : i < I = ltb-true i I ex in
       let e : getD m i 0 ≡ 6 = eqb-true (getD m i 0) 6 eg in
-      λ h z. omega (arith, z, grand-split (g .1 .0) m (g .1 .1 .core) i hi e (sets-G1 sz (preds free b) (λ j. Unit {0}) i (g .1 .0) m (g .1 .1) hi e tt .core))
+      λ h z. omega (arith, z, grand-split (g .1 .0) m (g .1 .1 .core) i hi e (core-G sz (g .1 .0) m (g .1 .1 .core) i hi e))
   told-sets b i m true false true c false ex ed eg ec g r =
       let hi : i < I = ltb-true i I ex in
       subst (λ (x : ℕ). Begun m (i + x)) (ap skip (eqb-true (getD m i 0) 6 eg) ∙ skip-5 6 (lit≤ tt) (lit< tt))

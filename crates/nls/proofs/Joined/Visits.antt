@@ -41,7 +41,7 @@ low-small [] i v h w = w
 low-small (x ∷ l) zero v h w = h
 low-small (x ∷ l) (suc i) v h w = w
 
-in-range : (l : List ℕ) (i : ℕ) → 1 ≤ getD l i 0 → i < length l
+pub in-range : (l : List ℕ) (i : ℕ) → 1 ≤ getD l i 0 → i < length l
 in-range l i h = ⊎-elim (λ o. absurd (omega (arith, h, List·getD-eq-default l 0 {n = i} o))) (λ o. o) (order (length l) i)
 
 -- how often a place may be visited again

@@ -18,7 +18,7 @@ use Rattle.nls.proofs.Arrays.{Bits, _⊑_, told, Fit}
 use Rattle.nls.proofs.Judging.Most.{most, afterO}
 use Rattle.nls.proofs.Reading.Know.{least, knowO, belowO}
 use Rattle.nls.proofs.Machine.Table.{Cfg, alone, stands, no-alone, no-stands, alone-no}
-use Rattle.nls.proofs.Machine.Cover.{Core, is-alone, is-D, is-G, mark-D, sskip-small, Desc-at, Grand-at, Alone-at}
+use Rattle.nls.proofs.Machine.Cover.{Core, is-alone, is-D, is-G, mark-D, sets-even, sskip-small, Desc-at, Grand-at, Alone-at}
 use Rattle.nls.proofs.Machine.Steps.{Good, Good-at, good-next, good-mono}
 use Rattle.nls.proofs.Judging.Clash.{Valid}
 use Rattle.nls.proofs.Machine.Start.{nothing, good-start, first}
@@ -103,11 +103,7 @@ module _ (N : ℕ) {D : ℕ} (P : ℕ) (sz : Tiled D (4 ^ N)) where
           kk = z .1 .1 .g .core
 
           four : i % 4 ≡ 0
-          four = go (ℕ-discrete (i % 4) 0)
-            where
-              go : Dec (i % 4 ≡ 0) → i % 4 ≡ 0
-              go (yes h) = h
-              go (no h) = let r : (i < I) × (alone D I (z .1 .0) i ≡ true) × ((z .1 .0) .al i ≡ 4) = z .1 .1 .g .ali h in absurd (eqb-false _ _ ec (kk .tab .solo i hi (r .1) ∙ r .2))
+          four = sets-even sz _ _ i (z .1 .0) m (z .1 .1 .g) hi (eqb-false (getD m i 0) 4 ec)
 
           low : i < D → getD m i 0 < 5
           low h = go (alone D I (z .1 .0) i) refl

@@ -16,7 +16,7 @@ use Rattle.nls.proofs.Machine.Split.{kind-no}
 use Rattle.nls.proofs.Machine.Cover.{Core, not-alone, is-D, skip-1}
 
 -- j is a multiple of 4^d
-abbrev Even : ℕ → ℕ → Type 0
+abbrev pub Even : ℕ → ℕ → Type 0
 Even zero j = Unit {0}
 Even (suc d) j = (j % 4 ≡ 0) × Even d (j / 4)
 
@@ -25,7 +25,7 @@ module _ {D I : ℕ} (sz : Tiled D I) (c : Cfg) (l : List ℕ) (k : Core sz c l)
   m j = getD l j 0
 
   -- a set's skip is a power of 4, and its place a multiple of it
-  abbrev Lies : ℕ → Type 0
+  abbrev pub Lies : ℕ → Type 0
   Lies j = (d : ℕ) × (skip (m j) ≡ 4 ^ suc d) × Even (suc d) j × (m j ≡ 5 → d ≡ 0) × ((m j ≡ 5 → ⊥) → 1 ≤ d)
 
   lies-fuel : (n j : ℕ) → j ≤ n → j < I → alone D I c j ≡ false → 5 ≤ m j → Lies j
@@ -58,7 +58,7 @@ module _ {D I : ℕ} (sz : Tiled D I) (c : Cfg) (l : List ℕ) (k : Core sz c l)
               go (yes y) = omega (arith, up-5 x h y)
               go (no y) = omega (arith, up-7 x (omega arith))
 
-  lies : (j : ℕ) → j < I → 5 ≤ m j → Lies j
+  pub lies : (j : ℕ) → j < I → 5 ≤ m j → Lies j
   lies j ji big = lies-fuel j j (omega arith) ji (not-alone sz c l k j ji big) big
 
   -- a place without a mark lies inside a block

@@ -48,7 +48,7 @@ unfolding setSkip
 sskip-big v h = rw (le-ltb v 5 h, setSkip)
 
 -- a set's skip is a multiple of 4
-skip-mod : (v : ℕ) → 5 ≤ v → skip v % 4 ≡ 0
+pub skip-mod : (v : ℕ) → 5 ≤ v → skip v % 4 ≡ 0
 skip-mod v h = go (decLt v 7)
   where
     go : Dec (v < 7) → skip v % 4 ≡ 0
@@ -94,7 +94,7 @@ four-out i v l k n =
     ∙ getD-set-other l i k v 0 (λ z. n (omega arith) (omega arith))
 
 -- what a split of DESC writes
-length-split : (I t : ℕ) (l : List ℕ) (x : Bool) → length (splitDesc I t l x) ≡ length l
+pub length-split : (I t : ℕ) (l : List ℕ) (x : Bool) → length (splitDesc I t l x) ≡ length l
 length-split I t l true = length-set (four t 4 l) (4 * t) 6 ∙ length-four t 4 l
 length-split I t l false = length-four t 4 l
 
@@ -103,11 +103,11 @@ module _ (I t : ℕ) (l : List ℕ) (len : length l ≡ I) (fits : t + 3 < I) (t
   split-kids true k a b = getD-set-other (four t 4 l) (4 * t) k 6 0 (λ z. omega arith) ∙ four-in t 4 l k (omega arith) a b
   split-kids false k a b = four-in t 4 l k (omega arith) a b
 
-  split-below : (x : Bool) → ltb (4 * t) I ≡ x → 4 * t < I → getD (splitDesc I t l x) (4 * t) 0 ≡ 6
+  pub split-below : (x : Bool) → ltb (4 * t) I ≡ x → 4 * t < I → getD (splitDesc I t l x) (4 * t) 0 ≡ 6
   split-below true e h = getD-set-same (four t 4 l) (4 * t) 6 0 (omega (arith, length-four t 4 l))
   split-below false e h = absurd (omega (arith, ltb-false (4 * t) I e))
 
-  split-rest : (x : Bool) (k : ℕ) → (t ≤ k → k < t + 4 → ⊥) → (k ≡ 4 * t → ⊥) → getD (splitDesc I t l x) k 0 ≡ getD l k 0
+  pub split-rest : (x : Bool) (k : ℕ) → (t ≤ k → k < t + 4 → ⊥) → (k ≡ 4 * t → ⊥) → getD (splitDesc I t l x) k 0 ≡ getD l k 0
   split-rest true k a b = getD-set-other (four t 4 l) (4 * t) k 6 0 b ∙ four-out t 4 l k a
   split-rest false k a b = four-out t 4 l k a
 
@@ -502,6 +502,14 @@ module _ {D I : ℕ} (sz : Tiled D I) where
       let z : (alone D I c (16 * q) ≡ false) × (getD l (16 * q) 0 ≡ 0) = gap sz c (λ i. getD l i 0) (k .ok) (k .tab) t ti (not-alone c l k t ti big) big (16 * q) x y b in
       omega (arith, z .1, mark-G c l k q a b s n)
 
+  -- the set pass stands at a multiple of 4, or at MCP
+  pub sets-even : (R : Preds) (X : ℕ → Type 0) (t : ℕ) (c : Cfg) (l : List ℕ) → Sets R X t c l → t < I → (getD l t 0 ≡ 4 → ⊥) → t % 4 ≡ 0
+  sets-even R X t c l p ti n = on (ℕ-discrete (t % 4) 0)
+    where
+      on : Dec (t % 4 ≡ 0) → t % 4 ≡ 0
+      on (yes z) = z
+      on (no z) = absurd (n (p .core .tab .solo t ti ((p .ali z) .1) ∙ (p .ali z) .2))
+
   -- The set pass goes on past t to t + w, with no MCP at t, if nothing stands between, but perhaps a set at t that is settled
   sets-on : (R : Preds) (X : ℕ → Type 0) (t w : ℕ) (c : Cfg) (l : List ℕ) → Sets R X t c l → t < I → (getD l t 0 ≡ 4 → ⊥) → w % 4 ≡ 0
       → ((h : ℕ) → D ≤ 4 * h → 4 * h < I → t ≤ 4 * h → 4 * h < t + w → stands D I c h ≡ true → c .sD h ≡ false → (i : ℕ) → i < I → Under h i → X i)
@@ -522,11 +530,7 @@ module _ {D I : ℕ} (sz : Tiled D I) where
       no-four a e = n (p .core .tab .solo t ti a ∙ e)
 
       even : t % 4 ≡ 0
-      even = go (ℕ-discrete (t % 4) 0)
-        where
-          go : Dec (t % 4 ≡ 0) → t % 4 ≡ 0
-          go (yes z) = z
-          go (no z) = absurd (no-four ((p .ali z) .1) ((p .ali z) .2))
+      even = sets-even R X t c l p ti n
 
       dD′ : (h : ℕ) → D ≤ 4 * h → 4 * h < I → 4 * h < t + w → stands D I c h ≡ true → c .sD h ≡ false → Dec (4 * h < t) → (i : ℕ) → i < I → Under h i → X i
       dD′ h a b z s d (yes y) = p .dD h a b y s d
@@ -551,11 +555,7 @@ module _ {D I : ℕ} (sz : Tiled D I) where
       here-G q a b s d e = n6 (ap (λ (i : ℕ). getD l i 0) (sym e) ∙ mark-G c l k q a b s d)
 
       even : t % 4 ≡ 0
-      even = ev (ℕ-discrete (t % 4) 0)
-        where
-          ev : Dec (t % 4 ≡ 0) → t % 4 ≡ 0
-          ev (yes z) = z
-          ev (no z) = absurd (n4 (k .tab .solo t ti ((p .ali z) .1) ∙ (p .ali z) .2))
+      even = sets-even R X t c l p ti n4
 
       go : Dec (getD l t 0 < 5) → Sets R X (t + setSkip (getD l t 0)) c l
       go (yes z) =
@@ -787,15 +787,28 @@ module _ {D I : ℕ} (sz : Tiled D I) where
           (omega arith, subst (λ (x : ℕ). c .sD x ≡ true) e ey, subst (λ (x : ℕ). c .sG x ≡ false) e ((no-stands D I c (t / 4) ex) .1), omega (arith, (no-stands D I c (t / 4) ex) .0), a)
       go (yes z) false ex (yes w) false ey = absurd (up-6-no (getD l (t / 4) 0) (decLt _ 5) (decLt _ 7) (sym (k .tab .deep t ti a z ex w ey) ∙ m))
 
+  -- the table after a split of GRAND
+  pub core-G : (c : Cfg) (l : List ℕ) → Core c l → (t : ℕ) → t < I → getD l t 0 ≡ 6 → Core (withG (t / 16) c) (splitGrand I t l)
+  core-G c l k t ti m = record {
+    len = subst (λ (x : ℕ). length (splitGrand I x l) ≡ I) (sym (is .0)) (len-G sz c (k .ok) l (k .len) (k .tab) q (is .3) q-hi (is .1) (is .2));
+    ok = ok-G sz c (k .ok) l (k .len) (k .tab) q (is .3) q-hi (is .1) (is .2);
+    tab = subst (λ (x : ℕ). Table D I (withG q c) (λ j. getD (splitGrand I x l) j 0)) (sym (is .0)) (table-G sz c (k .ok) l (k .len) (k .tab) q (is .3) q-hi (is .1) (is .2));
+    rng = λ j hj a. subst (λ (x : ℕ). (1 ≤ x) × (x ≤ 4)) (sym (al-G q c j)) (k .rng j hj (sym (alone-G D I q c j) ∙ a));
+  }
+    where
+      q : ℕ
+      q = t / 16
+
+      is : Grand-at D I c t
+      is = is-G c l k t ti m
+
+      q-hi : 16 * q < I
+      q-hi = omega (arith, is .0)
+
   -- MG answered 1
   pub sets-G1 : (R : Preds) (X : ℕ → Type 0) (t : ℕ) (c : Cfg) (l : List ℕ) → Sets R X t c l → t < I → getD l t 0 ≡ 6 → R .QG (t / 16) → Sets R X t (withG (t / 16) c) (splitGrand I t l)
   sets-G1 R X t c l p ti m y = record {
-    core = record {
-      len = subst (λ (x : ℕ). length (splitGrand I x l) ≡ I) (sym (is .0)) (len-G sz c (k .ok) l (k .len) (k .tab) q (is .3) q-hi (is .1) (is .2));
-      ok = ok-G sz c (k .ok) l (k .len) (k .tab) q (is .3) q-hi (is .1) (is .2);
-      tab = subst (λ (x : ℕ). Table D I (withG q c) (λ j. getD (splitGrand I x l) j 0)) (sym (is .0)) (table-G sz c (k .ok) l (k .len) (k .tab) q (is .3) q-hi (is .1) (is .2));
-      rng = λ j hj a. subst (λ (x : ℕ). (1 ≤ x) × (x ≤ 4)) (sym (al-G q c j)) (k .rng j hj (was j a));
-    };
+    core = core-G c l k t ti m;
     more = more-G R q c (p .more) y;
     four = λ j hj a e. absurd (no-four ((p .four j hj (was j a) (sym (al-G q c j) ∙ e)) .2));
     grp = λ z a e. absurd (no-four (was t a));
@@ -813,9 +826,6 @@ module _ {D I : ℕ} (sz : Tiled D I) where
 
       is : Grand-at D I c t
       is = is-G c l k t ti m
-
-      q-hi : 16 * q < I
-      q-hi = omega (arith, is .0)
 
       was : (j : ℕ) → alone D I (withG q c) j ≡ true → alone D I c j ≡ true
       was j a = sym (alone-G D I q c j) ∙ a

@@ -26,7 +26,7 @@ asked-left : (I l : ℕ) (p : Pass) (i : ℕ) (w : Bool) (m : List ℕ) (q : Que
 asked-left I zero p i w m q e = let bad : _≡_ {A = ℕ} 0 1 = cc in omega arith
 asked-left I (suc b) p i w m q e = omega arith
 
-ask-left : (I : ℕ) (s : State) (q : Question) → ask I s ≡ some q → 1 ≤ s .left
+pub ask-left : (I : ℕ) (s : State) (q : Question) → ask I s ≡ some q → 1 ≤ s .left
 unfolding ask
 ask-left I s q e = asked-left I (s .left) (s .pass) (s .place) (s .pending) (s .marks) q e
 

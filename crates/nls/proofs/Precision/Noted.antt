@@ -32,7 +32,7 @@ unfolding setEach
 each-length [] v planes = refl
 each-length (j ∷ l) v planes = each-length l v (set planes j v) ∙ length-set planes j v
 
-each-plane : (l : List ℕ) (v : ℕ) (planes : List ℕ) (i : ℕ) → i < length planes → getD (setEach l v planes) i 0 ≡ cond (anyIn (λ j. eqb j i) l) v (getD planes i 0)
+pub each-plane : (l : List ℕ) (v : ℕ) (planes : List ℕ) (i : ℕ) → i < length planes → getD (setEach l v planes) i 0 ≡ cond (anyIn (λ j. eqb j i) l) v (getD planes i 0)
 unfolding setEach anyIn
 each-plane [] v planes i h = refl
 each-plane (j ∷ l) v planes i h =

@@ -215,7 +215,7 @@ four-two (suc p) =
     pow-succ' 4 p ∙ ap (λ (x : ℕ). 4 * x) (four-two p) ∙ sym (ap (λ (x : ℕ). 2 ^ x) e ∙ pow-succ' 2 (suc (2 * p)) ∙ ap (λ (x : ℕ). 2 * x) (pow-succ' 2 (2 * p)) ∙ omega arith)
 
 -- a multiple of a power of 4 that is below a higher one
-room-four : (p n x q : ℕ) → x ≡ q * 4 ^ p → 1 ≤ x → x < 4 ^ n → x + 4 ^ p ≤ 4 ^ n
+pub room-four : (p n x q : ℕ) → x ≡ q * 4 ^ p → 1 ≤ x → x < 4 ^ n → x + 4 ^ p ≤ 4 ^ n
 room-four p n x q e h l = ⊎-elim low (λ k. absurd (high k)) (order p n)
   where
     multiple : x % 2 ^ (2 * p) ≡ 0

@@ -11,13 +11,13 @@ use lib.Dec.{ltb, eqb}
 use borrow.Author.Tests.{eqb-true, eq-eqb, lt-ltb}
 use Rattle.sizes.proofs.Laws.{both-left, both-right, both}
 use Rattle.tree.proofs.Lists.{or-left, or-right}
-use Rattle.nls.specs.Scan.{State, Look, over, silent, asks, Question, bitOf, signOf, inDesc, inGrand, look, ask, asked, next, reach}
+use Rattle.nls.specs.Scan.{State, Look, over, silent, asks, Question, bitOf, signOf, inDesc, inGrand, look, tell, ask, asked, next, reach}
 use Rattle.nls.proofs.Tiled.{Tiled}
 use Rattle.nls.proofs.Booleans.{or-cases}
 use Rattle.nls.proofs.Arrays.{Bits, inside, ans, below, _⊑_, told, any-find, member, Fit}
 use Rattle.nls.proofs.Reading.Know.{least, know, knowO, know-grows, know-one, know-other, know-sign, know-sgn-has, know-neg}
 use Rattle.nls.proofs.Machine.Cover.{Under, kid, far}
-use Rattle.nls.proofs.Machine.Steps.{Fam, withZ, Good, Learned, On-ask, good-next, good-mono}
+use Rattle.nls.proofs.Machine.Steps.{Fam, withZ, Good, Learned, On-ask, good-tell, good-settle, good-mono}
 
 pub under-ge : (g i : ℕ) → Under g i → 4 * g ≤ i
 under-ge g i (kid e) = omega arith
@@ -101,11 +101,16 @@ module _ (N : ℕ) {D : ℕ} (P : ℕ) (sz : Tiled D (4 ^ N)) where
   abbrev pub Ok-at : Fam → State → Type 0
   Ok-at F s = Good sz P F s
 
-  pub one-bit : (A k : Bits) (s : State) (a : Bool) → Ok-at (fam N A k) s → told N A (ask (4 ^ N) s) a → Ok-at (fam N A (knowO (ask (4 ^ N) s) a k)) (next (4 ^ N) s a)
+  -- one answer, before the silent moves after it
+  pub one-tell : (A k : Bits) (s : State) (a : Bool) → Ok-at (fam N A k) s → told N A (ask (4 ^ N) s) a → Ok-at (fam N A (knowO (ask (4 ^ N) s) a k)) (tell (4 ^ N) s a)
   unfolding ask _⊑_
-  one-bit A k s a g t = good-next sz P (withZ (fam N A (knowO (ask (4 ^ N) s) a k)) (Zof k)) (Zof (knowO (ask (4 ^ N) s) a k)) s a
+  one-tell A k s a g t = good-tell sz P (withZ (fam N A (knowO (ask (4 ^ N) s) a k)) (Zof k)) (Zof (knowO (ask (4 ^ N) s) a k)) (s .left) (s .pass) (s .place) (s .pending) (s .marks) a
       (good-mono sz P (fam N A k) (withZ (fam N A (knowO (ask (4 ^ N) s) a k)) (Zof k))
       (λ b j z h. growsO (ask (4 ^ N) s) a k j b (z h)) (negO N A k (ask (4 ^ N) s) a t) (λ b j z. z) (λ b j z. z) (λ j z. z) s g) (on-ask N A k a (look (4 ^ N) s) t)
+
+  pub one-bit : (A k : Bits) (s : State) (a : Bool) → Ok-at (fam N A k) s → told N A (ask (4 ^ N) s) a → Ok-at (fam N A (knowO (ask (4 ^ N) s) a k)) (next (4 ^ N) s a)
+  unfolding next
+  one-bit A k s a g t = good-settle sz P (fam N A (knowO (ask (4 ^ N) s) a k)) (tell (4 ^ N) s a) (one-tell A k s a g t)
 
   -- along a run
   pub run : (A k : Bits) (s : State) (u : List Bool) → Ok-at (fam N A k) s → Fit N A s u → Ok-at (fam N A (least N s u k)) (reach (4 ^ N) s u)
