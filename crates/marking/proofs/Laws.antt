@@ -12,7 +12,7 @@ use lib.ListN.{length, replicate, take, drop, set, length-replicate}
 use lib.Seq.{drop-length, length-take-le}
 use Rattle.sizes.specs.Sizes.{mostN, allOf, sideFits}
 use Rattle.sizes.proofs.Laws.{both-left, both-right}
-use Rattle.nls.specs.Marks.{MN, skip, setSkip, pushFrom, push, pushRoots, startMarks}
+use Rattle.nls.specs.Marks.{MN, skip, setSkip, pushFrom, push, splitGrand, pushRoots, startMarks}
 use Rattle.nls.proofs.Machine.Run.{skip-pos}
 use Rattle.marking.specs.Marking.{codesEnd, skipOf, setSkipOf, pushMost, newDesc, descSplitMarks, grandSplitMarks, inTable, startFits}
 
@@ -123,12 +123,12 @@ pub push-out : (I k j : ℕ) (m x : List ℕ) → pushFrom I (codesEnd - k) j k 
 push-out I k j m x e h = sym (push-past I (codesEnd - k) j k m h) ∙ e
 
 -- f steps from j on lead past I
-abbrev Far : ℕ → ℕ → ℕ → Type 0
+abbrev pub Far : ℕ → ℕ → ℕ → Type 0
 Far I zero j = I ≤ j
 Far I (suc f) j = Far I f (4 * j)
 
 -- more steps than lead past I change nothing
-push-enough : (I f F j k : ℕ) (m : List ℕ) → 1 ≤ j → Far I f j → I ≤ F + j → pushFrom I f j k m ≡ pushFrom I F j k m
+pub push-enough : (I f F j k : ℕ) (m : List ℕ) → 1 ≤ j → Far I f j → I ≤ F + j → pushFrom I f j k m ≡ pushFrom I F j k m
 unfolding pushFrom
 push-enough I zero F j k m a e g = sym (push-past I F j k m e)
 push-enough I (suc f) zero j k m a e g = push-past I (suc f) j k m (omega arith)
@@ -142,6 +142,21 @@ push-enough I (suc f) (suc F) j k m a e g = go (ltb j I) refl (push-enough I f F
 -- from place 4 on each code once is enough
 pub push-most : (I i : ℕ) (m : List ℕ) → I ≤ allOf mostN → 4 ≤ i → pushMost I i m ≡ push I i m
 push-most I i m h w = push-enough I (codesEnd - MN 2) I (4 * i) (MN 2) m (omega arith) (omega arith) (omega arith)
+
+-- the code's split of a GRAND is the machine's
+pub grand-is : (I i : ℕ) (m : List ℕ) → I ≤ allOf mostN → 4 ≤ i → grandSplitMarks I i m ≡ splitGrand I i m
+grand-is I i m h w =
+    let e0 : newDesc I i m ≡ push I i (set m i 5) = push-most I i (set m i 5) h w in
+    let m1 : List ℕ = push I i (set m i 5) in
+    let e1 : newDesc I (i + 4) m1 ≡ push I (i + 4) (set m1 (i + 4) 5) = push-most I (i + 4) (set m1 (i + 4) 5) h (omega arith) in
+    let m2 : List ℕ = push I (i + 4) (set m1 (i + 4) 5) in
+    let e2 : newDesc I (i + 8) m2 ≡ push I (i + 8) (set m2 (i + 8) 5) = push-most I (i + 8) (set m2 (i + 8) 5) h (omega arith) in
+    let m3 : List ℕ = push I (i + 8) (set m2 (i + 8) 5) in
+    let e3 : newDesc I (i + 12) m3 ≡ push I (i + 12) (set m3 (i + 12) 5) = push-most I (i + 12) (set m3 (i + 12) 5) h (omega arith) in
+    ap (λ (x : List ℕ). newDesc I (i + 12) (newDesc I (i + 8) (newDesc I (i + 4) x))) e0
+    ∙ ap (λ (x : List ℕ). newDesc I (i + 12) (newDesc I (i + 8) x)) e1
+    ∙ ap (λ (x : List ℕ). newDesc I (i + 12) x) e2
+    ∙ e3
 
 -- ---- the roots
 

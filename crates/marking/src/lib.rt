@@ -26,7 +26,7 @@ pub const MG: u8 = 6;
 pub const MN2: u8 = 7;
 
 // Behind the last of them: MNk is k + 5, and k is below N.
-const CODES_END: u8 = sizes::MOST_N as u8 + 5;
+pub const CODES_END: u8 = sizes::MOST_N as u8 + 5;
 
 // How far a mark is skipped in the pixel and the refinement pass.
 pub fn skip(mark: u8) -> usize

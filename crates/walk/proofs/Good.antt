@@ -10,15 +10,15 @@ use lib.Dec.{ltb, eqb}
 use borrow.Author.Tests.{lt-ltb, ltb-true, ltb-false, eqb-true}
 use Rattle.sizes.specs.Sizes.{leastN, mostN, allOf}
 use Rattle.sizes.proofs.Laws.{all-most}
-use Rattle.nls.specs.Marks.{skip, setSkip, push, splitGrand}
+use Rattle.nls.specs.Marks.{skip, setSkip, splitGrand}
 use Rattle.nls.specs.Scan.{Question, bitOf, signOf, inDesc, inGrand, Pass, pixels, sets, refining, State, stateAt, over, silent, asks, look, tell}
 use Rattle.nls.specs.Turns.{standing}
 use Rattle.nls.proofs.Machine.Run.{skip-pos, sskip-pos}
 use Rattle.nls.proofs.Joined.Codes.{Codes, set-low, codes-desc, codes-grand, far}
 use Rattle.walk.specs.Scans.{Seen, halt, refuse, move}
-use Rattle.marking.specs.Marking.{codesEnd, skipOf, setSkipOf, newDesc, descSplitMarks, grandSplitMarks}
+use Rattle.marking.specs.Marking.{codesEnd, skipOf, setSkipOf, descSplitMarks, grandSplitMarks}
 use Rattle.walk.specs.Visits.{Source, more, got, Sv, sv, oneSeen, testSeen, pixelsSeen, setsSeen, refiningSeen}
-use Rattle.marking.proofs.Laws.{skip-is, set-skip-is, push-most}
+use Rattle.marking.proofs.Laws.{skip-is, set-skip-is, grand-is}
 
 abbrev pub state : ℕ → Pass → ℕ → Bool → List ℕ → State
 state l p i e m = record { left = l; pass = p; place = i; pending = e; marks = m }
@@ -70,21 +70,6 @@ abbrev pub Good : {O : Type 0} → Source O → ℕ → (State → O → Type 0)
 Good K N P b p i n (halt v) = Stopped K (4 ^ N) P (suc b) (standing (4 ^ N) p i) v
 Good K N P b p i n (refuse v) = Barred K (4 ^ N) P (suc b) v
 Good K N P b p i n (move j v) = Moved K N P b p i n j v
-
--- the code's split of a GRAND is the machine's
-pub grand-is : (I i : ℕ) (m : List ℕ) → I ≤ allOf mostN → 4 ≤ i → grandSplitMarks I i m ≡ splitGrand I i m
-grand-is I i m h w =
-    let e0 : newDesc I i m ≡ push I i (set m i 5) = push-most I i (set m i 5) h w in
-    let m1 : List ℕ = push I i (set m i 5) in
-    let e1 : newDesc I (i + 4) m1 ≡ push I (i + 4) (set m1 (i + 4) 5) = push-most I (i + 4) (set m1 (i + 4) 5) h (omega arith) in
-    let m2 : List ℕ = push I (i + 4) (set m1 (i + 4) 5) in
-    let e2 : newDesc I (i + 8) m2 ≡ push I (i + 8) (set m2 (i + 8) 5) = push-most I (i + 8) (set m2 (i + 8) 5) h (omega arith) in
-    let m3 : List ℕ = push I (i + 8) (set m2 (i + 8) 5) in
-    let e3 : newDesc I (i + 12) m3 ≡ push I (i + 12) (set m3 (i + 12) 5) = push-most I (i + 12) (set m3 (i + 12) 5) h (omega arith) in
-    ap (λ (x : List ℕ). newDesc I (i + 12) (newDesc I (i + 8) (newDesc I (i + 4) x))) e0
-    ∙ ap (λ (x : List ℕ). newDesc I (i + 12) (newDesc I (i + 8) x)) e1
-    ∙ ap (λ (x : List ℕ). newDesc I (i + 12) x) e2
-    ∙ e3
 
 module _ {O : Type 0} (K : Source O) (N : ℕ) (P : State → O → Type 0) (w : Keeps K (4 ^ N) P) (two : leastN ≤ N) (most : N ≤ mostN) where
   abbrev pub I : ℕ

@@ -1,0 +1,5 @@
+pub mod Passes
+pub mod Looks
+pub mod Tells
+pub mod Laws
+pub mod Decided
