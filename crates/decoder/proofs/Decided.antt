@@ -1,4 +1,4 @@
--- The contract of `decode` decides its outcome: the answer, and what is lent to be written holds afterwards.
+-- The contract of each public function decides its outcome: the answer, and what is lent to be written holds afterwards.
 use mathlib.Core.Path.{_≡_, refl, sym, ap, _∙_}
 use mathlib.Core.Bool.{Bool}
 use mathlib.Core.List.{List}
@@ -8,7 +8,7 @@ use lib.ListN.{length}
 use Rattle.refusals.specs.Checks.{firstOf}
 use Rattle.refusals.specs.declared.Outcome.{Outcome}
 use Rattle.refusals.specs.declared.Outcome.the-variants as outcome
-use Rattle.refusals.proofs.Decided.{OneOutcome}
+use Rattle.refusals.proofs.Decided.{OneAnswer, OneOutcome}
 use Rattle.sizes.specs.Sizes.{Sized, allOf}
 use Rattle.sizes.proofs.Laws.{sized}
 use Rattle.nls.specs.Judging.{Verdict}
@@ -18,6 +18,14 @@ use Rattle.room.proofs.Laws.{decode-ready}
 use Rattle.decoder.specs.Body.{readAnswer, Tables, tables, ownTables, over, BodyRead, ReadsTo, Reads}
 use Rattle.decoder.specs.declared.body.ReadAnswer.{ReadAnswer}
 use Rattle.decoder.proofs.body.decode.Reads as decode
+use Rattle.decoder.proofs.finish.value_of.Reads as value-of
+use Rattle.decoder.proofs.reading.bars_zero.Reads as bars-zero
+
+pub value-of-decided : OneAnswer value-of.Learnt
+value-of-decided k args r r' s s' p q = p ∙ sym q
+
+pub bars-zero-decided : OneAnswer bars-zero.Learnt
+bars-zero-decided k args r r' s s' p q = p ∙ sym q
 
 -- two readings of one body have one verdict
 decoded-one : (N L P : ℕ) (u : List Bool) (held : Tables) → Sized N L → (r r' : ReadAnswer) (t t' : Tables) → BodyRead N L P u held r t → BodyRead N L P u held r' t' → (r ≡ r') × (t ≡ t')

@@ -8,9 +8,8 @@ use native.Mathlib.Omega.{arith}
 use lib.IntN.{ℤ, pos}
 use lib.ListN.{length, take, drop, replicate}
 use lib.Seq.{length-take-le}
-use lib.Pow.{pow-mono}
 use Rattle.refusals.specs.declared.Refusal.the-variants.{Contradiction, Beyond}
-use Rattle.sizes.specs.Sizes.{mostPlanes, allOf, coarsestOf, Sized}
+use Rattle.sizes.specs.Sizes.{allOf, coarsestOf, Sized}
 use Rattle.sizes.specs.Tables.{table}
 use Rattle.sizes.proofs.Laws.{side-least, side-most, sized, coarsest-least}
 use Rattle.bits.specs.Bits.{bitsOf}
@@ -31,6 +30,7 @@ use Rattle.decoder.specs.Body.{Tables, tables, zeros, ownTables, over, B
 use Rattle.decoder.specs.Calls.{ReadReady}
 use Rattle.decoder.specs.declared.body.ReadAnswer.{ReadAnswer}
 use Rattle.decoder.specs.declared.body.ReadAnswer.the-variants.{Done, Refused}
+use Rattle.decoder.proofs.ValueLaws.{level-one}
 use Rattle.decoder.proofs.FinishLaws.{whole}
 use Rattle.decoder.proofs.StoodLaws.{values-are, precisions-are}
 use Rattle.decoder.proofs.Received.{Matches, reads}
@@ -174,7 +174,7 @@ module _ (N L P values precisions marks : ℕ) (ready : ReadReady N L P values p
 
       -- 2^left as the machine shifts it
       pub power : (1 * 2 ^ left) % 4294967296 ≡ 2 ^ left
-      power = omega (arith, pow-mono {i = left} {j = mostPlanes} (omega (arith, left-in, ready .planes)))
+      power = level-one left (omega (arith, left-in, ready .planes))
 
       pub power-one : 1 ≤ (1 * 2 ^ left) % 4294967296
       power-one = omega (arith, power, one-le-pow left 2 (omega arith))

@@ -3,6 +3,7 @@ pub mod ValueLaws
 pub mod ReadTurns
 pub mod Coded
 pub mod Received
+pub mod NextBit
 pub mod FinishLaws
 pub mod StoodLaws
 pub mod DecodeLaws

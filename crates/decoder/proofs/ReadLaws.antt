@@ -5,10 +5,12 @@ use mathlib.Core.Bool.{Bool, true, false, _&&_}
 use mathlib.Core.List.{List}
 use native.Mathlib.Decide.{decLt}
 use native.Mathlib.Omega.{arith}
-use borrow.Author.Tests.{eq-eqb, ne-eqb, le-leb, lt-leb}
-use lib.Dec.{eqb}
+use borrow.Author.Tests.{eq-eqb, ne-eqb, le-leb, lt-leb, lt-ltb, leb-true, ltb-true}
+use lib.Dec.{eqb, ltb, leb}
 use lib.IntN.{ℤ}
 use lib.ListN.{length, set, getD}
+use Rattle.sizes.specs.Sizes.{mostN, mostPlanes, allOf}
+use Rattle.sizes.proofs.Laws.{both-left, both-right}
 use Rattle.bits.specs.declared.Next.{Next}
 use Rattle.bits.specs.declared.Next.the-variants.{Bit, NoMore}
 use Rattle.bits.specs.Bits.{bitAt}
@@ -19,7 +21,7 @@ use Rattle.nls.specs.Scan.{Question, bitOf, signOf, inDesc, inGrand, pixels, se
 use Rattle.walk.specs.Scans.{Seen, halt, refuse, move}
 use Rattle.marking.specs.Marking.{skipOf, setSkipOf, descSplitMarks, grandSplitMarks}
 use Rattle.walk.specs.Visits.{Source, got, Sv, sv, oneSeen, testSeen, pixelsSeen, setsSeen, refiningSeen, visitSeen}
-use Rattle.decoder.specs.Reading.{Read, read, newCode, moreCode, keep, is, childClash, grandClash, lastClash, rootClash, descClash, reader, st, Does}
+use Rattle.decoder.specs.Reading.{Read, read, newCode, moreCode, keep, is, childClash, grandClash, lastClash, rootClash, descClash, barsAt, barsFit, barsZero, reader, st, Does, Sizes}
 use Rattle.decoder.specs.declared.Turn.{Turn}
 use Rattle.decoder.specs.declared.Turn.the-variants.{Stop, Bad, Go}
 use Rattle.marking.proofs.Laws.{skip-low, skip-in, set-skip-in}
@@ -93,6 +95,92 @@ module _ (D P b used t : ℕ) where
   pub desc-2 : (m : List ℕ) (z : Bool) → t < 4 * D → z ≡ rootClash D P b used t → z ≡ descClash D P b used t m
   unfolding descClash
   desc-2 m z h w = rw (lt-leb (4 * D) t h) w
+
+-- ---- the same by the mark, for the stepped decoder
+
+module _ (I D P b used t : ℕ) (m : List ℕ) where
+  pub at-1 : (z : Bool) → getD m t 0 ≡ 4 → z ≡ childClash I t m → z ≡ barsAt I D P b used t m
+  unfolding barsAt
+  at-1 z e w = rw (eq-eqb (getD m t 0) 4 e) w
+
+  module _ (x : getD m t 0 ≡ 4 → ⊥) where
+    pub at-2 : (z : Bool) → getD m t 0 ≡ 5 → z ≡ descClash D P b used t m → z ≡ barsAt I D P b used t m
+    unfolding barsAt
+    at-2 z e w = rw (ne-eqb (getD m t 0) 4 x, eq-eqb (getD m t 0) 5 e) w
+
+    module _ (y : getD m t 0 ≡ 5 → ⊥) where
+      pub at-3 : (z : Bool) → getD m t 0 ≡ 6 → z ≡ grandClash t m → z ≡ barsAt I D P b used t m
+      unfolding barsAt
+      at-3 z e w = rw (ne-eqb (getD m t 0) 4 x, ne-eqb (getD m t 0) 5 y, eq-eqb (getD m t 0) 6 e) w
+
+      pub at-4 : (getD m t 0 ≡ 6 → ⊥) → false ≡ barsAt I D P b used t m
+      unfolding barsAt
+      at-4 z = rw (ne-eqb (getD m t 0) 4 x, ne-eqb (getD m t 0) 5 y, ne-eqb (getD m t 0) 6 z)
+
+-- what the sizes and the place have to be
+module _ (I D P left t : ℕ) where
+  pub fit-1 : allOf mostN < I → false ≡ barsFit I D P left t
+  unfolding barsFit
+  fit-1 h = rw (lt-leb I (allOf mostN) h)
+
+  module _ (near : I ≤ allOf mostN) where
+    pub fit-2 : D < 4 → false ≡ barsFit I D P left t
+    unfolding barsFit
+    fit-2 h = rw (le-leb I (allOf mostN) near, lt-leb 4 D h)
+
+    module _ (wide : 4 ≤ D) where
+      pub fit-3 : I < 4 * D → false ≡ barsFit I D P left t
+      unfolding barsFit
+      fit-3 h = rw (le-leb I (allOf mostN) near, le-leb 4 D wide, lt-leb (4 * D) I h)
+
+      module _ (room : 4 * D ≤ I) where
+        pub fit-4 : mostPlanes < P → false ≡ barsFit I D P left t
+        unfolding barsFit
+        fit-4 h = rw (le-leb I (allOf mostN) near, le-leb 4 D wide, le-leb (4 * D) I room, lt-leb P mostPlanes h)
+
+        module _ (tops : P ≤ mostPlanes) where
+          pub fit-5 : left < 1 → false ≡ barsFit I D P left t
+          unfolding barsFit
+          fit-5 h = rw (le-leb I (allOf mostN) near, le-leb 4 D wide, le-leb (4 * D) I room, le-leb P mostPlanes tops, lt-leb 1 left h)
+
+          module _ (some : 1 ≤ left) where
+            pub fit-6 : mostPlanes < left → false ≡ barsFit I D P left t
+            unfolding barsFit
+            fit-6 h = rw (le-leb I (allOf mostN) near, le-leb 4 D wide, le-leb (4 * D) I room, le-leb P mostPlanes tops, le-leb 1 left some, lt-leb left mostPlanes h)
+
+            module _ (most : left ≤ mostPlanes) where
+              pub fit-7 : ltb t I ≡ barsFit I D P left t
+              unfolding barsFit
+              fit-7 = rw (le-leb I (allOf mostN) near, le-leb 4 D wide, le-leb (4 * D) I room, le-leb P mostPlanes tops, le-leb 1 left some, le-leb left mostPlanes most)
+
+              pub fit-true : t < I → barsFit I D P left t ≡ true
+              fit-true h = sym fit-7 ∙ lt-ltb t I h
+
+  pub fit-all : barsFit I D P left t ≡ true → Sizes I D P × (1 ≤ left) × (left ≤ mostPlanes) × (t < I)
+  unfolding barsFit
+  fit-all e =
+      let e1 = both-right (leb I (allOf mostN)) (leb 4 D && (leb (4 * D) I && (leb P mostPlanes && (leb 1 left && (leb left mostPlanes && ltb t I))))) e in
+      let e2 = both-right (leb 4 D) (leb (4 * D) I && (leb P mostPlanes && (leb 1 left && (leb left mostPlanes && ltb t I)))) e1 in
+      let e3 = both-right (leb (4 * D) I) (leb P mostPlanes && (leb 1 left && (leb left mostPlanes && ltb t I))) e2 in
+      let e4 = both-right (leb P mostPlanes) (leb 1 left && (leb left mostPlanes && ltb t I)) e3 in
+      let e5 = both-right (leb 1 left) (leb left mostPlanes && ltb t I) e4 in (
+        record {
+          near = leb-true I (allOf mostN) (both-left (leb I (allOf mostN)) _ e);
+          wide = leb-true 4 D (both-left (leb 4 D) _ e1);
+          room = leb-true (4 * D) I (both-left (leb (4 * D) I) _ e2);
+          tops = leb-true P mostPlanes (both-left (leb P mostPlanes) _ e3);
+        },
+        leb-true 1 left (both-left (leb 1 left) _ e4),
+        leb-true left mostPlanes (both-left (leb left mostPlanes) _ e5),
+        ltb-true t I (both-right (leb left mostPlanes) (ltb t I) e5),
+      )
+
+module _ (I D P left used t : ℕ) (m : List ℕ) (f : Bool) (is : f ≡ barsFit I D P left t) where
+  pub zero-1 : (z : Bool) → f ≡ true → z ≡ barsAt I D P (left - 1) used t m → z ≡ barsZero I D P left used t m
+  zero-1 z e w = rw (sym is ∙ e) w
+
+  pub zero-2 : f ≡ false → false ≡ barsZero I D P left used t m
+  zero-2 e = rw (sym is ∙ e)
 
 -- ---- visits
 

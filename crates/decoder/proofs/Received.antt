@@ -3,7 +3,7 @@ use Prim.Native.Nat.{ℕ, suc, _+_, _-_, _*_, _/_, _%_, _≤_, _<_}
 use mathlib.Core.Path.{_≡_, refl, sym, ap, subst, _∙_}
 use mathlib.Core.Option.{Option, none, some}
 use mathlib.Core.List.{List, [], _∷_, _++_}
-use mathlib.Core.Bool.{Bool, true, false, not, _&&_, _||_, cond}
+use mathlib.Core.Bool.{Bool, true, false, not, _&&_, _||_, cond, and-false}
 use native.Mathlib.Omega.{arith}
 use native.Mathlib.Numerals.{add-one}
 use borrow.Author.Tests.{ltb-true, ltb-false, eqb-true, ne-eqb, leb-true}
@@ -41,18 +41,18 @@ or-no true = refl
 or-no false = refl
 
 module _ (I D P b i used : ℕ) (m : List ℕ) where
-  abbrev none-yet : Bool
+  abbrev pub none-yet : Bool
   none-yet = eqb used (D + 3 * D / 4 - 1)
 
-  child-is : getD m i 0 ≡ 4 → childClash I i m ≡ clash-by I D P b i m none-yet
+  pub child-is : getD m i 0 ≡ 4 → childClash I i m ≡ clash-by I D P b i m none-yet
   unfolding clash-by cb-child cb-grand cb-desc cb-root childClash
   child-is e = rw e (or-no _)
 
-  grand-is : getD m i 0 ≡ 6 → grandClash i m ≡ clash-by I D P b i m none-yet
+  pub grand-is : getD m i 0 ≡ 6 → grandClash i m ≡ clash-by I D P b i m none-yet
   unfolding clash-by cb-child cb-grand cb-desc cb-root grandClash
   grand-is e = rw e (or-no _)
 
-  desc-is : getD m i 0 ≡ 5 → descClash D P b used i m ≡ clash-by I D P b i m none-yet
+  pub desc-is : getD m i 0 ≡ 5 → descClash D P b used i m ≡ clash-by I D P b i m none-yet
   unfolding clash-by cb-child cb-grand cb-desc cb-root descClash lastClash rootClash
   desc-is e = rw e (go (leb (4 * D) i) refl)
     where
@@ -79,34 +79,33 @@ module _ (I D P b i used : ℕ) (m : List ℕ) where
 -- ---- the verdict, one bit at a time
 
 module _ (N L P : ℕ) where
-  abbrev clash : ℕ → State → Bool
+  abbrev pub clash : ℕ → State → Bool
   clash used s = clash-count (allOf N) (coarsestOf N L) P used s
 
-  verdict-go : (k : ℕ) (s : State) (a : Bool) (u : List Bool) (q : Question) → ask (allOf N) s ≡ some q → (not a && clash k s) ≡ false → verdictFrom N L P k s (a ∷ u) ≡ verdictFrom N L P (k + 1) (next (allOf N) s a) u
+  pub verdict-go : (k : ℕ) (s : State) (a : Bool) (u : List Bool) (q : Question) → ask (allOf N) s ≡ some q → (not a && clash k s) ≡ false → verdictFrom N L P k s (a ∷ u) ≡ verdictFrom N L P (k + 1) (next (allOf N) s a) u
   unfolding verdictFrom
   verdict-go k s a u q e f = rw (e, verdictFrom) (rw f)
 
-  verdict-no : (k : ℕ) (s : State) (a : Bool) (u : List Bool) (q : Question) → ask (allOf N) s ≡ some q → (not a && clash k s) ≡ true → verdictFrom N L P k s (a ∷ u) ≡ contradiction k
+  pub verdict-no : (k : ℕ) (s : State) (a : Bool) (u : List Bool) (q : Question) → ask (allOf N) s ≡ some q → (not a && clash k s) ≡ true → verdictFrom N L P k s (a ∷ u) ≡ contradiction k
   unfolding verdictFrom
   verdict-no k s a u q e f = rw (e, verdictFrom) (rw f)
 
-  verdict-over : (k : ℕ) (s : State) (a : Bool) (u : List Bool) → ask (allOf N) s ≡ none → verdictFrom N L P k s (a ∷ u) ≡ beyond k
+  pub verdict-over : (k : ℕ) (s : State) (a : Bool) (u : List Bool) → ask (allOf N) s ≡ none → verdictFrom N L P k s (a ∷ u) ≡ beyond k
   unfolding verdictFrom
   verdict-over k s a u e = rw (e, verdictFrom)
 
-  verdict-end : (k : ℕ) (s : State) → verdictFrom N L P k s [] ≡ taken
+  pub verdict-end : (k : ℕ) (s : State) → verdictFrom N L P k s [] ≡ taken
   unfolding verdictFrom
   verdict-end k s = refl
 
 -- ---- what is learned, bit by bit
 
+pub bits-more : (n : ℕ) (body : List ℕ) → bitsOf (n + 1) body ≡ bitsOf n body ++ (bitAt body n ∷ [])
+bits-more n body = ap {B = List Bool} (λ (k : ℕ). bitsOf k body) (add-one n) ∙ bitsOf-suc n body
+
 learned-one : (N L : ℕ) (s : State) (k : Known) (a : Bool) → learned N L s k (a ∷ []) ≡ learnAt N L (ask (allOf N) s) s a k
 unfolding learned
 learned-one N L s k a = refl
-
-and-false : (a : Bool) → (a && false) ≡ false
-and-false true = refl
-and-false false = refl
 
 -- ---- the scan
 
@@ -134,9 +133,6 @@ module _ (N L P : ℕ) (most : P ≤ 24) (body : List ℕ) (usable : ℕ) where
   next-bit : (n : ℕ) → n < usable → drop n B ≡ bitAt body n ∷ drop (suc n) B
   next-bit n h = drop-cons B n false (omega (arith, h, bitsOf-length usable body)) ∙ ap {B = List Bool} (λ (x : Bool). x ∷ drop (suc n) B) (bitsOf-at usable body n h)
 
-  one-more : (n : ℕ) → bitsOf (n + 1) body ≡ bitsOf n body ++ (bitAt body n ∷ [])
-  one-more n = ap {B = List Bool} (λ (k : ℕ). bitsOf k body) (add-one n) ∙ bitsOf-suc n body
-
   no-clash : (b : ℕ) (p : Pass) (i : ℕ) (e : Bool) (m : List ℕ) (q : Question) (o : Read) → look I (state (suc b) p i e m) ≡ asks q → Free K b p i e q m o
       → (not (bitAt body (o .n)) && clash-count I D P (o .n) (state (suc b) p i e m)) ≡ false
   unfolding clash-count
@@ -156,7 +152,7 @@ module _ (N L P : ℕ) (most : P ≤ 24) (body : List ℕ) (usable : ℕ) where
       let s : State = state (suc b) p i e m in
       let a : Bool = bitAt body (o .n) in
       let w : List Bool = bitsOf (o .n) body in
-      let c : bitsOf (o .n + 1) body ≡ w ++ a ∷ [] = one-more (o .n) in
+      let c : bitsOf (o .n + 1) body ≡ w ++ a ∷ [] = bits-more (o .n) body in
       let r : reach I s₀ w ≡ s = led-there N s₀ s w q (g .led) l in
       let z : ask I (reach I s₀ w) ≡ some q = led-asks N s₀ s w q (g .led) l in
       let d : suc b - 1 ≡ b = omega arith in

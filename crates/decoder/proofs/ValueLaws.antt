@@ -54,10 +54,13 @@ joined-no s n r e f = no-told (leb n limit) (signed s n) (sym e ∙ f)
 level-small : (b : ℕ) → b < 25 → 2 ^ b ≤ 16777216
 level-small b h = pow-mono {i = b} {j = 24} (omega arith)
 
+pub level-one : (b : ℕ) → b < 25 → 1 * 2 ^ b % 4294967296 ≡ 2 ^ b
+level-one b h = omega (arith, level-small b h)
+
 level-two : (b : ℕ) → b < 24 → 2 * 2 ^ b % 4294967296 ≡ 2 * 2 ^ b
 level-two b h = mod-eq-of-lt (omega (arith, level-small b (omega arith)))
 
-as-digit : (x : Bool) → boolByte x ≡ digit x
+pub as-digit : (x : Bool) → boolByte x ≡ digit x
 as-digit true = refl
 as-digit false = refl
 

@@ -4,7 +4,7 @@ use mathlib.Core.Path.{_≡_}
 use mathlib.Core.Bool.{Bool, false, _&&_, cond}
 use mathlib.Core.List.{List, [], _∷_}
 use lib.Bits.{bitOr}
-use lib.Dec.{leb, eqb}
+use lib.Dec.{ltb, leb, eqb}
 use lib.IntN.{ℤ, pos}
 use lib.ListN.{length, getD, set}
 use mir.Syntax.{w32}
@@ -12,7 +12,7 @@ use mir.Val.{ofZ, toZ}
 use Rattle.sizes.specs.Sizes.{limit, mostN, mostPlanes, allOf, Sized}
 use Rattle.bits.specs.Bits.{digit, bitAt}
 use Rattle.coef.specs.Coef.{at, magnitude, negative, signed}
-use Rattle.nls.specs.Marks.{MIP, MD}
+use Rattle.nls.specs.Marks.{MIP, MCP, MD, MG}
 use Rattle.nls.specs.Scan.{Question, bitOf, signOf, inDesc, inGrand, Pass, pixels, sets, refining}
 use Rattle.nls.specs.Stream.{after}
 use Rattle.nls.specs.Reading.{known, midpoint, valueBy, lastPlane}
@@ -99,6 +99,18 @@ bars I D P b (bitOf j c) t m used = childClash I t m
 bars I D P b (signOf j) t m used = false
 bars I D P b (inDesc g c) t m used = descClash D P b used t m
 bars I D P b (inGrand g c) t m used = grandClash t m
+
+-- The same by the mark at place t of the set pass, with `left` planes not finished: what the stepped decoder asks, in any table of marks. Sizes
+-- and places at which no scan stands bar nothing.
+unfoldable pub barsAt : ℕ → ℕ → ℕ → ℕ → ℕ → ℕ → List ℕ → Bool
+barsAt I D P b used t m = cond (is m t MCP) (childClash I t m) (cond (is m t MD) (descClash D P b used t m) (cond (is m t MG) (grandClash t m) false))
+
+unfoldable pub barsFit : ℕ → ℕ → ℕ → ℕ → ℕ → Bool
+barsFit I D P left t =
+    leb I (allOf mostN) && (leb 4 D && (leb (4 * D) I && (leb P mostPlanes && (leb 1 left && (leb left mostPlanes && ltb t I)))))
+
+abbrev pub barsZero : ℕ → ℕ → ℕ → ℕ → ℕ → ℕ → List ℕ → Bool
+barsZero I D P left used t m = barsFit I D P left t && barsAt I D P (left - 1) used t m
 
 abbrev pub reader : List ℕ → ℕ → ℕ → ℕ → ℕ → Source Read
 reader body usable I D P =

@@ -23,7 +23,7 @@ pub(crate) fn clear(dst: &mut [i32])
 }
 
 // A value of a sign and a magnitude; 0 for one over the limit.
-fn value_of(negative: bool, magnitude: u32) -> i32
+pub fn value_of(negative: bool, magnitude: u32) -> i32
     ensures { λ r. ⌜ r ≡ joinedOr0 negative magnitude ⌝ }
 {
     match coef::join_of(coef::Signed {

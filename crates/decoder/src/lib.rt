@@ -6,6 +6,8 @@ mod reading;
 pub use body::ReadAnswer;
 pub use body::ReadTo;
 pub use body::decode;
+pub use finish::value_of;
+pub use reading::bars_zero;
 
 // What a visit of the decoder leaves to do: nothing, for want of a bit or because the next one fits no array, or to go on.
 // In each the number of bits used comes first, and then the place: where it stopped, or where to go on.

@@ -15,7 +15,7 @@ ghost use Rattle.nls.specs.Scan.{pixels, bitOf, inDesc, inGrand};
 ghost use Rattle.walk.specs.Scans.{planes, leftOf};
 ghost use Rattle.marking.specs.Marking.{descSplitMarks, grandSplitMarks};
 ghost use Rattle.walk.specs.Visits.{oneSeen, testSeen, pixelsSeen, setsSeen, refiningSeen, visitSeen, scanOf};
-ghost use Rattle.decoder.specs.Reading.{newCode, moreCode, is, childClash, grandClash, lastClash, rootClash, descClash, reader, read, st, Does, Room, Sizes, Holds};
+ghost use Rattle.decoder.specs.Reading.{newCode, moreCode, is, childClash, grandClash, lastClash, rootClash, descClash, barsAt, barsFit, barsZero, reader, read, st, Does, Room, Sizes, Holds};
 
 // A coefficient that is found in plane b, as a code.
 fn found(values: &mut [i32], b: u32, place: usize, negative: bool)
@@ -126,6 +126,68 @@ fn one_clash(marks: &[u8], all: usize, place: usize, in_sets: bool) -> bool
 {
     if in_sets {
         return child_clash(marks, all, place);
+    }
+    false
+}
+
+// Whether a scan of such sizes can stand so.
+fn bars_fit(all: usize, coarsest: usize, top: u32, left: u32, place: usize) -> bool
+    ensures { λ r. ⌜ r ≡ barsFit all coarsest top left place ⌝ }
+{
+    if sizes::all_of(sizes::MOST_N) < all {
+        return false;
+    }
+    if coarsest < 4 {
+        return false;
+    }
+    if all / 4 < coarsest {
+        return false;
+    }
+    if sizes::MOST_PLANES < top {
+        return false;
+    }
+    if left < 1 {
+        return false;
+    }
+    if sizes::MOST_PLANES < left {
+        return false;
+    }
+    place < all
+}
+
+// Whether a 0 at a place of the set pass fits no array, by the mark there.
+fn clash_at(
+    marks: &[u8],
+    all: usize,
+    coarsest: usize,
+    top: u32,
+    n: usize,
+    b: u32,
+    place: usize,
+) -> bool
+    requires { ⌜ (place < all) × (length (now marks) ≡ all) × (b < mostPlanes) × Sizes all coarsest top ⌝ }
+    ensures { λ r. ⌜ r ≡ barsAt all coarsest top b n place (now (marks .entry)) ⌝ }
+{
+    let mark = marks[place];
+    if mark == marking::MCP {
+        return child_clash(marks, all, place);
+    }
+    if mark == marking::MD {
+        return desc_clash(marks, all, coarsest, top, n, b, place);
+    }
+    if mark == marking::MG {
+        return grand_clash(marks, all, place);
+    }
+    false
+}
+
+// The same for any table of marks, with `left` planes not finished and n bits used.
+pub fn bars_zero(marks: &[u8], coarsest: usize, top: u32, left: u32, n: usize, place: usize) -> bool
+    ensures { λ r. ⌜ r ≡ barsZero (length (now (marks .entry))) coarsest top left n place (now (marks .entry)) ⌝ }
+{
+    let all = marks.len();
+    if bars_fit(all, coarsest, top, left, place) {
+        return clash_at(marks, all, coarsest, top, n, left - 1, place);
     }
     false
 }

@@ -28,7 +28,7 @@ read-decided k args r r' s s' p q = p ∙ sym q
 
 -- ---- functions over a view. Their contracts are read as they stand, as assertions: what the contract says of two outcomes entails that they are equal
 
-both : {M : Type 1} (𝓤 : URA M) (φ ψ χ : Type 0) → (φ → ψ → χ) → ent 𝓤 (sep 𝓤 (fact 𝓤 φ) (fact 𝓤 ψ)) (fact 𝓤 χ)
+pub both : {M : Type 1} (𝓤 : URA M) (φ ψ χ : Type 0) → (φ → ψ → χ) → ent 𝓤 (sep 𝓤 (fact 𝓤 φ) (fact 𝓤 ψ)) (fact 𝓤 χ)
 both 𝓤 φ ψ χ h =
     fact-use 𝓤 φ (fst∗ 𝓤 (fact 𝓤 φ) (fact 𝓤 ψ)) (λ p. fact-use 𝓤 ψ (snd∗ 𝓤 (fact 𝓤 φ) (fact 𝓤 ψ)) (λ q. factI 𝓤 χ (sep 𝓤 (fact 𝓤 φ) (fact 𝓤 ψ)) (h p q)))
 
