@@ -1,0 +1,14 @@
+pub mod Blocks
+pub mod Joins
+pub mod Undo
+pub mod Keeps
+pub mod Moves
+pub mod Answers
+pub mod Whole
+pub mod ByValues
+pub mod Ends
+pub mod Tables
+pub mod Fuel
+pub mod Steps
+pub mod Ways
+pub mod Decided
