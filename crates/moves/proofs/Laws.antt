@@ -1,7 +1,7 @@
--- What other crates cite of the moves: in states after bits the answers of code are those of the scan.
+-- What other crates cite of the moves: where an answer leads; and in states after bits the answers of code are those of the scan.
 use Prim.Native.Nat.{ℕ, zero, suc, _≤_, _<_}
 use mathlib.Core.Path.{_≡_, refl, ap, subst}
-use mathlib.Core.Bool.{Bool, true, false}
+use mathlib.Core.Bool.{Bool, true, false, false≢true}
 use mathlib.Core.Option.{Option, none, some}
 use mathlib.Core.List.{List}
 use native.Mathlib.Omega.{arith}
@@ -15,6 +15,9 @@ use Rattle.nls.specs.Stream.{begin, after}
 use Rattle.nls.proofs.Kept.{Kept, kept-reach}
 use Rattle.nls.proofs.Lists.{begin-kept}
 use Rattle.nls.proofs.Known.{known-sound}
+use Rattle.nls.proofs.Finished.{settle-ended}
+use Rattle.nls.proofs.Machine.Run.{none-left, settle-settled}
+use Rattle.nls.proofs.Waiting.{settle-waits}
 use Rattle.marking.proofs.Laws.{grand-is, in-true}
 use Rattle.moves.specs.Stands.{passOf, passNumber, stateOf, standOf}
 use Rattle.moves.specs.Moves.{toldSets, toldAt, told, onward, standFits}
@@ -87,6 +90,41 @@ module _ (I : ℕ) where
   asked-at : (s : State) (q : Question) → (s .pending ≡ true → 1 ≤ s .left → s .place < I) → ask I s ≡ some q → s .place < I
   unfolding ask
   asked-at s q h e = subst (λ (o : Option Question). At (s .place) o) e (at-look (s .left) (s .pass) (s .place) (s .pending) (s .marks) h)
+
+-- ---- where an answer leads
+
+module _ (I : ℕ) where
+  -- an answer keeps the planes left, and a sign is pending only where its bit was read
+  told-stays-sets : (l i : ℕ) (m : List ℕ) (a d g : Bool)
+      → ((toldSets I l i m a d g) .left ≡ l) × ((toldSets I l i m a d g) .pending ≡ true → (toldSets I l i m a d g) .place ≡ i)
+  told-stays-sets l i m true true g = (refl, λ e. refl)
+  told-stays-sets l i m false true g = (refl, λ e. absurd (false≢true e))
+  told-stays-sets l i m true false true = (refl, λ e. refl)
+  told-stays-sets l i m false false true = (refl, λ e. absurd (false≢true e))
+  told-stays-sets l i m true false false = (refl, λ e. refl)
+  told-stays-sets l i m false false false = (refl, λ e. absurd (false≢true e))
+
+  told-stays : (l : ℕ) (p : Pass) (i : ℕ) (w : Bool) (m : List ℕ) (a : Bool)
+      → ((toldAt I l p i w m a) .left ≡ l) × ((toldAt I l p i w m a) .pending ≡ true → (toldAt I l p i w m a) .place ≡ i)
+  told-stays l p i true m a = (refl, λ e. absurd (false≢true e))
+  told-stays l pixels i false m true = (refl, λ e. refl)
+  told-stays l pixels i false m false = (refl, λ e. absurd (false≢true e))
+  told-stays l sets i false m a = told-stays-sets l i m a (eqb (getD m i 0) 5) (eqb (getD m i 0) 6)
+  told-stays l refining i false m a = (refl, λ e. absurd (false≢true e))
+
+  pub onward-left : (s : State) (a : Bool) → (onward I s a) .left ≤ s .left
+  onward-left s a = settle-ended (s .left) I (told I s a) (omega (arith, told-stays (s .left) (s .pass) (s .place) (s .pending) (s .marks) a .0))
+
+  -- it leads to a place, or to where no plane is left
+  pub onward-place : (s : State) (a : Bool) → s .place < I → 1 ≤ (onward I s a) .left → (onward I s a) .place < I
+  onward-place s a h k = on (ask I (onward I s a)) refl
+    where
+      waits : (onward I s a) .pending ≡ true → (onward I s a) .place < I
+      waits = settle-waits I (λ t. t .place < I) (told I s a) (λ e. omega (arith, h, told-stays (s .left) (s .pass) (s .place) (s .pending) (s .marks) a .1 e))
+
+      on : (o : Option Question) → ask I (onward I s a) ≡ o → (onward I s a) .place < I
+      on none e = absurd (omega (arith, k, none-left I (onward I s a) (settle-settled I (told I s a)) e))
+      on (some q) e = asked-at I (onward I s a) q (λ w z. waits w) e
 
 -- ---- after any bits
 

@@ -16,7 +16,7 @@ use Rattle.sizes.proofs.Tables.{table-at, table-length}
 use Rattle.coef.specs.Coef.{at, magAt, magnitude, negative, signed}
 use Rattle.coef.proofs.Laws.{magnitude-signed}
 use Rattle.tree.specs.Tree.{desc, grand, anyIn}
-use Rattle.nls.specs.Scan.{State, Look, over, silent, asks, Pass, pixels, sets, refining, look, tell, passesLeft, movesLeft, next}
+use Rattle.nls.specs.Scan.{State, Look, over, silent, asks, Pass, pixels, sets, refining, look, tell, passesLeft, movesLeft, settle, next}
 use Rattle.nls.specs.Stream.{begin, after, stream, during}
 use Rattle.nls.specs.Parts as spec
 use Rattle.nls.specs.Parts.{countTo, found, descSplit, grandSplit, standsAlone, descStands, grandStands, parts, splits, founds, splitsIn, foundIn}
@@ -126,22 +126,25 @@ fewer-left I s t h = ⊎-elim (λ l. l) (λ l. absurd (omega (arith, h, over-all
               (omega (arith, l, passes-few I (s .pass))),
         )
 
-module _ (N b : ℕ) where
+module _ (b : ℕ) where
   abbrev pub Ended : State → Type 0
   Ended s = s .left ≤ b
 
-  pub next-ended : (s : State) (a : Bool) → Ended s → Ended (next (allOf N) s a)
-  unfolding next
-  next-ended s a h =
-      settle-keeps (allOf N) Ended (λ t e. on t e (look (allOf N) t) (falls (allOf N) t)) (tell (allOf N) s a)
-      (omega (arith, tell-left (allOf N) (s .left) (s .pass) (s .place) (s .pending) (s .marks) a))
+  pub settle-ended : (I : ℕ) (s : State) → Ended s → Ended (settle I s)
+  settle-ended I s h = settle-keeps I Ended (λ t e. on t e (look I t) (falls I t)) s h
     where
-      on : (t : State) → Ended t → (k : Look) → Falls (allOf N) (movesLeft (allOf N) t) k → AfterMove (allOf N) Ended k
+      on : (t : State) → Ended t → (k : Look) → Falls I (movesLeft I t) k → AfterMove I Ended k
       on t e over f = tt
-      on t e (silent r) f = omega (arith, e, fewer-left (allOf N) t r f)
+      on t e (silent r) f = omega (arith, e, fewer-left I t r f)
       on t e (asks q) f = tt
 
-  ended-takes : (s : State) (u : List Bool) → Ended s → during N b s u ≡ []
+module _ (N b : ℕ) where
+  pub next-ended : (s : State) (a : Bool) → Ended b s → Ended b (next (allOf N) s a)
+  unfolding next
+  next-ended s a h =
+      settle-ended b (allOf N) (tell (allOf N) s a) (omega (arith, tell-left (allOf N) (s .left) (s .pass) (s .place) (s .pending) (s .marks) a))
+
+  ended-takes : (s : State) (u : List Bool) → Ended b s → during N b s u ≡ []
   unfolding during
   ended-takes s [] h = refl
   ended-takes s (a ∷ u) h =

@@ -7,6 +7,7 @@ pub mod Answers
 pub mod Whole
 pub mod ByValues
 pub mod Ends
+pub mod Bounds
 pub mod Tables
 pub mod Fuel
 pub mod Steps

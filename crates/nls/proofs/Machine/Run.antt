@@ -153,13 +153,17 @@ module _ (I : ℕ) where
   abbrev pub Settled : State → Type 0
   Settled s = (t : State) → look I s ≡ silent t → ⊥
 
+  pub settle-settled : (s : State) → Settled (settle I s)
+  unfolding settle
+  settle-settled s t e = quiet-settled (movesLeft I s) s t (omega arith) e
+
   pub start-settled : (D P : ℕ) → Settled (start I D P)
-  unfolding start settle
-  start-settled D P t e = quiet-settled (movesLeft I (stateAt P pixels 0 (startMarks I D))) (stateAt P pixels 0 (startMarks I D)) t (omega arith) e
+  unfolding start
+  start-settled D P = settle-settled (stateAt P pixels 0 (startMarks I D))
 
   pub next-settled : (s : State) (a : Bool) → Settled (next I s a)
-  unfolding next settle
-  next-settled s a t e = quiet-settled (movesLeft I (tell I s a)) (tell I s a) t (omega arith) e
+  unfolding next
+  next-settled s a = settle-settled (tell I s a)
 
   pub reach-settled : (s : State) (u : List Bool) → Settled s → Settled (reach I s u)
   unfolding reach

@@ -1,0 +1,359 @@
+-- Where record and tables are those that decoding some bits leaves.
+use Prim.Native.Nat.{ℕ, zero, suc, _+_, _*_, _-_, _≤_, _<_, min}
+use mathlib.Core.Path.{_≡_, refl, sym, ap, subst, _∙_}
+use mathlib.Core.Bool.{Bool, true, false, cond, _&&_, _||_, and-false}
+use mathlib.Core.Option.{Option, none, some}
+use mathlib.Core.List.{List, [], _∷_, _++_}
+use native.Mathlib.Decide.{ℕ-discrete}
+use native.Mathlib.Omega.{arith}
+use borrow.Author.Tests.{eq-eqb, ne-eqb, lt-ltb, le-leb}
+use lib.Dec.{ltb, leb, eqb}
+use lib.IntN.{ℤ}
+use lib.ListN.{length, getD, take, drop, length-append}
+use lib.Seq.{take-at, drop-at}
+use Rattle.refusals.specs.Checks.{firstOf}
+use Rattle.refusals.specs.declared.Outcome.{Outcome}
+use Rattle.refusals.specs.declared.Outcome.the-variants as outcome
+use Rattle.sizes.specs.Sizes.{mostPlanes, allOf, coarsestOf, sideFits, levelsFit, Sized}
+use Rattle.sizes.specs.Tables.{table}
+use Rattle.sizes.proofs.Laws.{sized, both}
+use Rattle.sizes.proofs.Tables.{table-length}
+use Rattle.bits.specs.Bits.{digit, bitsOf}
+use Rattle.bits.proofs.Laws.{digit-le}
+use Rattle.nls.specs.Marks.{startMarks}
+use Rattle.nls.specs.Scan.{Question, Pass, pixels, sets, refining, State, stateAt, lookAt, lookPixels, lookSets, lookRefining, tell, settle, ask, next, reach, start}
+use Rattle.nls.specs.Stream.{begin, after}
+use Rattle.nls.specs.Reading.{midpoint, valuesBy, precisions}
+use Rattle.nls.specs.Judging.{Fits, Verdict, taken, contradiction, beyond, Judged}
+use Rattle.nls.proofs.Arrays.{Bits, bits-of, told, Fit}
+use Rattle.nls.proofs.Machine.Run.{tell-left, left-none}
+use Rattle.nls.proofs.Kept.{AfterMove, settle-keeps}
+use Rattle.nls.proofs.Known.{left-most}
+use Rattle.nls.proofs.Lists.{arrOf}
+use Rattle.nls.proofs.Streams.{asks-none-left, marks-length, begins-iff}
+use Rattle.moves.specs.Stands.{passOf, passNumber, stand, stateOf}
+use Rattle.moves.proofs.Laws.{state-stand, pass-small, asked-inside}
+use Rattle.room.specs.Room.{readChecks, bodyBits}
+use Rattle.room.proofs.Laws.{decode-well, decode-ready, DecodeReady}
+use Rattle.decoder.specs.Body.{readAnswer, Tables, tables, ownTables, over, ReadsTo, Reads}
+use Rattle.decoder.specs.declared.body.ReadAnswer.{ReadAnswer}
+use Rattle.decoder.specs.declared.body.ReadAnswer.the-variants as decode
+use Rattle.decoder.specs.declared.body.ReadTo.{ReadTo}
+use Rattle.steps.specs.Records.{recordAt, recordOf, recordAfter, isEnd, isWithin, inRange, standIn, stateIn}
+use Rattle.steps.specs.Steps.{ownOf, Reached, Starts}
+use Rattle.steps.specs.declared.Record.{Record}
+
+-- ---- a scan that ended stands where a plane would begin
+
+abbrev Ended : State → Type 0
+Ended s = s .left ≡ 0 → s ≡ stateAt 0 pixels 0 (s .marks)
+
+module _ (I : ℕ) where
+  ended-pixels : (b i : ℕ) (m : List ℕ) (x y : Bool) → AfterMove I Ended (lookPixels b i m x y)
+  ended-pixels b i m false y = λ e. absurd (omega (arith, e))
+  ended-pixels b i m true true = tt
+  ended-pixels b i m true false = λ e. absurd (omega (arith, e))
+
+  ended-sets : (b i : ℕ) (m : List ℕ) (x d g c : Bool) → AfterMove I Ended (lookSets b i m x d g c)
+  ended-sets b i m false d g c = λ e. absurd (omega (arith, e))
+  ended-sets b i m true true g c = tt
+  ended-sets b i m true false true c = tt
+  ended-sets b i m true false false true = tt
+  ended-sets b i m true false false false = λ e. absurd (omega (arith, e))
+
+  ended-refining : (b i : ℕ) (m : List ℕ) (x s n : Bool) → AfterMove I Ended (lookRefining b i m x s n)
+  ended-refining b i m false s n = λ e. ap (λ (l : ℕ). stateAt l pixels 0 m) e
+  ended-refining b i m true true n = tt
+  ended-refining b i m true false true = λ e. absurd (omega (arith, e))
+  ended-refining b i m true false false = λ e. absurd (omega (arith, e))
+
+  ended-look : (l : ℕ) (p : Pass) (i : ℕ) (w : Bool) (m : List ℕ) → AfterMove I Ended (lookAt I l p i w m)
+  ended-look zero p i w m = tt
+  ended-look (suc b) p i true m = tt
+  ended-look (suc b) pixels i false m = ended-pixels b i m (ltb i I) (eqb (getD m i 0) 1)
+  ended-look (suc b) sets i false m = ended-sets b i m (ltb i I) (eqb (getD m i 0) 5) (eqb (getD m i 0) 6) (eqb (getD m i 0) 4)
+  ended-look (suc b) refining i false m = ended-refining b i m (ltb i I) (eqb (getD m i 0) 3) (eqb (getD m i 0) 2)
+
+  ended-settle : (s : State) → Ended s → Ended (settle I s)
+  ended-settle s h = settle-keeps I Ended (λ t k. ended-look (t .left) (t .pass) (t .place) (t .pending) (t .marks)) s h
+
+-- an answer is given where a plane is left, and leaves it
+module _ (N : ℕ) (B : Bits) where
+  ended-told : (s : State) (a : Bool) → told N B (ask (allOf N) s) a → Ended (tell (allOf N) s a)
+  ended-told s a f e =
+      absurd (subst (λ (o : Option Question). told N B o a) (left-none (allOf N) s (sym (tell-left (allOf N) (s .left) (s .pass) (s .place) (s .pending) (s .marks) a) ∙ e)) f)
+
+  ended-reach : (s : State) (u : List Bool) → Fit N B s u → Ended s → Ended (reach (allOf N) s u)
+  unfolding reach next
+  ended-reach s [] f h = h
+  ended-reach s (a ∷ u) f h = ended-reach (next (allOf N) s a) u (f .1) (ended-settle (allOf N) (tell (allOf N) s a) (ended-told s a (f .0)))
+
+module _ (N L : ℕ) (z : Sized N L) (P : ℕ) where
+  ended-begin : Ended (begin N L P)
+  unfolding start
+  ended-begin = ended-settle (allOf N) (stateAt P pixels 0 (startMarks (allOf N) (coarsestOf N L))) (λ e. ap (λ (l : ℕ). stateAt l pixels 0 (startMarks (allOf N) (coarsestOf N L))) e)
+
+  pub ended-after : (u : List Bool) → Fits N L P u → (after N L P u) .left ≡ 0 → after N L P u ≡ stateAt 0 pixels 0 ((after N L P u) .marks)
+  ended-after u w = ended-reach N (bits-of (arrOf (w .0))) (begin N L P) u (((begins-iff N L z P (w .0) u) .0 (w .1)) .2) ended-begin
+
+-- ---- the record of a state
+
+digit-one : (x : Bool) → eqb (digit x) 1 ≡ x
+digit-one true = refl
+digit-one false = refl
+
+module _ (N L P used : ℕ) (s : State) where
+  record-end : s .left ≡ 0 → recordOf N L P used s ≡ recordAt N L P 0 2 (allOf N) used 0
+  unfolding recordOf
+  record-end e = ap (λ (t : Bool). cond t (recordAt N L P 0 2 (allOf N) used 0) (recordAt N L P (s .left - 1) (passNumber (s .pass)) (s .place) used (digit (s .pending)))) (eq-eqb (s .left) 0 e)
+
+  record-in : (s .left ≡ 0 → ⊥) → recordOf N L P used s ≡ recordAt N L P (s .left - 1) (passNumber (s .pass)) (s .place) used (digit (s .pending))
+  unfolding recordOf
+  record-in h = ap (λ (t : Bool). cond t (recordAt N L P 0 2 (allOf N) used 0) (recordAt N L P (s .left - 1) (passNumber (s .pass)) (s .place) used (digit (s .pending)))) (ne-eqb (s .left) 0 h)
+
+  -- its sizes and its bits used
+  record Sizes (r : Record) : Type 0 where
+    pub side : r .n ≡ N
+    pub levels : r .l ≡ L
+    pub planes : r .p ≡ P
+    pub bits : r .used ≡ used
+
+  record-sizes : Sizes (recordOf N L P used s)
+  unfolding recordOf
+  record-sizes = go (eqb (s .left) 0)
+    where
+      go : (t : Bool) → Sizes (cond t (recordAt N L P 0 2 (allOf N) used 0) (recordAt N L P (s .left - 1) (passNumber (s .pass)) (s .place) used (digit (s .pending))))
+      go true = record { side = refl; levels = refl; planes = refl; bits = refl }
+      go false = record { side = refl; levels = refl; planes = refl; bits = refl }
+
+  -- a record in range, and the state that it stands for
+  abbrev Means : Record → Type 0
+  Means r = (inRange r ≡ true) × (stateIn r (s .marks) ≡ s)
+
+  module _ (side : sideFits N ≡ true) (levels : levelsFit N L ≡ true) (few : P ≤ mostPlanes) where
+    in-sizes : (r : Record) → r .n ≡ N → r .l ≡ L → r .p ≡ P → (isEnd r || isWithin r) ≡ true → inRange r ≡ true
+    unfolding inRange
+    in-sizes r en el ep e =
+        both (ap (λ (x : ℕ). sideFits x) en ∙ side)
+        (both (ap (λ (x : ℕ). levelsFit x (r .l)) en ∙ ap (λ (x : ℕ). levelsFit N x) el ∙ levels)
+        (both (ap (λ (x : ℕ). leb x mostPlanes) ep ∙ le-leb P mostPlanes few) e))
+
+    abbrev E : Record
+    E = recordAt N L P 0 2 (allOf N) used 0
+
+    is-end : isEnd E ≡ true
+    unfolding isEnd
+    is-end = both refl (both refl (both (eq-eqb (allOf N) (allOf N) refl) refl))
+
+    means-end : s ≡ stateAt 0 pixels 0 (s .marks) → Means (recordAt N L P 0 2 (allOf N) used 0)
+    unfolding standIn passOf
+    means-end e = (
+      in-sizes E refl refl refl (ap (λ (x : Bool). x || isWithin E) is-end),
+      ap (λ (x : Bool). stateOf (cond x (stand 0 0 0 false) (stand (0 + 1) 2 (allOf N) (eqb 0 1))) (s .marks)) is-end ∙ sym e,
+    )
+
+    module _ (h : s .left ≡ 0 → ⊥) (top : s .left ≤ P) (place : s .place < allOf N) where
+      abbrev W : Record
+      W = recordAt N L P (s .left - 1) (passNumber (s .pass)) (s .place) used (digit (s .pending))
+
+      no-end : isEnd W ≡ false
+      unfolding isEnd
+      no-end =
+          ap (λ (x : Bool). eqb (s .left - 1) 0 && (eqb (passNumber (s .pass)) 2 && (x && eqb (digit (s .pending)) 0))) (ne-eqb (s .place) (allOf N) (λ e. omega (arith, e, place)))
+          ∙ ap (λ (x : Bool). eqb (s .left - 1) 0 && x) (and-false (eqb (passNumber (s .pass)) 2))
+          ∙ and-false (eqb (s .left - 1) 0)
+
+      is-within : isWithin W ≡ true
+      unfolding isWithin
+      is-within =
+          both (lt-ltb (s .left - 1) P (omega (arith, h, top)))
+          (both (lt-ltb (passNumber (s .pass)) 3 (pass-small (s .pass)))
+          (both (lt-ltb (s .place) (allOf N) place) (lt-ltb (digit (s .pending)) 2 (omega (arith, digit-le (s .pending))))))
+
+      means-in : Means (recordAt N L P (s .left - 1) (passNumber (s .pass)) (s .place) used (digit (s .pending)))
+      unfolding standIn
+      means-in = (
+        in-sizes W refl refl refl (ap (λ (x : Bool). x || isWithin W) no-end ∙ is-within),
+        ap (λ (x : Bool). stateOf (cond x (stand 0 0 0 false) (stand (s .left - 1 + 1) (passNumber (s .pass)) (s .place) (eqb (digit (s .pending)) 1))) (s .marks)) no-end
+            ∙ ap (λ (x : ℕ). stateOf (stand x (passNumber (s .pass)) (s .place) (eqb (digit (s .pending)) 1)) (s .marks)) {x = s .left - 1 + 1} {y = s .left} (omega (arith, h))
+            ∙ ap (λ (x : Bool). stateOf (stand (s .left) (passNumber (s .pass)) (s .place) x) (s .marks)) (digit-one (s .pending))
+            ∙ state-stand s,
+      )
+
+-- ---- the record after bits that fit
+
+module _ (N L P : ℕ) (side : sideFits N ≡ true) (levels : levelsFit N L ≡ true) (few : P ≤ mostPlanes) (u : List Bool) (w : Fits N L P u) where
+  inside : (o : Option Question) → ask (allOf N) (after N L P u) ≡ o → ((after N L P u) .left ≡ 0 → ⊥) → (after N L P u) .place < allOf N
+  inside none e h = absurd (h (asks-none-left N L P u e))
+  inside (some q) e h = asked-inside N L P u q e
+
+  means-after : Means N L P (length u) (after N L P u) (recordAfter N L P u)
+  means-after = go (ℕ-discrete ((after N L P u) .left) 0)
+    where
+      s : State
+      s = after N L P u
+
+      go : Dec (s .left ≡ 0) → Means N L P (length u) s (recordAfter N L P u)
+      go (yes e) = subst (λ (r : Record). Means N L P (length u) s r) (sym (record-end N L P (length u) s e)) (means-end N L P (length u) s side levels few (ended-after N L (sized N L levels) P u w e))
+      go (no h) =
+          subst (λ (r : Record). Means N L P (length u) s r) (sym (record-in N L P (length u) s h))
+          (means-in N L P (length u) s side levels few h (left-most N L P u) (inside (ask (allOf N) s) refl h))
+
+-- ---- tables whose first entries are those after some bits
+
+-- what decoding leaves has I entries in each table
+pub record Own (I : ℕ) (t : Tables) : Type 0 where
+  pub values : length (t .values) ≡ I
+  pub precisions : length (t .precisions) ≡ I
+  pub marks : length (t .marks) ≡ I
+
+pub own-tables : (N L P : ℕ) → levelsFit N L ≡ true → (u : List Bool) → Own (allOf N) (ownTables N L P u taken)
+own-tables N L P l u =
+    record { values = table-length (allOf N) _; precisions = table-length (allOf N) _; marks = marks-length N L (sized N L l) P u }
+
+module _ (I : ℕ) (own : Tables) (o : Own I own) (held : Tables) where
+  -- the own entries, and what is laid over them
+  pub own-over : ownOf I (over I own held) ≡ own
+  own-over =
+      ap (λ (x : List ℤ). tables x (take I (own .precisions ++ drop I (held .precisions))) (take I (own .marks ++ drop I (held .marks)))) (take-at (own .values) (drop I (held .values)) I (o .values))
+      ∙ ap (λ (x : List ℕ). tables (own .values) x (take I (own .marks ++ drop I (held .marks)))) (take-at (own .precisions) (drop I (held .precisions)) I (o .precisions))
+      ∙ ap (λ (x : List ℕ). tables (own .values) (own .precisions) x) (take-at (own .marks) (drop I (held .marks)) I (o .marks))
+
+  pub over-over : (new : Tables) → over I new (over I own held) ≡ over I new held
+  over-over new =
+      ap (λ (x : List ℤ). tables (new .values ++ x) (new .precisions ++ drop I (own .precisions ++ drop I (held .precisions))) (new .marks ++ drop I (own .marks ++ drop I (held .marks)))) (drop-at (own .values) (drop I (held .values)) I (o .values))
+      ∙ ap (λ (x : List ℕ). tables (new .values ++ drop I (held .values)) (new .precisions ++ x) (new .marks ++ drop I (own .marks ++ drop I (held .marks)))) (drop-at (own .precisions) (drop I (held .precisions)) I (o .precisions))
+      ∙ ap (λ (x : List ℕ). tables (new .values ++ drop I (held .values)) (new .precisions ++ drop I (held .precisions)) (new .marks ++ x)) (drop-at (own .marks) (drop I (held .marks)) I (o .marks))
+
+-- ---- record and tables as decoding the bits u leaves them
+
+pub record Good (N L P : ℕ) (u : List Bool) (r : Record) (held : Tables) : Type 0 where
+  pub side : sideFits N ≡ true
+  pub levels : levelsFit N L ≡ true
+  pub planes : P ≤ mostPlanes
+  pub fits : Fits N L P u
+  pub recorded : r ≡ recordAfter N L P u
+  pub valuesRoom : allOf N ≤ length (held .values)
+  pub precisionsRoom : allOf N ≤ length (held .precisions)
+  pub marksRoom : allOf N ≤ length (held .marks)
+  pub filled : held ≡ over (allOf N) (ownTables N L P u taken) held
+
+-- within the body its first n bits are n
+pub body-bits : (n : ℕ) (body : List ℕ) → n ≤ 8 * length body → bodyBits n body ≡ bitsOf n body
+body-bits n body h = ap {B = List Bool} (λ (k : ℕ). bitsOf k body) {x = min n (8 * length body)} {y = n} (omega (arith, h))
+
+-- a reading that is done
+module _ (N L P : ℕ) (u : List Bool) (r : Record) (held : Tables) (same : r ≡ recordAfter N L P u) where
+  good-ready : DecodeReady N L P (length (held .values)) (length (held .precisions)) (length (held .marks)) → (v : Verdict) → Judged N L P u v → readAnswer N L P u taken ≡ readAnswer N L P u v
+      → held ≡ over (allOf N) (ownTables N L P u v) held → Good N L P u r held
+  good-ready d taken j a f =
+      record {
+        side = d .side;
+        levels = d .levels;
+        planes = d .planes;
+        fits = j;
+        recorded = same;
+        valuesRoom = d .valuesRoom;
+        precisionsRoom = d .precisionsRoom;
+        marksRoom = d .marksRoom;
+        filled = f;
+      }
+  good-ready d (contradiction k) j a f = let z : _≡_ {A = ℕ} 0 1 = cc in absurd (omega (arith, z))
+  good-ready d (beyond k) j a f = let z : _≡_ {A = ℕ} 0 1 = cc in absurd (omega (arith, z))
+
+  good-read : (o : Outcome) → o ≡ firstOf (readChecks N L P (length (held .values)) (length (held .precisions)) (length (held .marks)))
+      → ReadsTo o N L P u held (readAnswer N L P u taken) held → Good N L P u r held
+  good-read outcome.Done e p = good-ready (decode-ready N L P (length (held .values)) (length (held .precisions)) (length (held .marks)) e) (p .verdict) (p .judged) (p .answered) (p .filled)
+  good-read (outcome.Refused why) e p = let a : readAnswer N L P u taken ≡ decode.Refused why = p .0 in let z : _≡_ {A = ℕ} 0 1 = cc in absurd (omega (arith, z))
+
+pub good-of : (N L P : ℕ) (body : List ℕ) (n : ℕ) (r : Record) (held : Tables) → Reached N L P body n r held → n ≤ 8 * length body → Good N L P (bitsOf n body) r held
+good-of N L P body n r held w h =
+    subst (λ (u : List Bool). Good N L P u r held) (body-bits n body h)
+    (good-read N L P (bodyBits n body) r held (w .recorded) (firstOf (readChecks N L P (length (held .values)) (length (held .precisions)) (length (held .marks)))) refl (w .read))
+
+module _ (N L P : ℕ) (u : List Bool) (r : Record) (held : Tables) (g : Good N L P u r held) where
+  -- tables with room, which decoding any bits that are judged fills
+  pub reads-judged : (body : List ℕ) (k : ℕ) (v : Verdict) → Judged N L P (bodyBits k body) v
+      → Reads N L P k body held (readAnswer N L P (bodyBits k body) v) (over (allOf N) (ownTables N L P (bodyBits k body) v) held)
+  reads-judged body k v j =
+      subst (λ (o : Outcome). ReadsTo o N L P (bodyBits k body) held (readAnswer N L P (bodyBits k body) v) (over (allOf N) (ownTables N L P (bodyBits k body) v) held))
+      (decode-well N L P (length (held .values)) (length (held .precisions)) (length (held .marks)) (g .side) (g .levels) (g .planes) (g .valuesRoom) (g .precisionsRoom) (g .marksRoom))
+      (record { verdict = v; judged = j; answered = refl; filled = refl })
+
+  good-sizes : Sizes N L P (length u) (after N L P u) r
+  good-sizes = subst (λ (x : Record). Sizes N L P (length u) (after N L P u) x) (sym (g .recorded)) (record-sizes N L P (length u) (after N L P u))
+
+  good-means : Means N L P (length u) (after N L P u) r
+  good-means = subst (λ (x : Record). Means N L P (length u) (after N L P u) x) (sym (g .recorded)) (means-after N L P (g .side) (g .levels) (g .planes) u (g .fits))
+
+  pub good-side : r .n ≡ N
+  good-side = good-sizes .side
+
+  pub good-levels : r .l ≡ L
+  good-levels = good-sizes .levels
+
+  pub good-planes : r .p ≡ P
+  good-planes = good-sizes .planes
+
+  pub good-used : r .used ≡ length u
+  good-used = good-sizes .bits
+
+  -- the record is in range, its own entries are those of decoding, and its state is the scan's
+  pub good-range : inRange r ≡ true
+  good-range = good-means .0
+
+  pub good-own : ownOf (allOf N) held ≡ ownTables N L P u taken
+  good-own = ap (λ (t : Tables). ownOf (allOf N) t) (g .filled) ∙ own-over (allOf N) (ownTables N L P u taken) (own-tables N L P (g .levels) u) held
+
+  pub good-state : stateIn r (take (allOf N) (held .marks)) ≡ after N L P u
+  good-state = ap (λ (t : Tables). stateIn r (t .marks)) good-own ∙ good-means .1
+
+-- where decoding the bits v leaves record and tables
+pub good-at : (N L P : ℕ) → sideFits N ≡ true → levelsFit N L ≡ true → P ≤ mostPlanes → (v : List Bool) → Fits N L P v → (held : Tables)
+    → Good N L P v (recordAfter N L P v) (over (allOf N) (ownTables N L P v taken) held)
+good-at N L P side levels planes v w held =
+    let o : Own (allOf N) (ownTables N L P v taken) = own-tables N L P levels v in
+    record {
+      side = side;
+      levels = levels;
+      planes = planes;
+      fits = w;
+      recorded = refl;
+      valuesRoom = omega (arith, length-append (valuesBy N L P v midpoint) (drop (allOf N) (held .values)), o .values);
+      precisionsRoom = omega (arith, length-append (precisions N L P v) (drop (allOf N) (held .precisions)), o .precisions);
+      marksRoom = omega (arith, length-append ((after N L P v) .marks) (drop (allOf N) (held .marks)), o .marks);
+      filled = sym (over-over (allOf N) (ownTables N L P v taken) o held (ownTables N L P v taken));
+    }
+
+-- and back: what is so is what decoding leaves
+pub good-reached : (N L P : ℕ) (body : List ℕ) (n : ℕ) (r : Record) (held : Tables) → Good N L P (bitsOf n body) r held → n ≤ 8 * length body → Reached N L P body n r held
+good-reached N L P body n r held g h =
+    let e : bitsOf n body ≡ bodyBits n body = sym (body-bits n body h) in
+    record {
+      read =
+          subst (λ (t : Tables). Reads N L P n body held (readAnswer N L P (bodyBits n body) taken) t)
+          (sym (g .filled ∙ ap (λ (u : List Bool). over (allOf N) (ownTables N L P u taken) held) e))
+          (reads-judged N L P (bitsOf n body) r held g body n taken (subst (λ (u : List Bool). Fits N L P u) e (g .fits)));
+      recorded = g .recorded ∙ ap (λ (u : List Bool). recordAfter N L P u) e;
+    }
+
+-- ---- a start that is done
+
+module _ (N L P : ℕ) (r : Record) (held : Tables) (answer : ReadAnswer) (dial : Record) (left : Tables) (p : Starts N L P r held answer dial left) (d : ReadTo) (is : answer ≡ decode.Done d) where
+  start-record : dial ≡ recordAfter N L P []
+  start-record = p .recorded ∙ ap (λ (a : ReadAnswer). elim a as (λ _. Record) [ decode.Done c ↦ recordAfter N L P [] | decode.Refused why ↦ r ]) is
+
+  start-judged : DecodeReady N L P (length (held .values)) (length (held .precisions)) (length (held .marks)) → (v : Verdict) → Judged N L P [] v → answer ≡ readAnswer N L P [] v
+      → left ≡ over (allOf N) (ownTables N L P [] v) held → Good N L P [] dial left
+  start-judged c taken j a f =
+      subst (λ (x : Record). Good N L P [] x left) (sym start-record) (subst (λ (t : Tables). Good N L P [] (recordAfter N L P []) t) (sym f) (good-at N L P (c .side) (c .levels) (c .planes) [] j held))
+  start-judged c (contradiction k) j a f = let z : _≡_ {A = ℕ} 0 1 = cc in absurd (omega (arith, z))
+  start-judged c (beyond k) j a f = let z : _≡_ {A = ℕ} 0 1 = cc in absurd (omega (arith, z))
+
+  start-checked : (o : Outcome) → o ≡ firstOf (readChecks N L P (length (held .values)) (length (held .precisions)) (length (held .marks))) → ReadsTo o N L P [] held answer left → Good N L P [] dial left
+  start-checked outcome.Done e q = start-judged (decode-ready N L P (length (held .values)) (length (held .precisions)) (length (held .marks)) e) (q .verdict) (q .judged) (q .answered) (q .filled)
+  start-checked (outcome.Refused why) e q = let a : answer ≡ decode.Refused why = q .0 in let z : _≡_ {A = ℕ} 0 1 = cc in absurd (omega (arith, z))
+
+  pub start-good : (body : List ℕ) → Good N L P (bitsOf 0 body) dial left
+  unfolding table
+  start-good body = start-checked (firstOf (readChecks N L P (length (held .values)) (length (held .precisions)) (length (held .marks)))) refl (p .reads)

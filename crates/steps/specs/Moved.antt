@@ -1,0 +1,117 @@
+-- What a step leaves, in any tables: words of the contracts of steps which no promise in the words of decoding uses. That this is what
+-- decoding one bit more or one bit fewer leaves is `forward-follows` and `back-follows` of proofs/Demands.antt.
+use Prim.Native.Nat.{ℕ, zero, suc, _+_, _-_, _*_, _/_, _^_}
+use mathlib.Core.{Bool.Bool, Bool.not, Bool._&&_, Bool.cond, Option.Option, Option.none, Option.some, List.List}
+use lib.{Dec.eqb, IntN.ℤ, IntN.pos, ListN.set, ListN.take}
+use Rattle.refusals.specs.declared.Refusal.{Refusal, the-variants.Contradiction, the-variants.Beyond}
+use Rattle.sizes.specs.Sizes.{allOf, coarsestOf}
+use Rattle.coef.specs.Coef.{at, magnitude, negative}
+use Rattle.tree.specs.Tree.{desc, grand}
+use Rattle.nls.specs.{Scan.Question, Scan.bitOf, Scan.signOf, Scan.inDesc, Scan.inGrand, Scan.Pass, Scan.pixels, Scan.sets, Scan.refining, Scan.State, Scan.ask, Reading.setEach}
+use Rattle.moves.specs.Moves.{onward}
+use Rattle.undo.specs.Back.{bigIn, back}
+use Rattle.decoder.specs.{Body.Tables, Body.tables, Reading.joinedOr0, Reading.barsZero, declared.body.ReadAnswer.ReadAnswer}
+use Rattle.decoder.specs.declared.body.ReadAnswer.the-variants as decode
+use Rattle.steps.specs.{Records.recordOf, declared.Record.Record, declared.Asked.Asked}
+use Rattle.steps.specs.declared.Asked.the-variants as asked
+
+-- What is asked in a state: nothing, a sign, the bit of a coefficient that is not found, a refinement bit, a DESC or a GRAND.
+abbrev pub kindOf : Pass → Option Question → Asked
+kindOf pass none = asked.Nothing
+kindOf pass (some (signOf i)) = asked.Sign
+kindOf pixels (some (bitOf i c)) = asked.Bit
+kindOf sets (some (bitOf i c)) = asked.Bit
+kindOf refining (some (bitOf i c)) = asked.More
+kindOf pass (some (inDesc g c)) = asked.Desc
+kindOf pass (some (inGrand g c)) = asked.Grand
+
+abbrev pub askedIn : ℕ → State → Asked
+askedIn I s = kindOf (s .pass) (ask I s)
+
+module _ (N L : ℕ) where
+  -- The precisions after the answer a at place i: those that it makes known get the number c.
+  abbrev pub noted : Asked → ℕ → ℕ → Bool → List ℕ → List ℕ
+  noted asked.Nothing i c a k = k
+  noted asked.Sign i c a k = set k i c
+  noted asked.More i c a k = set k i c
+  noted asked.Bit i c a k = cond a k (set k i c)
+  noted asked.Desc i c a k = cond a k (setEach (desc N L (i / 4)) c k)
+  noted asked.Grand i c a k = cond a k (setEach (grand N L (i / 16)) c k)
+
+-- a coefficient found in plane b; one with bit b more, x; and one whose last bit is taken back, so that it is known down to plane l
+abbrev pub foundIn : Bool → ℕ → ℤ
+foundIn below b = joinedOr0 below (2 ^ b + 2 ^ b / 2)
+
+abbrev pub finer : Bool → ℕ → ℤ → ℤ
+finer x b z = joinedOr0 (negative z) ((magnitude z + 2 ^ b / 2) - cond x 0 (2 ^ b))
+
+abbrev pub coarser : ℕ → ℤ → ℤ
+coarser l z = joinedOr0 (negative z) (magnitude z / 2 ^ l * 2 ^ l + 2 ^ l / 2)
+
+-- the values after an answer at place i in plane b; and before it, where they are known down to plane l at most
+abbrev pub heard : Asked → ℕ → ℕ → Bool → List ℤ → List ℤ
+heard asked.Nothing i b a v = v
+heard asked.Sign i b a v = set v i (foundIn a b)
+heard asked.More i b a v = set v i (finer a b (at v i))
+heard asked.Bit i b a v = v
+heard asked.Desc i b a v = v
+heard asked.Grand i b a v = v
+
+abbrev pub unheard : Asked → ℕ → ℕ → List ℤ → List ℤ
+unheard asked.Nothing i l v = v
+unheard asked.Sign i l v = set v i (pos 0)
+unheard asked.More i l v = set v i (coarser l (at v i))
+unheard asked.Bit i l v = v
+unheard asked.Desc i l v = v
+unheard asked.Grand i l v = v
+
+-- what a step leaves: its answer, the record and the tables
+pub record Step : Type 0 where
+  pub answer : ReadAnswer
+  pub dial : Record
+  pub held : Tables
+
+abbrev pub step : ReadAnswer → Record → Tables → Step
+step answer dial held = record { answer = answer; dial = dial; held = held }
+
+-- a refusal, which changes nothing
+abbrev pub stays : Refusal → Record → Tables → Step
+stays why dial held = step (decode.Refused why) dial held
+
+-- "planes finished and the worst error", where `left` planes are not finished
+abbrev pub reached : ℕ → ℕ → ℕ → ReadAnswer
+reached P used left = decode.Done (record { used = used; finished = P - left; error = 2 ^ left - 1 })
+
+-- Over tables of I entries, by a record r whose state is s:
+module _ (r : Record) where
+  abbrev I : ℕ
+  I = allOf (r .n)
+
+  abbrev D : ℕ
+  D = coarsestOf (r .n) (r .l)
+
+  -- at a state after `used` bits
+  abbrev pub movedTo : ℕ → State → List ℤ → List ℕ → Step
+  movedTo used s v k = step (reached (r .p) used (s .left)) (recordOf (r .n) (r .l) (r .p) used s) (tables v k (s .marks))
+
+  -- the answer a taken back, which was given in the state s
+  abbrev pub loweredTo : State → Bool → Tables → Step
+  loweredTo s a t =
+      movedTo (r .used - 1) s (unheard (askedIn I s) (s .place) (s .left) (t .values)) (noted (r .n) (r .l) (askedIn I s) (s .place) (s .left) a (t .precisions))
+
+  -- one bit back
+  abbrev pub lowered : State → Bool → Tables → Step
+  lowered s a t = loweredTo (back I D (r .p) (bigIn (t .values)) s) a t
+
+  -- the answer a in the state s
+  abbrev pub raisedTo : State → Bool → Tables → Step
+  raisedTo s a t =
+      movedTo (r .used + 1) (onward I s a) (heard (askedIn I s) (s .place) (s .left - 1) a (t .values)) (noted (r .n) (r .l) (askedIn I s) (s .place) (s .left - 1) a (t .precisions))
+
+  -- a 0 that no array fits; a sign may be either
+  abbrev pub barred : State → Bool → Bool
+  barred s a = not a && (not (s .pending) && barsZero I D (r .p) (s .left) (r .used) (s .place) (s .marks))
+
+  -- one bit forward: refused where no plane is left, and where no array fits
+  abbrev pub raised : State → Bool → Tables → Step
+  raised s a t = cond (eqb (s .left) 0) (stays (Beyond (r .used)) r t) (cond (barred s a) (stays (Contradiction (r .used)) r t) (raisedTo s a t))

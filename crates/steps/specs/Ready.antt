@@ -1,0 +1,30 @@
+-- Words of inner contracts, which no promise to a caller uses: what holds where the checks of a step do.
+use Prim.Native.Nat.{ℕ, _-_, _^_, _≤_, _<_}
+use mathlib.Core.{Path._≡_, Bool.true, Bool.cond, List.List}
+use lib.{Dec.ltb, ListN.length}
+use Rattle.refusals.specs.declared.Refusal.the-variants.{First, Spent}
+use Rattle.sizes.specs.Sizes.{allOf}
+use Rattle.bits.specs.Bits.{bitAt}
+use Rattle.moves.specs.declared.Stand.{Stand}
+use Rattle.decoder.specs.Body.{Tables}
+use Rattle.steps.specs.{Records.inRange, Records.stateIn, Moved.Step, Moved.stays, Moved.raised, Moved.lowered, declared.Record.Record}
+
+-- a record in range, and tables of I entries, by their lengths
+pub record Ready (r : Record) (values precisions marks : ℕ) : Type 0 where
+  pub range : inRange r ≡ true
+  pub valuesSize : values ≡ allOf (r .n)
+  pub precisionsSize : precisions ≡ allOf (r .n)
+  pub marksSize : marks ≡ allOf (r .n)
+
+-- the scan can stand there
+pub record Stood (r : Record) (at : Stand) : Type 0 where
+  pub known : at .pass < 3
+  pub planes : at .left ≤ r .p
+  pub place : 1 ≤ at .left → at .place < 2 ^ 32
+
+-- steps over tables of I entries, `most` bits of the body being usable
+abbrev pub forwardIn : ℕ → List ℕ → Record → Tables → Step
+forwardIn most body r t = cond (ltb (r .used) most) (raised r (stateIn r (t .marks)) (bitAt body (r .used)) t) (stays Spent r t)
+
+abbrev pub backIn : List ℕ → Record → Tables → Step
+backIn body r t = cond (ltb 0 (r .used)) (lowered r (stateIn r (t .marks)) (bitAt body (r .used - 1)) t) (stays First r t)
