@@ -32,7 +32,7 @@ extern "C" {
 /* The version of this library's interface, and that of the files that it writes and reads. A change of the first number may break
  * a caller, a change of the second only adds. */
 #define TXP_VERSION_MAJOR 2
-#define TXP_VERSION_MINOR 2
+#define TXP_VERSION_MINOR 3
 #define TXP_FILE_VERSION 1
 
 /* Limits. */
@@ -68,7 +68,10 @@ enum txp_refusal {
     TXP_REFUSED_SURPLUS = 10,            /* more body bytes than the declared bits need */
     TXP_REFUSED_PADDING = 11,            /* all body bytes present, padding not 0 */
     TXP_REFUSED_CONTRADICTION = 12,      /* no array fits the bits; place: the first bit at which none does */
-    TXP_REFUSED_BEYOND = 13              /* usable bits left after the last plane; place: the first of them */
+    TXP_REFUSED_BEYOND = 13,             /* usable bits left after the last plane; place: the first of them */
+    TXP_REFUSED_FIRST = 14,              /* a step back before the first bit */
+    TXP_REFUSED_SPENT = 15,              /* a step forward with no usable bit left */
+    TXP_REFUSED_RECORD = 16              /* a record out of range, or with more bits used than are usable */
 };
 
 /* A short text for a refusal's number, to be shown; "unknown refusal" for a number that is none. */
@@ -89,6 +92,9 @@ static inline const char *txp_refusal_text(uint32_t refusal)
         "the padding is not 0",
         "the bits contradict each other",
         "bits are left after the last plane",
+        "no bit before this one",
+        "no usable bit is left",
+        "the record is out of range",
     };
     return refusal < sizeof texts / sizeof texts[0] ? texts[refusal] : "unknown refusal";
 }
@@ -158,6 +164,50 @@ uint32_t txp_encode_body(uint32_t n, uint32_t l, const int32_t *coefs, size_t co
 uint32_t txp_decode_body(uint32_t n, uint32_t l, uint32_t p, const uint8_t *body, size_t body_len, uint32_t usable,
                          int32_t *values, size_t values_len, uint8_t *precisions, size_t precisions_len, uint8_t *marks,
                          size_t marks_len, txp_answer *answer);
+
+/* ---- steps: the body read bit by bit, forward and back
+ *
+ * A caller keeps a record and the three tables of txp_decode_body, and moves them through a body. They stand at a number of bits, and
+ * hold what txp_decode_body leaves in the tables for as many usable bits. A step changes a few entries and reads no prefix again.
+ * This holds while the caller changes neither body, record nor tables between the calls. With anything else in them every call still
+ * ends without a fault, refuses a record that is out of range, and touches no entry past the first I of a table. */
+
+/* Where the scan rests: at the next bit's question. After the last plane, and from the start where P is 0, plane is 0, pass 2,
+ * place I and pending 0. */
+typedef struct txp_record {
+    uint32_t n;       /* N */
+    uint32_t l;       /* L */
+    uint32_t planes;  /* P */
+    uint32_t plane;   /* the plane in progress */
+    uint32_t pass;    /* 0 in the pixel pass, 1 in the set pass, 2 in the refinement pass */
+    uint32_t place;   /* the linear place of the question */
+    uint32_t used;    /* bits used */
+    uint32_t pending; /* 1 where the coefficient's bit was read, a 1, and its sign was not */
+} txp_record;
+
+/* Before the first bit of a body of P planes. dial: any, it is not read. values, precisions, marks: TXP_ENTRIES(n) or more each.
+ * Refusals 1, 2, 9, 5: nothing that is lent is touched. Done: record and tables for 0 bits. Answer: bits (0), finished (0), error. */
+uint32_t txp_start(txp_record *dial, uint32_t n, uint32_t l, uint32_t p, int32_t *values, size_t values_len,
+                   uint8_t *precisions, size_t precisions_len, uint8_t *marks, size_t marks_len, txp_answer *answer);
+
+/* One bit forward. The usable bits of the body are its first `usable`, or all that it has.
+ * Refusals 16, 5, 15, and 12 or 13 (place: the bit, as for txp_decode_body): nothing that is lent is touched, so record and tables
+ * stay at the last good position. Done: record and tables for one bit more. Answer: bits (used), finished, error. */
+uint32_t txp_forward(txp_record *dial, const uint8_t *body, size_t body_len, uint32_t usable, int32_t *values,
+                     size_t values_len, uint8_t *precisions, size_t precisions_len, uint8_t *marks, size_t marks_len,
+                     txp_answer *answer);
+
+/* One bit back, with the body at hand. Refusals 16, 5, 14: nothing that is lent is touched.
+ * Done: record and tables for one bit fewer. Answer: as for txp_forward. */
+uint32_t txp_back(txp_record *dial, const uint8_t *body, size_t body_len, uint32_t usable, int32_t *values, size_t values_len,
+                  uint8_t *precisions, size_t precisions_len, uint8_t *marks, size_t marks_len, txp_answer *answer);
+
+/* To `to` bits used, by single steps forward or back. Refusals 16, 5: nothing that is lent is touched.
+ * Refusals 15, 12, 13 of a step forward end the turn: record and tables stay at the position that was reached.
+ * Done: record and tables for `to` bits; where as many were used before, as they were. Answer: as for txp_forward. */
+uint32_t txp_turn(txp_record *dial, const uint8_t *body, size_t body_len, uint32_t usable, uint32_t to, int32_t *values,
+                  size_t values_len, uint8_t *precisions, size_t precisions_len, uint8_t *marks, size_t marks_len,
+                  txp_answer *answer);
 
 /* ---- summaries and figures */
 

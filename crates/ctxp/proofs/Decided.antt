@@ -10,12 +10,19 @@ use denote.Ref.{now}
 use Rattle.refusals.proofs.Decided.{OneOutcome}
 use Rattle.encoder.specs.Body.{Loan, loan}
 use Rattle.decoder.specs.Body.{Tables, tables}
+use Rattle.decoder.specs.declared.body.ReadAnswer.{ReadAnswer}
 use Rattle.decoder.proofs.Decided.{reads-one}
+use Rattle.steps.specs.declared.Record.{Record}
+use Rattle.steps.proofs.One.{starts-one, forwards-one, backs-one, turns-one}
 use Rattle.txp.proofs.Decided.{decodes-one}
 use Rattle.ctxp.specs.Answers.{Answers, ofEncoded, ofDecoded, ofWritten, ofRead}
-use Rattle.ctxp.specs.Lent.{FileDecoded, BodyDecoded}
+use Rattle.ctxp.specs.Lent.{FileDecoded, BodyDecoded, dialOf, numbersOf}
 use Rattle.ctxp.proofs.txp_decode.Reads as decode
 use Rattle.ctxp.proofs.txp_decode_body.Reads as decode-body
+use Rattle.ctxp.proofs.txp_start.Reads as start
+use Rattle.ctxp.proofs.txp_forward.Reads as forward
+use Rattle.ctxp.proofs.txp_back.Reads as back
+use Rattle.ctxp.proofs.txp_turn.Reads as turn
 use Rattle.ctxp.proofs.txp_encode.Reads as encode
 use Rattle.ctxp.proofs.txp_header.Reads as header
 use Rattle.ctxp.proofs.txp_worst_body.Reads as worst-body
@@ -184,3 +191,27 @@ pub decode-body-decided : OneOutcome {Lent = List ℕ × Tables} decode-body.Lea
 decode-body-decided k args r r' s s' p q =
     let one = body-one (args .0) (args .1 .0) (args .1 .1 .0) (args .1 .1 .1 .1 .0) (now (args .1 .1 .1 .0)) (tables (now (args .1 .1 .1 .1 .1 .0)) (now (args .1 .1 .1 .1 .1 .1 .0)) (now (args .1 .1 .1 .1 .1 .1 .1 .0))) r r' (now (s .1 .1 .1 .1 .1 .1 .1 .1 .0)) (now (s' .1 .1 .1 .1 .1 .1 .1 .1 .0)) (tables (now (s .1 .1 .1 .1 .1 .0)) (now (s .1 .1 .1 .1 .1 .1 .0)) (now (s .1 .1 .1 .1 .1 .1 .1 .0))) (tables (now (s' .1 .1 .1 .1 .1 .0)) (now (s' .1 .1 .1 .1 .1 .1 .0)) (now (s' .1 .1 .1 .1 .1 .1 .1 .0))) p q in
     (one .0, λ i. (one .1 i, one .2 i))
+
+-- the stepped decoder: outcomes of equal answers, records and tables are equal. The record's numbers are the first parameter
+step-one : {said said' : ReadAnswer} {moved moved' : Record} {left left' : Tables} {r r' : ℕ} {a a' dial dial' : List ℕ} → (said ≡ said') × (moved ≡ moved') × (left ≡ left') → Answers r a (ofRead said) → Answers r' a' (ofRead said') → dial ≡ numbersOf moved → dial' ≡ numbersOf moved'
+    → (r ≡ r') × (_≡_ {A = List ℕ × List ℕ × Tables} (a, dial, left) (a', dial', left'))
+step-one one p q d d' =
+    let said = one-answer (ap ofRead (one .0)) p q in
+    let recorded = d ∙ ap numbersOf (one .1) ∙ sym d' in
+    (said .0, λ i. (said .1 i, recorded i, one .2 i))
+
+pub start-decided : OneOutcome {Lent = List ℕ × List ℕ × Tables} start.Learnt (λ k s. (now (s .1 .1 .1 .1 .1 .1 .1 .0), now (s .0), tables (now (s .1 .1 .1 .1 .0)) (now (s .1 .1 .1 .1 .1 .0)) (now (s .1 .1 .1 .1 .1 .1 .0))))
+start-decided k args r r' s s' p q =
+    step-one (starts-one (args .1 .0) (args .1 .1 .0) (args .1 .1 .1 .0) (dialOf (now (args .0))) (tables (now (args .1 .1 .1 .1 .0)) (now (args .1 .1 .1 .1 .1 .0)) (now (args .1 .1 .1 .1 .1 .1 .0))) (p .said) (q .said) (p .moved) (q .moved) (tables (now (s .1 .1 .1 .1 .0)) (now (s .1 .1 .1 .1 .1 .0)) (now (s .1 .1 .1 .1 .1 .1 .0))) (tables (now (s' .1 .1 .1 .1 .0)) (now (s' .1 .1 .1 .1 .1 .0)) (now (s' .1 .1 .1 .1 .1 .1 .0))) (p .starts) (q .starts)) (p .answers) (q .answers) (p .recorded) (q .recorded)
+
+pub forward-decided : OneOutcome {Lent = List ℕ × List ℕ × Tables} forward.Learnt (λ k s. (now (s .1 .1 .1 .1 .1 .1 .0), now (s .0), tables (now (s .1 .1 .1 .0)) (now (s .1 .1 .1 .1 .0)) (now (s .1 .1 .1 .1 .1 .0))))
+forward-decided k args r r' s s' p q =
+    step-one (forwards-one (args .1 .1 .0) (now (args .1 .0)) (dialOf (now (args .0))) (tables (now (args .1 .1 .1 .0)) (now (args .1 .1 .1 .1 .0)) (now (args .1 .1 .1 .1 .1 .0))) (p .said) (q .said) (p .moved) (q .moved) (tables (now (s .1 .1 .1 .0)) (now (s .1 .1 .1 .1 .0)) (now (s .1 .1 .1 .1 .1 .0))) (tables (now (s' .1 .1 .1 .0)) (now (s' .1 .1 .1 .1 .0)) (now (s' .1 .1 .1 .1 .1 .0))) (p .forwards) (q .forwards)) (p .answers) (q .answers) (p .recorded) (q .recorded)
+
+pub back-decided : OneOutcome {Lent = List ℕ × List ℕ × Tables} back.Learnt (λ k s. (now (s .1 .1 .1 .1 .1 .1 .0), now (s .0), tables (now (s .1 .1 .1 .0)) (now (s .1 .1 .1 .1 .0)) (now (s .1 .1 .1 .1 .1 .0))))
+back-decided k args r r' s s' p q =
+    step-one (backs-one (args .1 .1 .0) (now (args .1 .0)) (dialOf (now (args .0))) (tables (now (args .1 .1 .1 .0)) (now (args .1 .1 .1 .1 .0)) (now (args .1 .1 .1 .1 .1 .0))) (p .said) (q .said) (p .moved) (q .moved) (tables (now (s .1 .1 .1 .0)) (now (s .1 .1 .1 .1 .0)) (now (s .1 .1 .1 .1 .1 .0))) (tables (now (s' .1 .1 .1 .0)) (now (s' .1 .1 .1 .1 .0)) (now (s' .1 .1 .1 .1 .1 .0))) (p .backs) (q .backs)) (p .answers) (q .answers) (p .recorded) (q .recorded)
+
+pub turn-decided : OneOutcome {Lent = List ℕ × List ℕ × Tables} turn.Learnt (λ k s. (now (s .1 .1 .1 .1 .1 .1 .1 .0), now (s .0), tables (now (s .1 .1 .1 .1 .0)) (now (s .1 .1 .1 .1 .1 .0)) (now (s .1 .1 .1 .1 .1 .1 .0))))
+turn-decided k args r r' s s' p q =
+    step-one (turns-one (args .1 .1 .0) (args .1 .1 .1 .0) (now (args .1 .0)) (dialOf (now (args .0))) (tables (now (args .1 .1 .1 .1 .0)) (now (args .1 .1 .1 .1 .1 .0)) (now (args .1 .1 .1 .1 .1 .1 .0))) (p .said) (q .said) (p .moved) (q .moved) (tables (now (s .1 .1 .1 .1 .0)) (now (s .1 .1 .1 .1 .1 .0)) (now (s .1 .1 .1 .1 .1 .1 .0))) (tables (now (s' .1 .1 .1 .1 .0)) (now (s' .1 .1 .1 .1 .1 .0)) (now (s' .1 .1 .1 .1 .1 .1 .0))) (p .turns) (q .turns)) (p .answers) (q .answers) (p .recorded) (q .recorded)

@@ -1,4 +1,4 @@
--- Answers that are equal say the same; and what a lent table holds, by the outcome of the checks.
+-- Answers that are equal say the same; what a lent table holds, by the outcome of the checks; and a step from an equal record.
 use mathlib.Core.Path.{_≡_, refl, sym, ap, subst, _∙_}
 use mathlib.Core.Bool.{Bool, true, false, _&&_, cond, false≢true}
 use mathlib.Core.List.{List}
@@ -13,6 +13,9 @@ use Rattle.sizes.specs.Sizes.{sideFits, levelsFit, allOf, coarsestOf}
 use Rattle.sizes.proofs.Laws.{side-most, all-most, both-left}
 use Rattle.encoder.specs.Body.{Loan}
 use Rattle.encoder.proofs.EncodeLaws.{sent-most}
+use Rattle.decoder.specs.Body.{Tables}
+use Rattle.decoder.specs.declared.body.ReadAnswer.{ReadAnswer}
+use Rattle.steps.specs.declared.Record.{Record}
 use Rattle.places.specs.Answers.{rasterIf, linearIf}
 use Rattle.places.specs.declared.Raster.{Raster}
 use Rattle.places.specs.declared.Linear.{Linear}
@@ -98,3 +101,7 @@ raster-refused (Refused w) p q why e = sym (ap ofRaster e)
 pub linear-refused : (o : Outcome) (q p : ℕ) (why : Refusal) → linearIf o q ≡ linear.Refused why → ofRefusal why ≡ ofRaster (rasterIf o p)
 linear-refused Done q p why e = absurd (false≢true (sym (ap isLinear e)))
 linear-refused (Refused w) q p why e = sym (ap ofLinear e)
+
+-- a step from a record is one from any record that is equal; Steps is one of the four relations of `steps`, at its numbers
+pub step-from : (Steps : Record → Tables → ReadAnswer → Record → Tables → Type 0) {d d' : Record} {held left : Tables} {said : ReadAnswer} {moved : Record} → d ≡ d' → Steps d held said moved left → Steps d' held said moved left
+step-from Steps {d} {d'} {held} {left} {said} {moved} e p = subst (λ (x : Record). Steps x held said moved left) e p

@@ -1,13 +1,14 @@
--- What else a call from C is lent: numbers that stand for a truth, a coefficient, a float, and the coders' tables.
+-- What else a call from C is lent: numbers that stand for a truth, a coefficient, a float, the coders' tables, and the numbers of a scan record.
 use Prim.Native.Nat.{ℕ}
-use mathlib.Core.{Bool.Bool, Bool.not, List.List}
-use lib.{Dec.eqb, IntN.ℤ}
+use mathlib.Core.{Path._≡_, Bool.Bool, Bool.not, List.List, List.[], List._∷_}
+use lib.{Dec.eqb, IntN.ℤ, ListN.getD}
 use lib.Ieee as ieee
 use Rattle.coef.specs.declared.{Signed.Signed, Joined.Joined, Float.Float}
 use Rattle.coef.specs.declared.Joined.the-variants as joineds
 use Rattle.coef.specs.declared.Float.the-variants as floats
 use Rattle.encoder.specs.{Body.Loan, Body.Writes, declared.body.WriteAnswer.WriteAnswer}
 use Rattle.decoder.specs.{Body.Tables, Body.Reads, declared.body.ReadAnswer.ReadAnswer}
+use Rattle.steps.specs.{Steps.Starts, Steps.Forwards, Steps.Backs, Steps.Turns, declared.Record.Record}
 use Rattle.txp.specs.{declared.EncodeAnswer.EncodeAnswer, declared.DecodeAnswer.DecodeAnswer, Calls.Encodes, Calls.Decodes}
 use Rattle.ctxp.specs.Answers.{ofEncoded, ofDecoded, ofWritten, ofRead, Answers}
 
@@ -47,4 +48,44 @@ pub record BodyEncoded (N L : ℕ) (A : List ℤ) (offset budget : ℕ) (held : 
 pub record BodyDecoded (N L P usable : ℕ) (bytes : List ℕ) (held : Tables) (r : ℕ) (answer : List ℕ) (left : Tables) : Type 0 where
   pub said : ReadAnswer
   pub decodes : Reads N L P usable bytes held said left
+  pub answers : Answers r answer (ofRead said)
+
+-- the scan record that eight numbers are, in the order of the header's `txp_record`; the numbers of a record
+abbrev pub dialOf : List ℕ → Record
+dialOf dial =
+    record { n = getD dial 0 0; l = getD dial 1 0; p = getD dial 2 0; plane = getD dial 3 0; pass = getD dial 4 0; place = getD dial 5 0; used = getD dial 6 0; pending = getD dial 7 0 }
+
+abbrev pub numbersOf : Record → List ℕ
+numbersOf r = r .n ∷ r .l ∷ r .p ∷ r .plane ∷ r .pass ∷ r .place ∷ r .used ∷ r .pending ∷ []
+
+-- a stepped decoding begins: some answer and some record are those that the contract of `steps` allows, and the numbers are theirs; dial and dial' are the lent numbers before and after
+pub record Started (N L P : ℕ) (dial : List ℕ) (held : Tables) (r : ℕ) (answer dial' : List ℕ) (left : Tables) : Type 0 where
+  pub said : ReadAnswer
+  pub moved : Record
+  pub starts : Starts N L P (dialOf dial) held said moved left
+  pub recorded : dial' ≡ numbersOf moved
+  pub answers : Answers r answer (ofRead said)
+
+-- the same of one bit forward
+pub record Forwarded (usable : ℕ) (body dial : List ℕ) (held : Tables) (r : ℕ) (answer dial' : List ℕ) (left : Tables) : Type 0 where
+  pub said : ReadAnswer
+  pub moved : Record
+  pub forwards : Forwards usable body (dialOf dial) held said moved left
+  pub recorded : dial' ≡ numbersOf moved
+  pub answers : Answers r answer (ofRead said)
+
+-- of one bit back
+pub record Backed (usable : ℕ) (body dial : List ℕ) (held : Tables) (r : ℕ) (answer dial' : List ℕ) (left : Tables) : Type 0 where
+  pub said : ReadAnswer
+  pub moved : Record
+  pub backs : Backs usable body (dialOf dial) held said moved left
+  pub recorded : dial' ≡ numbersOf moved
+  pub answers : Answers r answer (ofRead said)
+
+-- and of a turn to a number of bits used
+pub record Turned (usable to : ℕ) (body dial : List ℕ) (held : Tables) (r : ℕ) (answer dial' : List ℕ) (left : Tables) : Type 0 where
+  pub said : ReadAnswer
+  pub moved : Record
+  pub turns : Turns usable to body (dialOf dial) held said moved left
+  pub recorded : dial' ≡ numbersOf moved
   pub answers : Answers r answer (ofRead said)

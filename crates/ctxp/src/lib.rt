@@ -1,6 +1,7 @@
 // The calls of the base for programs in C: `include/txp.h` declares them.
 // Each gives back the number of the refusal, 0 where it was done, and puts every other number into the lent answer.
 mod answers;
+mod dials;
 
 use answers::put;
 ghost use mathlib.Core.Path.{_≡_};
@@ -21,7 +22,7 @@ ghost use Rattle.decoder.specs.Body.{tables};
 ghost use Rattle.txp.specs.Header.{headerOf};
 ghost use Rattle.txp.specs.Calls.{headerChecks, headerAnswer};
 ghost use Rattle.ctxp.specs.Answers.{blank, ofValue, ofPlanes, ofOutcome, ofHeader, ofWorst, ofFigures, ofLinear, ofRaster, ofParted, ofJoined, ofFloat, ofNext, Answers};
-ghost use Rattle.ctxp.specs.Lent.{asBool, signedOf, joinedIn, floatIn, FileEncoded, BodyEncoded, FileDecoded, BodyDecoded};
+ghost use Rattle.ctxp.specs.Lent.{asBool, signedOf, joinedIn, floatIn, FileEncoded, BodyEncoded, FileDecoded, BodyDecoded, Started, Forwarded, Backed, Turned};
 
 // ---- the file
 
@@ -116,6 +117,94 @@ pub extern "C" fn txp_decode_body(
 {
     let done = decoder::decode(n, l, p, body, usable, values, precisions, marks);
     put(answer, answers::of_read(done))
+}
+
+// ---- the stepped decoder
+
+// The record and the tables before the first bit of a body.
+#[no_mangle]
+pub extern "C" fn txp_start(
+    dial: &mut [u32; 8],
+    n: u32,
+    l: u32,
+    p: u32,
+    values: &mut [i32],
+    precisions: &mut [u8],
+    marks: &mut [u8],
+    answer: &mut [u32; 15],
+) -> u32
+    ensures { λ r. ⌜ Started n l p (now (dial .entry)) (tables (now (values .entry)) (now (precisions .entry)) (now (marks .entry))) r (now (answer .exit)) (now (dial .exit)) (tables (now (values .exit)) (now (precisions .exit)) (now (marks .exit))) ⌝ }
+{
+    let from = dials::dial_of(dial);
+    let done = steps::take_start(from, n, l, p, values, precisions, marks);
+    let moved = done.dial;
+    let said = done.answer;
+    dials::put_dial(dial, moved);
+    put(answer, answers::of_read(said))
+}
+
+// One bit forward.
+#[no_mangle]
+pub extern "C" fn txp_forward(
+    dial: &mut [u32; 8],
+    body: &[u8],
+    usable: u32,
+    values: &mut [i32],
+    precisions: &mut [u8],
+    marks: &mut [u8],
+    answer: &mut [u32; 15],
+) -> u32
+    ensures { λ r. ⌜ Forwarded usable (now (body .entry)) (now (dial .entry)) (tables (now (values .entry)) (now (precisions .entry)) (now (marks .entry))) r (now (answer .exit)) (now (dial .exit)) (tables (now (values .exit)) (now (precisions .exit)) (now (marks .exit))) ⌝ }
+{
+    let from = dials::dial_of(dial);
+    let done = steps::take_forward(from, body, usable, values, precisions, marks);
+    let moved = done.dial;
+    let said = done.answer;
+    dials::put_dial(dial, moved);
+    put(answer, answers::of_read(said))
+}
+
+// One bit back.
+#[no_mangle]
+pub extern "C" fn txp_back(
+    dial: &mut [u32; 8],
+    body: &[u8],
+    usable: u32,
+    values: &mut [i32],
+    precisions: &mut [u8],
+    marks: &mut [u8],
+    answer: &mut [u32; 15],
+) -> u32
+    ensures { λ r. ⌜ Backed usable (now (body .entry)) (now (dial .entry)) (tables (now (values .entry)) (now (precisions .entry)) (now (marks .entry))) r (now (answer .exit)) (now (dial .exit)) (tables (now (values .exit)) (now (precisions .exit)) (now (marks .exit))) ⌝ }
+{
+    let from = dials::dial_of(dial);
+    let done = steps::take_back(from, body, usable, values, precisions, marks);
+    let moved = done.dial;
+    let said = done.answer;
+    dials::put_dial(dial, moved);
+    put(answer, answers::of_read(said))
+}
+
+// To a number of bits used, forward or back.
+#[no_mangle]
+pub extern "C" fn txp_turn(
+    dial: &mut [u32; 8],
+    body: &[u8],
+    usable: u32,
+    to: u32,
+    values: &mut [i32],
+    precisions: &mut [u8],
+    marks: &mut [u8],
+    answer: &mut [u32; 15],
+) -> u32
+    ensures { λ r. ⌜ Turned usable to (now (body .entry)) (now (dial .entry)) (tables (now (values .entry)) (now (precisions .entry)) (now (marks .entry))) r (now (answer .exit)) (now (dial .exit)) (tables (now (values .exit)) (now (precisions .exit)) (now (marks .exit))) ⌝ }
+{
+    let from = dials::dial_of(dial);
+    let done = steps::take_turn(from, body, usable, to, values, precisions, marks);
+    let moved = done.dial;
+    let said = done.answer;
+    dials::put_dial(dial, moved);
+    put(answer, answers::of_read(said))
 }
 
 // ---- summaries and figures

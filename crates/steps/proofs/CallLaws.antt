@@ -1,38 +1,46 @@
 -- The calls with the record by value: what their checks say where all hold, the first I entries put back into the tables, and many steps
 -- of one kind.
-use Prim.Native.Nat.{ℕ, suc, _+_, _*_, _-_, _≤_, _<_, min}
+use Prim.Native.Nat.{ℕ, zero, suc, _+_, _*_, _-_, _≤_, _<_, min}
 use mathlib.Core.Path.{_≡_, refl, sym, ap, subst, _∙_}
 use mathlib.Core.Bool.{Bool, true, false, cond, _&&_}
 use mathlib.Core.List.{List, [], _∷_, _++_}
 use native.Mathlib.Omega.{arith}
-use borrow.Author.Tests.{leb-true, le-leb, lt-leb}
+use borrow.Author.Tests.{leb-true, le-leb, lt-leb, le-ltb, ltb-true, eqb-false}
 use lib.Dec.{leb, ltb, eqb}
-use lib.ListN.{length, take, take-append-drop}
+use lib.IntN.{ℤ}
+use lib.ListN.{length, drop, take-append-drop, length-append}
+use lib.Seq.{length-take-le}
 use Rattle.refusals.specs.Checks.{Check, need, firstOf}
 use Rattle.refusals.specs.declared.Refusal.{Refusal}
-use Rattle.refusals.specs.declared.Refusal.the-variants.{Contradiction, Beyond, First, Spent}
+use Rattle.refusals.specs.declared.Refusal.the-variants.{Contradiction, Beyond, First, Spent, Lent}
+use Rattle.refusals.specs.declared.Refusal.the-variants as refusal
 use Rattle.refusals.specs.declared.Outcome.{Outcome}
 use Rattle.refusals.specs.declared.Outcome.the-variants as outcome
 use Rattle.refusals.proofs.Laws.{first-holds, first-fails, first-none, AllHold, passed, first-then-done, first-then-refused}
-use Rattle.sizes.specs.Sizes.{allOf, sideFits}
-use Rattle.sizes.proofs.Laws.{both-left, both-right}
+use Rattle.sizes.specs.Sizes.{allOf, coarsestOf, sideFits}
+use Rattle.sizes.proofs.Laws.{both, both-left, both-right}
 use Rattle.sizes.specs.Tables.{table}
-use Rattle.bits.specs.Bits.{bitAt, digit}
+use Rattle.bits.specs.Bits.{bitAt}
 use Rattle.nls.specs.Scan.{State}
-use Rattle.room.specs.Room.{roomIn, readChecks, bodyBits}
+use Rattle.room.specs.Room.{roomIn, tableChecks, readChecks, bodyBits}
 use Rattle.room.proofs.Laws.{DecodeReady, decode-ready}
 use Rattle.decoder.specs.Body.{Tables, tables, over, ReadsTo, Reads}
 use Rattle.decoder.specs.declared.body.ReadAnswer.{ReadAnswer}
 use Rattle.decoder.specs.declared.body.ReadAnswer.the-variants as decode
 use Rattle.decoder.specs.declared.body.ReadTo.{ReadTo}
-use Rattle.moves.specs.Stands.{passNumber}
+use Rattle.moves.specs.Stands.{standOf}
 use Rattle.moves.specs.Moves.{onward}
-use Rattle.steps.specs.Records.{recordAt, recordOf, recordAfter, inRange, stateIn}
-use Rattle.steps.specs.Moved.{Step, step, stays, barred, raised, raisedTo, lowered}
-use Rattle.steps.specs.Ready.{forwardIn, backIn}
-use Rattle.steps.specs.Steps.{usableBits, recordChecks, forwardChecks, backChecks, ownOf, within, forwardTo, forwardOf, backTo, backOf, stepsOf, positionOf, turnTo, turnOf, Starts}
+use Rattle.moves.proofs.Laws.{state-stand}
+use Rattle.undo.specs.Back.{bigIn, back}
+use Rattle.steps.specs.Records.{recordOf, recordAfter, inRange, standIn, stateIn}
+use Rattle.steps.specs.Moved.{Step, step, stays, askedIn, heard, unheard, noted, movedTo, barred, raised, raisedTo, lowered, loweredTo}
+use Rattle.steps.specs.Ready.{Stood, forwardIn, backIn}
+use Rattle.steps.specs.Steps.{usableBits, recordChecks, ownOf, within, forwardTo, forwardOf, backTo, backOf, stepsOf, positionOf, turnTo, turnOf, Starts}
 use Rattle.steps.specs.declared.Record.{Record}
 use Rattle.steps.proofs.RecordLaws.{range-sizes}
+use Rattle.steps.proofs.Standing.{stood-first, stood-onward, stood-back, record-range, record-n, record-used}
+use Rattle.steps.proofs.Lengths.{heard-length, unheard-length, noted-length, onward-length, back-length}
+use Rattle.steps.proofs.Good.{Own, own-over, over-over}
 
 -- ---- the checks of a record and of the tables lent with it, where all hold
 
@@ -59,6 +67,15 @@ call-ready r most values precisions marks is =
       precisionsRoom = leb-true (allOf (r .n)) precisions (both-left (leb (allOf (r .n)) precisions) (leb (allOf (r .n)) marks) others);
       marksRoom = leb-true (allOf (r .n)) marks (both-right (leb (allOf (r .n)) precisions) (leb (allOf (r .n)) marks) others);
     }
+
+-- and all hold where these are so
+pub checks-done : (r : Record) (most values precisions marks : ℕ) → inRange r ≡ true → r .used ≤ most → allOf (r .n) ≤ values → allOf (r .n) ≤ precisions → allOf (r .n) ≤ marks
+    → firstOf (recordChecks r most values precisions marks) ≡ outcome.Done
+unfolding roomIn
+checks-done r most values precisions marks range few v k m =
+    first-holds (inRange r && leb (r .used) most) refusal.Record (tableChecks (allOf (r .n)) values precisions marks) (both range (le-leb (r .used) most few))
+    ∙ first-holds (roomIn (allOf (r .n)) values precisions marks) Lent [] (both (le-leb (allOf (r .n)) values v) (both (le-leb (allOf (r .n)) precisions k) (le-leb (allOf (r .n)) marks m)))
+    ∙ first-none
 
 -- ---- one step, over the first I entries
 
@@ -128,56 +145,18 @@ module _ (usable : ℕ) (body : List ℕ) (r : Record) (held : Tables) (most : �
         call-moved checks (ltb 0 (r .used)) First r held (λ o. backTo o body r held) all lower (so _ is)
         (ap (λ (k : ℕ). within k held (lower (ownOf k held))) (sym ea)) refl answer dial own e
 
--- ---- the bits used after a step that is done
+  -- where no usable bit is left, and where no bit is used
+  pub forward-at-end : outcome.Done ≡ outcomeFor r held most → r .used ≡ most → stays Spent r held ≡ forwardOf usable body r held
+  forward-at-end is h =
+      let I : ℕ = allOf (r .n) in
+      ap (λ (t : Tables). stays Spent r t) (sym (own-back I held))
+      ∙ forward-moved is I refl (decode.Refused Spent) r (ownOf I held) (rw (le-ltb (r .used) most (omega (arith, h))))
 
-abbrev Counts : ℕ → ReadAnswer → Record → Type 0
-Counts n (decode.Done d) dial = dial .used ≡ n
-Counts n (decode.Refused why) dial = Unit {0}
-
-record-used : (N L P used : ℕ) (s : State) → recordOf N L P used s .used ≡ used
-unfolding recordOf
-record-used N L P used s = tell (eqb (s .left) 0)
-  where
-    tell : (x : Bool) → (cond x (recordAt N L P 0 2 (allOf N) used 0) (recordAt N L P (s .left - 1) (passNumber (s .pass)) (s .place) used (digit (s .pending)))) .used ≡ used
-    tell true = refl
-    tell false = refl
-
-counted : (n : ℕ) (x : Step) (d : ReadTo) → x .answer ≡ decode.Done d → Counts n (x .answer) (x .dial) → x .dial .used ≡ n
-counted n x d g h = subst (λ (a : ReadAnswer). Counts n a (x .dial)) g h
-
-module _ (usable : ℕ) (body : List ℕ) (r : Record) (held : Tables) where
-  abbrev I : ℕ
-  I = allOf (r .n)
-
-  abbrev s : State
-  s = stateIn r (take I (held .marks))
-
-  forward-count : Counts (r .used + 1) (forwardOf usable body r held .answer) (forwardOf usable body r held .dial)
-  forward-count =
-      on (firstOf (forwardChecks r (usableBits usable body) (length (held .values)) (length (held .precisions)) (length (held .marks))))
-    where
-      moved : (x y : Bool) → let z = cond x (stays (Beyond (r .used)) r (ownOf I held)) (cond y (stays (Contradiction (r .used)) r (ownOf I held)) (raisedTo r s (bitAt body (r .used)) (ownOf I held))) in Counts (r .used + 1) (z .answer) (z .dial)
-      moved true y = tt
-      moved false true = tt
-      moved false false = record-used (r .n) (r .l) (r .p) (r .used + 1) (onward I s (bitAt body (r .used)))
-
-      on : (o : Outcome) → Counts (r .used + 1) (forwardTo o body r held .answer) (forwardTo o body r held .dial)
-      on (outcome.Refused why) = tt
-      on outcome.Done = moved (eqb (s .left) 0) (barred r s (bitAt body (r .used)))
-
-  back-count : Counts (r .used - 1) (backOf usable body r held .answer) (backOf usable body r held .dial)
-  back-count =
-      on (firstOf (backChecks r (usableBits usable body) (length (held .values)) (length (held .precisions)) (length (held .marks))))
-    where
-      on : (o : Outcome) → Counts (r .used - 1) (backTo o body r held .answer) (backTo o body r held .dial)
-      on (outcome.Refused why) = tt
-      on outcome.Done = record-used (r .n) (r .l) (r .p) (r .used - 1) _
-
-  pub forward-used : (x : Step) → x ≡ forwardOf usable body r held → (d : ReadTo) → x .answer ≡ decode.Done d → x .dial .used ≡ r .used + 1
-  forward-used x e d g = counted (r .used + 1) x d g (subst (λ (z : Step). Counts (r .used + 1) (z .answer) (z .dial)) (sym e) forward-count)
-
-  pub back-used : (x : Step) → x ≡ backOf usable body r held → (d : ReadTo) → x .answer ≡ decode.Done d → x .dial .used ≡ r .used - 1
-  back-used x e d g = counted (r .used - 1) x d g (subst (λ (z : Step). Counts (r .used - 1) (z .answer) (z .dial)) (sym e) back-count)
+  pub back-at-first : outcome.Done ≡ outcomeFor r held most → r .used ≡ 0 → stays First r held ≡ backOf usable body r held
+  back-at-first is h =
+      let I : ℕ = allOf (r .n) in
+      ap (λ (t : Tables). stays First r t) (sym (own-back I held))
+      ∙ back-moved is I refl (decode.Refused First) r (ownOf I held) (rw (le-ltb 0 (r .used) (omega (arith, h))))
 
 -- ---- many steps of one kind
 
@@ -207,6 +186,201 @@ pub steps-none : (f : Record → Tables → Step) (k : ℕ) (at : Step) → k �
 unfolding stepsOf
 steps-none f k at e = rw e
 
+-- only one is left
+pub steps-one : (f : Record → Tables → Step) (k : ℕ) (at : Step) → k ≡ 1 → stepsOf f k at ≡ f (at .dial) (at .held)
+unfolding stepsOf
+steps-one f k at e = ap (λ (n : ℕ). stepsOf f n at) e ∙ tell (f (at .dial) (at .held) .answer)
+  where
+    tell : (a : ReadAnswer) → elim a [ decode.Done y ↦ stepsOf f 0 (f (at .dial) (at .held)) | decode.Refused why ↦ f (at .dial) (at .held) ] ≡ f (at .dial) (at .held)
+    tell (decode.Done y) = refl
+    tell (decode.Refused why) = refl
+
+-- Steps f over whole tables and steps g over their first I entries: where each f is a g, with the rest of the tables as it was, many are.
+-- `Holds` is what makes it so, and what a step that is done keeps.
+module _ (I : ℕ) (f g : Record → Tables → Step) (Holds : Record → Tables → Type 0)
+    (each : (r : Record) (held : Tables) → Holds r held → within I held (g r (ownOf I held)) ≡ f r held)
+    (kept : (r : Record) (held : Tables) → Holds r held → (d : ReadTo) → g r (ownOf I held) .answer ≡ decode.Done d
+    → Own I (g r (ownOf I held) .held) × Holds (g r (ownOf I held) .dial) (over I (g r (ownOf I held) .held) held)) where
+  abbrev Lifts : ℕ → Type 0
+  Lifts k = (a : ReadAnswer) (r : Record) (held : Tables) → Holds r held → within I held (stepsOf g k (step a r (ownOf I held))) ≡ stepsOf f k (step a r held)
+
+  lifts-none : Lifts 0
+  unfolding stepsOf
+  lifts-none a r held h = ap (λ (t : Tables). step a r t) (own-back I held)
+
+  lifts-more : (k : ℕ) → Lifts k → Lifts (suc k)
+  lifts-more k more a r held h = tell (x .answer) refl
+    where
+      own : Tables
+      own = ownOf I held
+
+      x : Step
+      x = g r own
+
+      same : within I held x ≡ f r held
+      same = each r held h
+
+      tell : (b : ReadAnswer) → x .answer ≡ b → within I held (stepsOf g (suc k) (step a r own)) ≡ stepsOf f (suc k) (step a r held)
+      tell (decode.Refused why) e =
+          ap (λ (s : Step). within I held s) (sym (steps-end g (step a r own) x refl (suc k) k refl why e)) ∙ same
+          ∙ steps-end f (step a r held) (f r held) refl (suc k) k refl why (ap (λ (s : Step). s .answer) (sym same) ∙ e)
+      tell (decode.Done d) e =
+          let w = kept r held h d e in
+          let later : Tables = over I (x .held) held in
+          let end : Step = stepsOf g k (step (x .answer) (x .dial) (ownOf I later)) in
+          ap (λ (s : Step). within I held s) (sym (steps-on g (step a r own) x refl (suc k) k refl d e))
+          ∙ ap (λ (t : Tables). within I held (stepsOf g k (step (x .answer) (x .dial) t))) (sym (own-over I (x .held) (w .0) held))
+          ∙ ap (λ (t : Tables). step (end .answer) (end .dial) t) (sym (over-over I (x .held) (w .0) held (end .held)))
+          ∙ more (x .answer) (x .dial) later (w .1)
+          ∙ ap (λ (s : Step). stepsOf f k s) same
+          ∙ steps-on f (step a r held) (f r held) refl (suc k) k refl d (ap (λ (s : Step). s .answer) (sym same) ∙ e)
+
+  steps-within : (k : ℕ) → Lifts k
+  steps-within zero = lifts-none
+  steps-within (suc k) = lifts-more k (steps-within k)
+
+-- ---- what a step over tables of I entries keeps
+
+-- a step that is done leaves a record of the same size, in range, and tables as long
+abbrev Keeps : ℕ → ℕ → ReadAnswer → Record → Tables → Type 0
+Keeps N most (decode.Done d) dial own = (dial .n ≡ N) × (inRange dial ≡ true) × (dial .used ≤ most) × Own (allOf N) own
+Keeps N most (decode.Refused why) dial own = Unit {0}
+
+module _ (r : Record) (range : inRange r ≡ true) (most : ℕ) where
+  moved-keeps : (used : ℕ) (s : State) (v : List ℤ) (k : List ℕ) → used ≤ most → Stood r (standOf s) → Own (allOf (r .n)) (tables v k (s .marks))
+      → let x = movedTo r used s v k in Keeps (r .n) most (x .answer) (x .dial) (x .held)
+  moved-keeps used s v k h w o = (
+    record-n (r .n) (r .l) (r .p) used s,
+    subst (λ (t : State). inRange (recordOf (r .n) (r .l) (r .p) used t) ≡ true) (state-stand s) (record-range r range used (standOf s) (s .marks) w),
+    subst (λ (x : ℕ). x ≤ most) (sym (record-used (r .n) (r .l) (r .p) used s)) h,
+    o,
+  )
+
+  module _ (body : List ℕ) (t : Tables) (o : Own (allOf (r .n)) t) where
+    abbrev here : State
+    here = stateIn r (t .marks)
+
+    abbrev forth : Step
+    forth = forwardIn most body r t
+
+    abbrev hence : Step
+    hence = backIn body r t
+
+    forward-keeps : Keeps (r .n) most (forth .answer) (forth .dial) (forth .held)
+    forward-keeps = on (ltb (r .used) most) (eqb (here .left) 0) (barred r here a) refl refl
+      where
+        a : Bool
+        a = bitAt body (r .used)
+
+        on : (x y z : Bool) → ltb (r .used) most ≡ x → eqb (here .left) 0 ≡ y
+            → let s = cond x (cond y (stays (Beyond (r .used)) r t) (cond z (stays (Contradiction (r .used)) r t) (raisedTo r here a t))) (stays Spent r t) in Keeps (r .n) most (s .answer) (s .dial) (s .held)
+        on false y z e f = tt
+        on true true z e f = tt
+        on true false true e f = tt
+        on true false false e f =
+            moved-keeps (r .used + 1) (onward (allOf (r .n)) here a) (heard (askedIn (allOf (r .n)) here) (here .place) (here .left - 1) a (t .values)) (noted (r .n) (r .l) (askedIn (allOf (r .n)) here) (here .place) (here .left - 1) a (t .precisions))
+            (omega (arith, ltb-true (r .used) most e))
+            (stood-onward r range (standIn r) (t .marks) a (stood-first r range) (omega (arith, eqb-false (here .left) 0 f)))
+            (record {
+              values = heard-length (askedIn (allOf (r .n)) here) (here .place) (here .left - 1) a (t .values) ∙ o .values;
+              precisions = noted-length (r .n) (r .l) (askedIn (allOf (r .n)) here) (here .place) (here .left - 1) a (t .precisions) ∙ o .precisions;
+              marks = onward-length (allOf (r .n)) (allOf (r .n)) here a (o .marks);
+            })
+
+    back-keeps : r .used ≤ most → Keeps (r .n) most (hence .answer) (hence .dial) (hence .held)
+    back-keeps few = on (ltb 0 (r .used))
+      where
+        a : Bool
+        a = bitAt body (r .used - 1)
+
+        s : State
+        s = back (allOf (r .n)) (coarsestOf (r .n) (r .l)) (r .p) (bigIn (t .values)) here
+
+        on : (x : Bool) → let z = cond x (loweredTo r s a t) (stays First r t) in Keeps (r .n) most (z .answer) (z .dial) (z .held)
+        on false = tt
+        on true =
+            moved-keeps (r .used - 1) s (unheard (askedIn (allOf (r .n)) s) (s .place) (s .left) (t .values)) (noted (r .n) (r .l) (askedIn (allOf (r .n)) s) (s .place) (s .left) a (t .precisions))
+            (omega (arith, few))
+            (stood-back r range (standIn r) (t .marks) (t .values) (o .marks) (stood-first r range))
+            (record {
+              values = unheard-length (askedIn (allOf (r .n)) s) (s .place) (s .left) (t .values) ∙ o .values;
+              precisions = noted-length (r .n) (r .l) (askedIn (allOf (r .n)) s) (s .place) (s .left) a (t .precisions) ∙ o .precisions;
+              marks = back-length (allOf (r .n)) (allOf (r .n)) (coarsestOf (r .n) (r .l)) (r .p) (bigIn (t .values)) here (o .marks);
+            })
+
+-- ---- many steps, over the first I entries
+
+-- the checks hold, for a record of N
+record Checked (N most : ℕ) (r : Record) (held : Tables) : Type 0 where
+  side : r .n ≡ N
+  done : outcome.Done ≡ outcomeFor r held most
+
+module _ (N most : ℕ) (r : Record) (held : Tables) (h : Checked N most r held) where
+  abbrev own : Tables
+  own = ownOf (allOf N) held
+
+  ready : CallReady r most (length (held .values)) (length (held .precisions)) (length (held .marks))
+  ready = call-ready r most (length (held .values)) (length (held .precisions)) (length (held .marks)) (h .done)
+
+  as-long : Own (allOf N) own
+  as-long =
+      let e : allOf (r .n) ≡ allOf N = ap allOf (h .side) in
+      record {
+        values = length-take-le (allOf N) (held .values) (omega (arith, e, ready .valuesRoom));
+        precisions = length-take-le (allOf N) (held .precisions) (omega (arith, e, ready .precisionsRoom));
+        marks = length-take-le (allOf N) (held .marks) (omega (arith, e, ready .marksRoom));
+      }
+
+  as-long-here : Own (allOf (r .n)) own
+  as-long-here = subst (λ (n : ℕ). Own (allOf n) own) (sym (h .side)) as-long
+
+  checked-on : (x : Step) → Keeps (r .n) most (x .answer) (x .dial) (x .held) → (d : ReadTo) → x .answer ≡ decode.Done d
+      → Own (allOf N) (x .held) × Checked N most (x .dial) (over (allOf N) (x .held) held)
+  checked-on x k d e =
+      let z : Keeps N most (decode.Done d) (x .dial) (x .held) = subst (λ (n : ℕ). Keeps n most (decode.Done d) (x .dial) (x .held)) (h .side) (subst (λ (a : ReadAnswer). Keeps (r .n) most a (x .dial) (x .held)) e k) in
+      let i : allOf (x .dial .n) ≡ allOf N = ap allOf (z .0) in (
+        z .3,
+        record {
+          side = z .0;
+          done =
+              sym (checks-done (x .dial) most (length (x .held .values ++ drop (allOf N) (held .values))) (length (x .held .precisions ++ drop (allOf N) (held .precisions))) (length (x .held .marks ++ drop (allOf N) (held .marks)))
+              (z .1) (z .2)
+              (omega (arith, i, length-append (x .held .values) (drop (allOf N) (held .values)), z .3 .values))
+              (omega (arith, i, length-append (x .held .precisions) (drop (allOf N) (held .precisions)), z .3 .precisions))
+              (omega (arith, i, length-append (x .held .marks) (drop (allOf N) (held .marks)), z .3 .marks)));
+        },
+      )
+
+module _ (usable : ℕ) (body : List ℕ) (most : ℕ) (em : most ≡ usableBits usable body) (N : ℕ) where
+  forward-each : (r : Record) (held : Tables) → Checked N most r held → within (allOf N) held (forwardIn most body r (ownOf (allOf N) held)) ≡ forwardOf usable body r held
+  forward-each r held h =
+      let x : Step = forwardIn most body r (ownOf (allOf N) held) in
+      forward-moved usable body r held most em (h .done) (allOf N) (ap allOf (sym (h .side))) (x .answer) (x .dial) (x .held) refl
+
+  forward-on : (r : Record) (held : Tables) → Checked N most r held → (d : ReadTo) → let x = forwardIn most body r (ownOf (allOf N) held) in x .answer ≡ decode.Done d
+      → Own (allOf N) (x .held) × Checked N most (x .dial) (over (allOf N) (x .held) held)
+  forward-on r held h d e =
+      checked-on N most r held h (forwardIn most body r (ownOf (allOf N) held))
+      (forward-keeps r (ready N most r held h .range) most body (ownOf (allOf N) held) (as-long-here N most r held h)) d e
+
+  back-each : (r : Record) (held : Tables) → Checked N most r held → within (allOf N) held (backIn body r (ownOf (allOf N) held)) ≡ backOf usable body r held
+  back-each r held h =
+      let x : Step = backIn body r (ownOf (allOf N) held) in
+      back-moved usable body r held most em (h .done) (allOf N) (ap allOf (sym (h .side))) (x .answer) (x .dial) (x .held) refl
+
+  back-on : (r : Record) (held : Tables) → Checked N most r held → (d : ReadTo) → let x = backIn body r (ownOf (allOf N) held) in x .answer ≡ decode.Done d
+      → Own (allOf N) (x .held) × Checked N most (x .dial) (over (allOf N) (x .held) held)
+  back-on r held h d e =
+      checked-on N most r held h (backIn body r (ownOf (allOf N) held))
+      (back-keeps r (ready N most r held h .range) most body (ownOf (allOf N) held) (as-long-here N most r held h) (ready N most r held h .few)) d e
+
+  module _ (k : ℕ) (a : ReadAnswer) (r : Record) (held : Tables) (h : Checked N most r held) where
+    forward-all : within (allOf N) held (stepsOf (forwardIn most body) k (step a r (ownOf (allOf N) held))) ≡ stepsOf (forwardOf usable body) k (step a r held)
+    forward-all = steps-within (allOf N) (forwardOf usable body) (forwardIn most body) (Checked N most) forward-each forward-on k a r held h
+
+    back-all : within (allOf N) held (stepsOf (backIn body) k (step a r (ownOf (allOf N) held))) ≡ stepsOf (backOf usable body) k (step a r held)
+    back-all = steps-within (allOf N) (backOf usable body) (backIn body) (Checked N most) back-each back-on k a r held h
+
 -- ---- a turn
 
 module _ (usable to : ℕ) (body : List ℕ) (r : Record) (held : Tables) (most : ℕ) (em : most ≡ usableBits usable body) where
@@ -216,22 +390,32 @@ module _ (usable to : ℕ) (body : List ℕ) (r : Record) (held : Tables) (most 
   pub turn-refused : (why : Refusal) → outcome.Refused why ≡ outcomeFor r held most → stays why r held ≡ turnOf usable to body r held
   turn-refused why is = by-checks (outcome.Refused why) is
 
-  -- from the position of the record, as it was made
-  module _ (is : outcome.Done ≡ outcomeFor r held most) (answer : ReadAnswer) (dial : Record) (same : dial ≡ r) (position : answer ≡ positionOf r) (x : Step) where
-    abbrev down : Record → ReadAnswer → Step
-    down d a = stepsOf (backOf usable body) (d .used - to) (step a d held)
+  module _ (is : outcome.Done ≡ outcomeFor r held most) (all : ℕ) (ea : all ≡ allOf (r .n)) (x : Step) where
+    abbrev down : Step
+    down = stepsOf (backOf usable body) (r .used - to) (step (positionOf r) r held)
 
-    abbrev up : Record → ReadAnswer → Step
-    up d a = stepsOf (forwardOf usable body) (to - d .used) (step a d held)
+    abbrev up : Step
+    up = stepsOf (forwardOf usable body) (to - r .used) (step (positionOf r) r held)
 
-    by-test : (b : Bool) → leb to (r .used) ≡ b → cond b (down r (positionOf r)) (up r (positionOf r)) ≡ turnOf usable to body r held
-    by-test b e = ap (λ (t : Bool). cond t (down r (positionOf r)) (up r (positionOf r))) (sym e) ∙ by-checks outcome.Done is
+    well : Checked (r .n) most r held
+    well = record { side = refl; done = is }
 
-    pub turn-down : to ≤ r .used → x ≡ stepsOf (backOf usable body) (dial .used - to) (step answer dial held) → x ≡ turnOf usable to body r held
-    turn-down h e = e ∙ (λ i. down (same i) (position i)) ∙ by-test true (le-leb to (r .used) h)
+    by-test : (b : Bool) → leb to (r .used) ≡ b → cond b down up ≡ turnOf usable to body r held
+    by-test b e = ap (λ (t : Bool). cond t down up) (sym e) ∙ by-checks outcome.Done is
 
-    pub turn-up : r .used < to → x ≡ stepsOf (forwardOf usable body) (to - dial .used) (step answer dial held) → x ≡ turnOf usable to body r held
-    turn-up h e = e ∙ (λ i. up (same i) (position i)) ∙ by-test false (lt-leb to (r .used) h)
+    pub turn-down : to ≤ r .used → x ≡ stepsOf (backIn body) (r .used - to) (step (positionOf r) r (ownOf all held)) → within all held x ≡ turnOf usable to body r held
+    turn-down h e =
+        ap (λ (s : Step). within all held s) e
+        ∙ ap (λ (n : ℕ). within n held (stepsOf (backIn body) (r .used - to) (step (positionOf r) r (ownOf n held)))) ea
+        ∙ back-all usable body most em (r .n) (r .used - to) (positionOf r) r held well
+        ∙ by-test true (le-leb to (r .used) h)
+
+    pub turn-up : r .used < to → x ≡ stepsOf (forwardIn most body) (to - r .used) (step (positionOf r) r (ownOf all held)) → within all held x ≡ turnOf usable to body r held
+    turn-up h e =
+        ap (λ (s : Step). within all held s) e
+        ∙ ap (λ (n : ℕ). within n held (stepsOf (forwardIn most body) (to - r .used) (step (positionOf r) r (ownOf n held)))) ea
+        ∙ forward-all usable body most em (r .n) (to - r .used) (positionOf r) r held well
+        ∙ by-test false (lt-leb to (r .used) h)
 
 -- ---- the start
 

@@ -1,81 +1,46 @@
 -- Where record and tables are those that decoding some bits leaves.
-use Prim.Native.Nat.{ℕ, zero, suc, _+_, _*_, _-_, _≤_, _<_, min}
+use Prim.Native.Nat.{ℕ, _*_, _≤_, _<_, min}
 use mathlib.Core.Path.{_≡_, refl, sym, ap, subst, _∙_}
-use mathlib.Core.Bool.{Bool, true, false, cond, _&&_, _||_, and-false}
+use mathlib.Core.Bool.{Bool, true}
 use mathlib.Core.Option.{Option, none, some}
 use mathlib.Core.List.{List, [], _∷_, _++_}
-use native.Mathlib.Decide.{ℕ-discrete}
 use native.Mathlib.Omega.{arith}
-use borrow.Author.Tests.{eq-eqb, ne-eqb, lt-ltb, le-leb}
-use lib.Dec.{ltb, leb, eqb}
 use lib.IntN.{ℤ}
-use lib.ListN.{length, getD, take, drop, length-append}
+use lib.ListN.{length, take, drop, length-append}
 use lib.Seq.{take-at, drop-at}
 use Rattle.refusals.specs.Checks.{firstOf}
 use Rattle.refusals.specs.declared.Outcome.{Outcome}
 use Rattle.refusals.specs.declared.Outcome.the-variants as outcome
 use Rattle.sizes.specs.Sizes.{mostPlanes, allOf, coarsestOf, sideFits, levelsFit, Sized}
 use Rattle.sizes.specs.Tables.{table}
-use Rattle.sizes.proofs.Laws.{sized, both}
+use Rattle.sizes.proofs.Laws.{sized}
 use Rattle.sizes.proofs.Tables.{table-length}
-use Rattle.bits.specs.Bits.{digit, bitsOf}
-use Rattle.bits.proofs.Laws.{digit-le}
+use Rattle.bits.specs.Bits.{bitsOf}
 use Rattle.nls.specs.Marks.{startMarks}
-use Rattle.nls.specs.Scan.{Question, Pass, pixels, sets, refining, State, stateAt, lookAt, lookPixels, lookSets, lookRefining, tell, settle, ask, next, reach, start}
+use Rattle.nls.specs.Scan.{Question, pixels, State, stateAt, tell, ask, next, reach, start}
 use Rattle.nls.specs.Stream.{begin, after}
 use Rattle.nls.specs.Reading.{midpoint, valuesBy, precisions}
 use Rattle.nls.specs.Judging.{Fits, Verdict, taken, contradiction, beyond, Judged}
 use Rattle.nls.proofs.Arrays.{Bits, bits-of, told, Fit}
 use Rattle.nls.proofs.Machine.Run.{tell-left, left-none}
-use Rattle.nls.proofs.Kept.{AfterMove, settle-keeps}
 use Rattle.nls.proofs.Known.{left-most}
 use Rattle.nls.proofs.Lists.{arrOf}
 use Rattle.nls.proofs.Streams.{asks-none-left, marks-length, begins-iff}
-use Rattle.moves.specs.Stands.{passOf, passNumber, stand, stateOf}
-use Rattle.moves.proofs.Laws.{state-stand, pass-small, asked-inside}
+use Rattle.moves.specs.Stands.{stateOf, standOf}
+use Rattle.moves.specs.declared.Stand.{Stand}
+use Rattle.moves.proofs.Laws.{state-stand, asked-inside}
 use Rattle.room.specs.Room.{readChecks, bodyBits}
 use Rattle.room.proofs.Laws.{decode-well, decode-ready, DecodeReady}
 use Rattle.decoder.specs.Body.{readAnswer, Tables, tables, ownTables, over, ReadsTo, Reads}
 use Rattle.decoder.specs.declared.body.ReadAnswer.{ReadAnswer}
 use Rattle.decoder.specs.declared.body.ReadAnswer.the-variants as decode
 use Rattle.decoder.specs.declared.body.ReadTo.{ReadTo}
-use Rattle.steps.specs.Records.{recordAt, recordOf, recordAfter, isEnd, isWithin, inRange, standIn, stateIn}
+use Rattle.steps.specs.Records.{recordAfter, inRange, stateIn}
 use Rattle.steps.specs.Steps.{ownOf, Reached, Starts}
 use Rattle.steps.specs.declared.Record.{Record}
+use Rattle.steps.proofs.Standing.{Sizes, record-sizes, Means, record-means, Ended, ended-settle}
 
 -- ---- a scan that ended stands where a plane would begin
-
-abbrev Ended : State → Type 0
-Ended s = s .left ≡ 0 → s ≡ stateAt 0 pixels 0 (s .marks)
-
-module _ (I : ℕ) where
-  ended-pixels : (b i : ℕ) (m : List ℕ) (x y : Bool) → AfterMove I Ended (lookPixels b i m x y)
-  ended-pixels b i m false y = λ e. absurd (omega (arith, e))
-  ended-pixels b i m true true = tt
-  ended-pixels b i m true false = λ e. absurd (omega (arith, e))
-
-  ended-sets : (b i : ℕ) (m : List ℕ) (x d g c : Bool) → AfterMove I Ended (lookSets b i m x d g c)
-  ended-sets b i m false d g c = λ e. absurd (omega (arith, e))
-  ended-sets b i m true true g c = tt
-  ended-sets b i m true false true c = tt
-  ended-sets b i m true false false true = tt
-  ended-sets b i m true false false false = λ e. absurd (omega (arith, e))
-
-  ended-refining : (b i : ℕ) (m : List ℕ) (x s n : Bool) → AfterMove I Ended (lookRefining b i m x s n)
-  ended-refining b i m false s n = λ e. ap (λ (l : ℕ). stateAt l pixels 0 m) e
-  ended-refining b i m true true n = tt
-  ended-refining b i m true false true = λ e. absurd (omega (arith, e))
-  ended-refining b i m true false false = λ e. absurd (omega (arith, e))
-
-  ended-look : (l : ℕ) (p : Pass) (i : ℕ) (w : Bool) (m : List ℕ) → AfterMove I Ended (lookAt I l p i w m)
-  ended-look zero p i w m = tt
-  ended-look (suc b) p i true m = tt
-  ended-look (suc b) pixels i false m = ended-pixels b i m (ltb i I) (eqb (getD m i 0) 1)
-  ended-look (suc b) sets i false m = ended-sets b i m (ltb i I) (eqb (getD m i 0) 5) (eqb (getD m i 0) 6) (eqb (getD m i 0) 4)
-  ended-look (suc b) refining i false m = ended-refining b i m (ltb i I) (eqb (getD m i 0) 3) (eqb (getD m i 0) 2)
-
-  ended-settle : (s : State) → Ended s → Ended (settle I s)
-  ended-settle s h = settle-keeps I Ended (λ t k. ended-look (t .left) (t .pass) (t .place) (t .pending) (t .marks)) s h
 
 -- an answer is given where a plane is left, and leaves it
 module _ (N : ℕ) (B : Bits) where
@@ -96,90 +61,6 @@ module _ (N L : ℕ) (z : Sized N L) (P : ℕ) where
   pub ended-after : (u : List Bool) → Fits N L P u → (after N L P u) .left ≡ 0 → after N L P u ≡ stateAt 0 pixels 0 ((after N L P u) .marks)
   ended-after u w = ended-reach N (bits-of (arrOf (w .0))) (begin N L P) u (((begins-iff N L z P (w .0) u) .0 (w .1)) .2) ended-begin
 
--- ---- the record of a state
-
-digit-one : (x : Bool) → eqb (digit x) 1 ≡ x
-digit-one true = refl
-digit-one false = refl
-
-module _ (N L P used : ℕ) (s : State) where
-  record-end : s .left ≡ 0 → recordOf N L P used s ≡ recordAt N L P 0 2 (allOf N) used 0
-  unfolding recordOf
-  record-end e = ap (λ (t : Bool). cond t (recordAt N L P 0 2 (allOf N) used 0) (recordAt N L P (s .left - 1) (passNumber (s .pass)) (s .place) used (digit (s .pending)))) (eq-eqb (s .left) 0 e)
-
-  record-in : (s .left ≡ 0 → ⊥) → recordOf N L P used s ≡ recordAt N L P (s .left - 1) (passNumber (s .pass)) (s .place) used (digit (s .pending))
-  unfolding recordOf
-  record-in h = ap (λ (t : Bool). cond t (recordAt N L P 0 2 (allOf N) used 0) (recordAt N L P (s .left - 1) (passNumber (s .pass)) (s .place) used (digit (s .pending)))) (ne-eqb (s .left) 0 h)
-
-  -- its sizes and its bits used
-  record Sizes (r : Record) : Type 0 where
-    pub side : r .n ≡ N
-    pub levels : r .l ≡ L
-    pub planes : r .p ≡ P
-    pub bits : r .used ≡ used
-
-  record-sizes : Sizes (recordOf N L P used s)
-  unfolding recordOf
-  record-sizes = go (eqb (s .left) 0)
-    where
-      go : (t : Bool) → Sizes (cond t (recordAt N L P 0 2 (allOf N) used 0) (recordAt N L P (s .left - 1) (passNumber (s .pass)) (s .place) used (digit (s .pending))))
-      go true = record { side = refl; levels = refl; planes = refl; bits = refl }
-      go false = record { side = refl; levels = refl; planes = refl; bits = refl }
-
-  -- a record in range, and the state that it stands for
-  abbrev Means : Record → Type 0
-  Means r = (inRange r ≡ true) × (stateIn r (s .marks) ≡ s)
-
-  module _ (side : sideFits N ≡ true) (levels : levelsFit N L ≡ true) (few : P ≤ mostPlanes) where
-    in-sizes : (r : Record) → r .n ≡ N → r .l ≡ L → r .p ≡ P → (isEnd r || isWithin r) ≡ true → inRange r ≡ true
-    unfolding inRange
-    in-sizes r en el ep e =
-        both (ap (λ (x : ℕ). sideFits x) en ∙ side)
-        (both (ap (λ (x : ℕ). levelsFit x (r .l)) en ∙ ap (λ (x : ℕ). levelsFit N x) el ∙ levels)
-        (both (ap (λ (x : ℕ). leb x mostPlanes) ep ∙ le-leb P mostPlanes few) e))
-
-    abbrev E : Record
-    E = recordAt N L P 0 2 (allOf N) used 0
-
-    is-end : isEnd E ≡ true
-    unfolding isEnd
-    is-end = both refl (both refl (both (eq-eqb (allOf N) (allOf N) refl) refl))
-
-    means-end : s ≡ stateAt 0 pixels 0 (s .marks) → Means (recordAt N L P 0 2 (allOf N) used 0)
-    unfolding standIn passOf
-    means-end e = (
-      in-sizes E refl refl refl (ap (λ (x : Bool). x || isWithin E) is-end),
-      ap (λ (x : Bool). stateOf (cond x (stand 0 0 0 false) (stand (0 + 1) 2 (allOf N) (eqb 0 1))) (s .marks)) is-end ∙ sym e,
-    )
-
-    module _ (h : s .left ≡ 0 → ⊥) (top : s .left ≤ P) (place : s .place < allOf N) where
-      abbrev W : Record
-      W = recordAt N L P (s .left - 1) (passNumber (s .pass)) (s .place) used (digit (s .pending))
-
-      no-end : isEnd W ≡ false
-      unfolding isEnd
-      no-end =
-          ap (λ (x : Bool). eqb (s .left - 1) 0 && (eqb (passNumber (s .pass)) 2 && (x && eqb (digit (s .pending)) 0))) (ne-eqb (s .place) (allOf N) (λ e. omega (arith, e, place)))
-          ∙ ap (λ (x : Bool). eqb (s .left - 1) 0 && x) (and-false (eqb (passNumber (s .pass)) 2))
-          ∙ and-false (eqb (s .left - 1) 0)
-
-      is-within : isWithin W ≡ true
-      unfolding isWithin
-      is-within =
-          both (lt-ltb (s .left - 1) P (omega (arith, h, top)))
-          (both (lt-ltb (passNumber (s .pass)) 3 (pass-small (s .pass)))
-          (both (lt-ltb (s .place) (allOf N) place) (lt-ltb (digit (s .pending)) 2 (omega (arith, digit-le (s .pending))))))
-
-      means-in : Means (recordAt N L P (s .left - 1) (passNumber (s .pass)) (s .place) used (digit (s .pending)))
-      unfolding standIn
-      means-in = (
-        in-sizes W refl refl refl (ap (λ (x : Bool). x || isWithin W) no-end ∙ is-within),
-        ap (λ (x : Bool). stateOf (cond x (stand 0 0 0 false) (stand (s .left - 1 + 1) (passNumber (s .pass)) (s .place) (eqb (digit (s .pending)) 1))) (s .marks)) no-end
-            ∙ ap (λ (x : ℕ). stateOf (stand x (passNumber (s .pass)) (s .place) (eqb (digit (s .pending)) 1)) (s .marks)) {x = s .left - 1 + 1} {y = s .left} (omega (arith, h))
-            ∙ ap (λ (x : Bool). stateOf (stand (s .left) (passNumber (s .pass)) (s .place) x) (s .marks)) (digit-one (s .pending))
-            ∙ state-stand s,
-      )
-
 -- ---- the record after bits that fit
 
 module _ (N L P : ℕ) (side : sideFits N ≡ true) (levels : levelsFit N L ≡ true) (few : P ≤ mostPlanes) (u : List Bool) (w : Fits N L P u) where
@@ -188,16 +69,9 @@ module _ (N L P : ℕ) (side : sideFits N ≡ true) (levels : levelsFit N L ≡ 
   inside (some q) e h = asked-inside N L P u q e
 
   means-after : Means N L P (length u) (after N L P u) (recordAfter N L P u)
-  means-after = go (ℕ-discrete ((after N L P u) .left) 0)
-    where
-      s : State
-      s = after N L P u
-
-      go : Dec (s .left ≡ 0) → Means N L P (length u) s (recordAfter N L P u)
-      go (yes e) = subst (λ (r : Record). Means N L P (length u) s r) (sym (record-end N L P (length u) s e)) (means-end N L P (length u) s side levels few (ended-after N L (sized N L levels) P u w e))
-      go (no h) =
-          subst (λ (r : Record). Means N L P (length u) s r) (sym (record-in N L P (length u) s h))
-          (means-in N L P (length u) s side levels few h (left-most N L P u) (inside (ask (allOf N) s) refl h))
+  means-after =
+      record-means N L P (length u) (after N L P u) side levels few (left-most N L P u) (inside (ask (allOf N) (after N L P u)) refl)
+      (λ e. ap standOf (ended-after N L (sized N L levels) P u w e))
 
 -- ---- tables whose first entries are those after some bits
 
@@ -280,8 +154,8 @@ module _ (N L P : ℕ) (u : List Bool) (r : Record) (held : Tables) (g : Good N 
       (decode-well N L P (length (held .values)) (length (held .precisions)) (length (held .marks)) (g .side) (g .levels) (g .planes) (g .valuesRoom) (g .precisionsRoom) (g .marksRoom))
       (record { verdict = v; judged = j; answered = refl; filled = refl })
 
-  good-sizes : Sizes N L P (length u) (after N L P u) r
-  good-sizes = subst (λ (x : Record). Sizes N L P (length u) (after N L P u) x) (sym (g .recorded)) (record-sizes N L P (length u) (after N L P u))
+  good-sizes : Sizes N L P (length u) r
+  good-sizes = subst (λ (x : Record). Sizes N L P (length u) x) (sym (g .recorded)) (record-sizes N L P (length u) (after N L P u))
 
   good-means : Means N L P (length u) (after N L P u) r
   good-means = subst (λ (x : Record). Means N L P (length u) (after N L P u) x) (sym (g .recorded)) (means-after N L P (g .side) (g .levels) (g .planes) u (g .fits))
@@ -306,7 +180,7 @@ module _ (N L P : ℕ) (u : List Bool) (r : Record) (held : Tables) (g : Good N 
   good-own = ap (λ (t : Tables). ownOf (allOf N) t) (g .filled) ∙ own-over (allOf N) (ownTables N L P u taken) (own-tables N L P (g .levels) u) held
 
   pub good-state : stateIn r (take (allOf N) (held .marks)) ≡ after N L P u
-  good-state = ap (λ (t : Tables). stateIn r (t .marks)) good-own ∙ good-means .1
+  good-state = ap (λ (t : Tables). stateIn r (t .marks)) good-own ∙ ap (λ (t : Stand). stateOf t ((after N L P u) .marks)) (good-means .1) ∙ state-stand (after N L P u)
 
 -- where decoding the bits v leaves record and tables
 pub good-at : (N L P : ℕ) → sideFits N ≡ true → levelsFit N L ≡ true → P ≤ mostPlanes → (v : List Bool) → Fits N L P v → (held : Tables)

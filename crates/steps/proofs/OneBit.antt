@@ -4,35 +4,35 @@ use mathlib.Core.Path.{_≡_, refl, sym, ap, subst, _∙_}
 use mathlib.Core.Bool.{Bool, true, false, not, cond, _&&_}
 use mathlib.Core.List.{List, [], _∷_, _++_}
 use native.Mathlib.Omega.{arith}
-use borrow.Author.Tests.{eqb-true, eqb-false, eq-eqb, ne-eqb, lt-ltb, le-ltb, le-leb}
-use lib.Dec.{ltb, leb, eqb}
+use borrow.Author.Tests.{eqb-true, eqb-false, eq-eqb, ne-eqb, lt-ltb}
+use lib.Dec.{ltb, eqb}
 use lib.ListN.{length, take}
 use Rattle.refusals.specs.Checks.{need, firstOf}
 use Rattle.refusals.specs.declared.Refusal.{Refusal}
-use Rattle.refusals.specs.declared.Refusal.the-variants.{Contradiction, Beyond, First, Spent, Lent}
-use Rattle.refusals.specs.declared.Refusal.the-variants as refusal
+use Rattle.refusals.specs.declared.Refusal.the-variants.{Contradiction, Beyond, First, Spent}
 use Rattle.refusals.specs.declared.Outcome.{Outcome}
 use Rattle.refusals.specs.declared.Outcome.the-variants as outcome
-use Rattle.refusals.proofs.Laws.{first-holds, first-fails, first-none, first-then-done}
+use Rattle.refusals.proofs.Laws.{first-holds, first-none, first-then-done}
 use Rattle.sizes.specs.Sizes.{allOf, coarsestOf, levelsFit}
-use Rattle.sizes.proofs.Laws.{sized, side-most, both}
+use Rattle.sizes.proofs.Laws.{sized, side-most}
 use Rattle.bits.specs.Bits.{bitAt, bitsOf}
 use Rattle.bits.proofs.Laws.{bitsOf-length, take-bitsOf}
 use Rattle.nls.specs.Scan.{State}
 use Rattle.nls.specs.Stream.{after}
 use Rattle.nls.specs.Judging.{Begins, Fits, Verdict, taken, contradiction, beyond, Judged}
 use Rattle.nls.proofs.Verdicts.{fits-fewer}
-use Rattle.room.specs.Room.{roomIn, tableChecks, bodyBits}
+use Rattle.room.specs.Room.{bodyBits}
 use Rattle.decoder.specs.Body.{readAnswer, Tables, ownTables, over}
 use Rattle.decoder.specs.Reading.{barsZero}
 use Rattle.decoder.specs.declared.body.ReadAnswer.{ReadAnswer}
 use Rattle.decoder.proofs.Decided.{reads-one}
 use Rattle.decoder.proofs.NextBit.{barsNext, next-beyond, next-taken, next-barred}
 use Rattle.decoder.proofs.Received.{bits-more}
-use Rattle.steps.specs.Records.{recordAfter, inRange, stateIn}
+use Rattle.steps.specs.Records.{recordAfter, stateIn}
 use Rattle.steps.specs.Moved.{Step, step, stays, barred, raisedTo, raised, lowered}
 use Rattle.steps.specs.Steps.{usableBits, recordChecks, forwardChecks, backChecks, ownOf, within, forwardTo, forwardOf, backTo, backOf, FollowsTo, Follows}
 use Rattle.steps.specs.declared.Record.{Record}
+use Rattle.steps.proofs.CallLaws.{checks-done, forward-at-end}
 use Rattle.steps.proofs.Core.{raised-next, lowered-prior}
 use Rattle.steps.proofs.Good.{Good, own-tables, over-over, body-bits, reads-judged, good-side, good-levels, good-planes, good-used, good-range, good-own, good-state}
 
@@ -54,18 +54,11 @@ module _ (N L P : ℕ) (u : List Bool) (r : Record) (held : Tables) (g : Good N 
   abbrev most : ℕ
   most = usableBits usable body
 
-  room-done : roomIn (allOf (r .n)) (length (held .values)) (length (held .precisions)) (length (held .marks)) ≡ true
-  unfolding roomIn
-  room-done =
-      ap (λ (x : ℕ). roomIn (allOf x) (length (held .values)) (length (held .precisions)) (length (held .marks))) (good-side N L P u r held g)
-      ∙ both (le-leb (allOf N) (length (held .values)) (g .valuesRoom)) (both (le-leb (allOf N) (length (held .precisions)) (g .precisionsRoom)) (le-leb (allOf N) (length (held .marks)) (g .marksRoom)))
-
   pub record-done : length u ≤ usableBits usable body → firstOf (recordChecks r (usableBits usable body) (length (held .values)) (length (held .precisions)) (length (held .marks))) ≡ outcome.Done
   record-done h =
-      first-holds (inRange r && leb (r .used) most) refusal.Record (tableChecks (allOf (r .n)) (length (held .values)) (length (held .precisions)) (length (held .marks)))
-      (both (good-range N L P u r held g) (le-leb (r .used) most (omega (arith, good-used N L P u r held g, h))))
-      ∙ first-holds (roomIn (allOf (r .n)) (length (held .values)) (length (held .precisions)) (length (held .marks))) Lent [] room-done
-      ∙ first-none
+      let e : allOf (r .n) ≡ allOf N = ap allOf (good-side N L P u r held g) in
+      checks-done r most (length (held .values)) (length (held .precisions)) (length (held .marks)) (good-range N L P u r held g) (omega (arith, good-used N L P u r held g, h))
+      (omega (arith, e, g .valuesRoom)) (omega (arith, e, g .precisionsRoom)) (omega (arith, e, g .marksRoom))
 
   forward-done : length u < most → firstOf (forwardChecks r most (length (held .values)) (length (held .precisions)) (length (held .marks))) ≡ outcome.Done
   forward-done h =
@@ -75,10 +68,7 @@ module _ (N L P : ℕ) (u : List Bool) (r : Record) (held : Tables) (g : Good N 
 
   -- no usable bit is left
   pub forward-spent : length u ≡ usableBits usable body → forwardOf usable body r held ≡ stays Spent r held
-  forward-spent h =
-      ap (λ (o : Outcome). forwardTo o body r held)
-      (first-then-done (recordChecks r most (length (held .values)) (length (held .precisions)) (length (held .marks))) (need (ltb (r .used) most) Spent ∷ []) (record-done (omega (arith, h)))
-      ∙ first-fails (ltb (r .used) most) Spent [] (le-ltb (r .used) most (omega (arith, good-used N L P u r held g, h))))
+  forward-spent h = sym (forward-at-end usable body r held most refl (sym (record-done (omega (arith, h)))) (good-used N L P u r held g ∙ h))
 
   back-done : length u ≤ most → 0 < length u → firstOf (backChecks r most (length (held .values)) (length (held .precisions)) (length (held .marks))) ≡ outcome.Done
   back-done h k =

@@ -39,6 +39,10 @@ range-sizes r e =
     let all = all-four (sideFits (r .n)) (levelsFit (r .n) (r .l)) (leb (r .p) mostPlanes) (isEnd r || isWithin r) e in
     (all .0, all .1, leb-true (r .p) mostPlanes (all .2))
 
+-- the coarsest band, as code has it
+pub range-coarsest : (r : Record) → inRange r ≡ true → (d : ℕ) → d ≡ cond (sideFits (r .n) && levelsFit (r .n) (r .l)) (coarsestOf (r .n) (r .l)) 0 → d ≡ coarsestOf (r .n) (r .l)
+range-coarsest r range d e = e ∙ rw (range-sizes r range .0, range-sizes r range .1)
+
 -- one that does not stand at the end stands in a plane, a pass and at a place that there are
 pub range-within : (r : Record) → inRange r ≡ true → isEnd r ≡ false → (r .plane < r .p) × (r .pass < 3) × (r .place < allOf (r .n)) × (r .pending < 2)
 unfolding inRange isWithin
@@ -47,28 +51,6 @@ range-within r e off =
     let within : isWithin r ≡ true = ap (λ (t : Bool). t || isWithin r) (sym off) ∙ either in
     let all = all-four (ltb (r .plane) (r .p)) (ltb (r .pass) 3) (ltb (r .place) (allOf (r .n))) (ltb (r .pending) 2) within in
     (ltb-true (r .plane) (r .p) (all .0), ltb-true (r .pass) 3 (all .1), ltb-true (r .place) (allOf (r .n)) (all .2), ltb-true (r .pending) 2 (all .3))
-
--- where the scan stands by it
-pub record Standing (r : Record) (at : Stand) : Type 0 where
-  pub pass : at .pass < 3
-  pub left : at .left ≤ r .p
-  pub small : at .place < 2 ^ 32
-  pub place : 1 ≤ at .left → at .place < allOf (r .n)
-
-pub range-stand : (r : Record) → inRange r ≡ true → Standing r (standIn r)
-unfolding standIn
-range-stand r e = tell (isEnd r) refl
-  where
-    tell : (t : Bool) → isEnd r ≡ t → Standing r (cond t (stand 0 0 0 false) (stand (r .plane + 1) (r .pass) (r .place) (eqb (r .pending) 1)))
-    tell true h = record { pass = omega arith; left = omega arith; small = omega arith; place = λ k. absurd (omega (arith, k)) }
-    tell false h =
-        let w = range-within r e h in
-        record {
-          pass = w .1;
-          left = omega (arith, w .0);
-          small = omega (arith, w .2, all-most (r .n) (side-most (r .n) (range-sizes r e .0)));
-          place = λ k. w .2;
-        }
 
 -- ---- the record before the first bit
 

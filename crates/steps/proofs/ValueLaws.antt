@@ -23,6 +23,7 @@ use Rattle.nls.specs.Marks.{MIP, MNP, MSP, MCP, MD, MG}
 use Rattle.nls.specs.Scan.{Pass, pixels, sets, refining, stateAt, lookRefining, asked, ask}
 use Rattle.moves.specs.Stands.{passOf, stand, stateOf}
 use Rattle.moves.proofs.Passes.{pass-0, pass-1, pass-2}
+use Rattle.decoder.proofs.ValueLaws.{level-one}
 use Rattle.decoder.specs.Reading.{joinedOr0}
 use Rattle.steps.specs.Moved.{kindOf, askedIn, foundIn, finer, coarser, heard, unheard}
 use Rattle.steps.specs.declared.Asked.{Asked}
@@ -106,7 +107,7 @@ module _ (I i : ℕ) (m : List ℕ) (l p : ℕ) (w : Bool) where
 
 -- a power of two as the machine makes it
 pub power : (b : ℕ) → b ≤ mostPlanes → 1 * 2 ^ b % 4294967296 ≡ 2 ^ b
-power b h = omega (arith, pow-mono {i = b} {j = mostPlanes} h)
+power b h = level-one b (omega (arith, h))
 
 -- a sign and a magnitude joined, as a local holds it
 module _ (s t : Bool) (n k : ℕ) (r : ℤ) where

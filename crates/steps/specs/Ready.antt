@@ -1,11 +1,11 @@
 -- Words of inner contracts, which no promise to a caller uses: what holds where the checks of a step do.
-use Prim.Native.Nat.{ℕ, _-_, _^_, _≤_, _<_}
-use mathlib.Core.{Path._≡_, Bool.true, Bool.cond, List.List}
+use Prim.Native.Nat.{ℕ, _-_, _≤_, _<_}
+use mathlib.Core.{Path._≡_, Bool.true, Bool.false, Bool.cond, List.List}
 use lib.{Dec.ltb, ListN.length}
 use Rattle.refusals.specs.declared.Refusal.the-variants.{First, Spent}
 use Rattle.sizes.specs.Sizes.{allOf}
 use Rattle.bits.specs.Bits.{bitAt}
-use Rattle.moves.specs.declared.Stand.{Stand}
+use Rattle.moves.specs.{Stands.stand, declared.Stand.Stand}
 use Rattle.decoder.specs.Body.{Tables}
 use Rattle.steps.specs.{Records.inRange, Records.stateIn, Moved.Step, Moved.stays, Moved.raised, Moved.lowered, declared.Record.Record}
 
@@ -16,11 +16,12 @@ pub record Ready (r : Record) (values precisions marks : ℕ) : Type 0 where
   pub precisionsSize : precisions ≡ allOf (r .n)
   pub marksSize : marks ≡ allOf (r .n)
 
--- the scan can stand there
+-- the scan can stand there: at the end, or in one of P planes, at one of I places
 pub record Stood (r : Record) (at : Stand) : Type 0 where
   pub known : at .pass < 3
   pub planes : at .left ≤ r .p
-  pub place : 1 ≤ at .left → at .place < 2 ^ 32
+  pub place : 1 ≤ at .left → at .place < allOf (r .n)
+  pub ended : at .left ≡ 0 → at ≡ stand 0 0 0 false
 
 -- steps over tables of I entries, `most` bits of the body being usable
 abbrev pub forwardIn : ℕ → List ℕ → Record → Tables → Step

@@ -1,5 +1,4 @@
 // One bit forward and one bit back, over tables of I entries.
-use crate::Asked;
 use crate::Record;
 use crate::Stepped;
 use bits::Next;
@@ -12,14 +11,17 @@ ghost use mathlib.Core.List.{List};
 ghost use Prim.Native.Nat.{ℕ, _+_, _*_, _-_, _^_, _≤_, _<_};
 ghost use lib.IntN.{ℤ};
 ghost use lib.ListN.{length};
-ghost use Rattle.sizes.specs.Sizes.{allOf};
-ghost use Rattle.moves.specs.Stands.{stateOf};
+ghost use Rattle.sizes.specs.Sizes.{allOf, coarsestOf};
+ghost use Rattle.moves.specs.Moves.{onward};
+ghost use Rattle.moves.specs.Stands.{stateOf, standOf};
 ghost use Rattle.decoder.specs.Body.{Tables, tables};
-ghost use Rattle.steps.specs.Records.{inRange, standIn, stateIn};
-ghost use Rattle.steps.specs.Moved.{step, stays, movedTo, loweredTo, lowered, raisedTo, barred, raised};
+ghost use Rattle.decoder.specs.Reading.{barsZero};
+ghost use Rattle.steps.specs.Records.{recordOf, inRange};
+ghost use Rattle.steps.specs.Moved.{askedIn, heard, unheard, noted, step, stays, movedTo};
+ghost use Rattle.steps.specs.Steps.{stepsOf, positionOf};
 ghost use Rattle.steps.specs.Ready.{Ready, Stood, forwardIn, backIn};
 
-// The record and the answer of where the scan stands now, after `used` bits.
+// The record and the answer of where the scan stands, after `used` bits.
 fn arrive(dial: Record, used: u32, at: Stand) -> Stepped
     requires { ⌜ (inRange dial ≡ true) × Stood dial at ⌝ }
     ensures { λ r. ⌜ ((v : List ℤ) (k m : List ℕ) → step (r .answer) (r .dial) (tables v k m) ≡ movedTo dial used (stateOf at m) v k) ⌝ }
@@ -30,40 +32,21 @@ fn arrive(dial: Record, used: u32, at: Stand) -> Stepped
     }
 }
 
-// A refusal: the record stays.
-fn refuse(dial: Record, why: Refusal) -> Stepped
-    ensures { λ r. ⌜ ((t : Tables) → step (r .answer) (r .dial) t ≡ stays why dial t) ⌝ }
+// A refusal where the scan stands, after `used` bits.
+fn refuse(dial: Record, used: u32, at: Stand, why: Refusal) -> Stepped
+    requires { ⌜ (inRange dial ≡ true) × Stood dial at ⌝ }
+    ensures { λ r. ⌜ ((m : List ℕ) (t : Tables) → step (r .answer) (r .dial) t ≡ stays why (recordOf (dial .n) (dial .l) (dial .p) used (stateOf at m)) t) ⌝ }
 {
     Stepped {
-        dial,
+        dial: crate::records::record_of(dial, used, at),
         answer: ReadAnswer::Refused(why),
     }
 }
 
-// The answer to the question where the scan stands, which fits an array as far as marks and bits used tell.
-fn go_on(
-    dial: Record,
-    at: Stand,
-    bit: bool,
-    values: &mut [i32],
-    precisions: &mut [u8],
-    marks: &mut [u8],
-) -> Stepped
-    requires { ⌜ Ready dial (length (now values)) (length (now precisions)) (length (now marks)) × (at ≡ standIn dial) × (1 ≤ at .left) × (dial .used + 1 < 2 ^ 32) ⌝ }
-    ensures { λ r. ⌜ step (r .answer) (r .dial) (tables (now (values .exit)) (now (precisions .exit)) (now (marks .exit))) ≡ raisedTo dial (stateOf at (now (marks .entry))) bit (tables (now (values .entry)) (now (precisions .entry)) (now (marks .entry))) ⌝ }
-{
-    let b = at.left - 1;
-    let what = crate::tables::asked(marks, at);
-    crate::tables::hear(values, what, at.place, b, bit);
-    crate::tables::note(precisions, dial.n, dial.l, what, at.place, b as u8, bit);
-    let on = moves::go_on(marks, at, bit);
-    arrive(dial, dial.used + 1, on)
-}
-
-// Whether the 0 of a question fits no array. A sign may be either.
-fn bars(dial: Record, at: Stand, bit: bool, marks: &[u8]) -> bool
+// Whether a bit fits no array, after `used` bits: a 0 may not, and a sign may be either.
+fn bars(dial: Record, used: u32, at: Stand, bit: bool, marks: &[u8]) -> bool
     requires { ⌜ (inRange dial ≡ true) × (length (now marks) ≡ allOf (dial .n)) ⌝ }
-    ensures { λ r. ⌜ r ≡ barred dial (stateOf at (now (marks .entry))) bit ⌝ }
+    ensures { λ r. ⌜ r ≡ (not bit && (not (at .pending) && barsZero (allOf (dial .n)) (coarsestOf (dial .n) (dial .l)) (dial .p) (at .left) used (at .place) (now (marks .entry)))) ⌝ }
 {
     if bit {
         return false;
@@ -76,115 +59,119 @@ fn bars(dial: Record, at: Stand, bit: bool, marks: &[u8]) -> bool
         sizes::coarsest_of(dial.n, dial.l),
         dial.p,
         at.left,
-        dial.used as usize,
+        used as usize,
         at.place,
     )
 }
 
-// One bit forward.
-fn raise(
+// The answer to the question where the scan stands: the tables after it, and where the scan stands then.
+fn tell(
     dial: Record,
+    at: Stand,
     bit: bool,
     values: &mut [i32],
     precisions: &mut [u8],
     marks: &mut [u8],
-) -> Stepped
-    requires { ⌜ Ready dial (length (now values)) (length (now precisions)) (length (now marks)) × (dial .used + 1 < 2 ^ 32) ⌝ }
-    ensures { λ r. ⌜ step (r .answer) (r .dial) (tables (now (values .exit)) (now (precisions .exit)) (now (marks .exit))) ≡ raised dial (stateIn dial (now (marks .entry))) bit (tables (now (values .entry)) (now (precisions .entry)) (now (marks .entry))) ⌝ }
+) -> Stand
+    requires { ⌜ Ready dial (length (now values)) (length (now precisions)) (length (now marks)) × Stood dial at × (1 ≤ at .left) ⌝ }
+    ensures stand { λ r. ⌜ r ≡ standOf (onward (allOf (dial .n)) (stateOf at (now (marks .entry))) bit) ⌝ }
+    ensures filled { λ _. ⌜ (tables (now (values .exit)) (now (precisions .exit)) (now (marks .exit))) ≡ tables (heard (askedIn (allOf (dial .n)) (stateOf at (now (marks .entry)))) (at .place) (at .left - 1) bit (now (values .entry))) (noted (dial .n) (dial .l) (askedIn (allOf (dial .n)) (stateOf at (now (marks .entry)))) (at .place) (at .left - 1) bit (now (precisions .entry))) (onward (allOf (dial .n)) (stateOf at (now (marks .entry))) bit .marks) ⌝ }
 {
-    let at = crate::records::stand_of(dial);
-    if at.left == 0 {
-        return refuse(dial, Refusal::Beyond(dial.used));
-    }
-    if bars(dial, at, bit, marks) {
-        return refuse(dial, Refusal::Contradiction(dial.used));
-    }
-    go_on(dial, at, bit, values, precisions, marks)
-}
-
-// One bit back, to where `bit` was answered.
-fn lower(
-    dial: Record,
-    bit: bool,
-    values: &mut [i32],
-    precisions: &mut [u8],
-    marks: &mut [u8],
-) -> Stepped
-    requires { ⌜ Ready dial (length (now values)) (length (now precisions)) (length (now marks)) × (1 ≤ dial .used) ⌝ }
-    ensures { λ r. ⌜ step (r .answer) (r .dial) (tables (now (values .exit)) (now (precisions .exit)) (now (marks .exit))) ≡ lowered dial (stateIn dial (now (marks .entry))) bit (tables (now (values .entry)) (now (precisions .entry)) (now (marks .entry))) ⌝ }
-{
-    let at = crate::records::stand_of(dial);
-    let from = undo::go_back(
-        marks,
-        values,
-        sizes::coarsest_of(dial.n, dial.l),
-        dial.p,
-        at,
-    );
-    go_back(dial, from, bit, values, precisions, marks)
+    let b = at.left - 1;
+    let what = crate::tables::asked(marks, at);
+    crate::tables::hear(values, what, at.place, b, bit);
+    crate::tables::note(precisions, dial.n, dial.l, what, at.place, b as u8, bit);
+    moves::go_on(marks, at, bit)
 }
 
 // The tables before the answer to the question where the scan stands now.
-fn go_back(
+fn untell(
     dial: Record,
-    from: Stand,
+    at: Stand,
     bit: bool,
     values: &mut [i32],
     precisions: &mut [u8],
     marks: &[u8],
-) -> Stepped
-    requires { ⌜ Ready dial (length (now values)) (length (now precisions)) (length (now marks)) × Stood dial from × (1 ≤ dial .used) ⌝ }
-    ensures { λ r. ⌜ step (r .answer) (r .dial) (tables (now (values .exit)) (now (precisions .exit)) (now (marks .entry))) ≡ loweredTo dial (stateOf from (now (marks .entry))) bit (tables (now (values .entry)) (now (precisions .entry)) (now (marks .entry))) ⌝ }
+)
+    requires { ⌜ Ready dial (length (now values)) (length (now precisions)) (length (now marks)) × Stood dial at ⌝ }
+    ensures { λ _. ⌜ now (values .exit) ≡ unheard (askedIn (allOf (dial .n)) (stateOf at (now (marks .entry)))) (at .place) (at .left) (now (values .entry)) ⌝ }
+    ensures { λ _. ⌜ now (precisions .exit) ≡ noted (dial .n) (dial .l) (askedIn (allOf (dial .n)) (stateOf at (now (marks .entry)))) (at .place) (at .left) bit (now (precisions .entry)) ⌝ }
 {
-    let what = crate::tables::asked(marks, from);
-    crate::tables::unhear(values, what, from.place, from.left);
+    let what = crate::tables::asked(marks, at);
+    crate::tables::unhear(values, what, at.place, at.left);
     crate::tables::note(
         precisions,
         dial.n,
         dial.l,
         what,
-        from.place,
-        from.left as u8,
+        at.place,
+        at.left as u8,
         bit,
     );
-    arrive(dial, dial.used - 1, from)
 }
 
-// One bit forward, through a view of the usable bits.
-pub(crate) fn forward(
+// Steps forward, until `to` bits are used or one is refused; `most` bits are usable.
+pub(crate) fn climb(
     dial: Record,
     body: &[u8],
     most: u32,
+    to: u32,
+    values: &mut [i32],
+    precisions: &mut [u8],
+    marks: &mut [u8],
+) -> Stepped
+    requires { ⌜ Ready dial (length (now values)) (length (now precisions)) (length (now marks)) × (most ≤ 8 * length (now body)) ⌝ }
+    ensures { λ r. ⌜ step (r .answer) (r .dial) (tables (now (values .exit)) (now (precisions .exit)) (now (marks .exit))) ≡ stepsOf (forwardIn most (now (body .entry))) (to - dial .used) (step (positionOf dial) dial (tables (now (values .entry)) (now (precisions .entry)) (now (marks .entry)))) ⌝ }
+{
+    let mut at = crate::records::stand_of(dial);
+    let mut used = dial.used;
+    while used < to {
+        match view::read(body, used as usize, most as usize) {
+            Next::Bit(bit) => {
+                if at.left == 0 {
+                    return refuse(dial, used, at, Refusal::Beyond(used));
+                }
+                if bars(dial, used, at, bit, marks) {
+                    return refuse(dial, used, at, Refusal::Contradiction(used));
+                }
+                at = tell(dial, at, bit, values, precisions, marks);
+                used = used + 1;
+            }
+            Next::NoMore => {
+                return refuse(dial, used, at, Refusal::Spent);
+            }
+        }
+    }
+    arrive(dial, used, at)
+}
+
+// Steps back, until `to` bits are used.
+pub(crate) fn descend(
+    dial: Record,
+    body: &[u8],
+    most: u32,
+    to: u32,
     values: &mut [i32],
     precisions: &mut [u8],
     marks: &mut [u8],
 ) -> Stepped
     requires { ⌜ Ready dial (length (now values)) (length (now precisions)) (length (now marks)) × (dial .used ≤ most) × (most ≤ 8 * length (now body)) ⌝ }
-    ensures { λ r. ⌜ step (r .answer) (r .dial) (tables (now (values .exit)) (now (precisions .exit)) (now (marks .exit))) ≡ forwardIn most (now (body .entry)) dial (tables (now (values .entry)) (now (precisions .entry)) (now (marks .entry))) ⌝ }
+    ensures { λ r. ⌜ step (r .answer) (r .dial) (tables (now (values .exit)) (now (precisions .exit)) (now (marks .exit))) ≡ stepsOf (backIn (now (body .entry))) (dial .used - to) (step (positionOf dial) dial (tables (now (values .entry)) (now (precisions .entry)) (now (marks .entry)))) ⌝ }
 {
-    match view::read(body, dial.used as usize, most as usize) {
-        Next::Bit(bit) => raise(dial, bit, values, precisions, marks),
-        Next::NoMore => refuse(dial, Refusal::Spent),
+    let coarsest = sizes::coarsest_of(dial.n, dial.l);
+    let mut at = crate::records::stand_of(dial);
+    let mut used = dial.used;
+    while to < used {
+        match view::read(body, used as usize - 1, most as usize) {
+            Next::Bit(bit) => {
+                at = undo::go_back(marks, values, coarsest, dial.p, at);
+                untell(dial, at, bit, values, precisions, marks);
+                used = used - 1;
+            }
+            Next::NoMore => {
+                return refuse(dial, used, at, Refusal::Spent);
+            }
+        }
     }
-}
-
-// One bit back.
-pub(crate) fn back(
-    dial: Record,
-    body: &[u8],
-    most: u32,
-    values: &mut [i32],
-    precisions: &mut [u8],
-    marks: &mut [u8],
-) -> Stepped
-    requires { ⌜ Ready dial (length (now values)) (length (now precisions)) (length (now marks)) × (dial .used ≤ most) × (most ≤ 8 * length (now body)) ⌝ }
-    ensures { λ r. ⌜ step (r .answer) (r .dial) (tables (now (values .exit)) (now (precisions .exit)) (now (marks .exit))) ≡ backIn (now (body .entry)) dial (tables (now (values .entry)) (now (precisions .entry)) (now (marks .entry))) ⌝ }
-{
-    if dial.used == 0 {
-        return refuse(dial, Refusal::First);
-    }
-    match view::read(body, dial.used as usize - 1, most as usize) {
-        Next::Bit(bit) => lower(dial, bit, values, precisions, marks),
-        Next::NoMore => refuse(dial, Refusal::Record),
-    }
+    arrive(dial, used, at)
 }

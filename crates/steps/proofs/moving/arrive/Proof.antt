@@ -1,5 +1,5 @@
 use Rattle.steps.proofs.RecordLaws.{range-sizes}
-use Rattle.steps.proofs.MovingLaws.{arrived}
+use Rattle.steps.proofs.ClimbLaws.{stood-place, arrived}
 use Rattle.steps.proofs.moving.arrive.Statement.{statement}
 use Rattle.steps.proofs.moving.arrive.Tie as tie
 use Rattle.steps.proofs.moving.arrive.Reads as reads
@@ -7,17 +7,19 @@ use Rattle.steps.proofs.moving.arrive.Lts as lts
 use Rattle.steps.proofs.records.reached.Reads as reached-reads
 use Rattle.steps.proofs.records.record_of.Reads as record-of-reads
 
--- src/moving.rt:28:15
+-- src/moving.rt:30:15
 record-of-requires : tie.Need-record-of-requires
-record-of-requires c κs = (range-sizes (c .args .dial) (c .pre .0) .0, c .pre .1 .known, c .pre .1 .place)
+record-of-requires c κs = (range-sizes (c .args .dial) (c .pre .0) .0, c .pre .1 .known, stood-place (c .args .dial) (c .pre .0) (c .args .at) (c .pre .1))
 
--- src/moving.rt:29:17
+-- src/moving.rt:31:17
 reached-requires : tie.Need-reached-requires
 reached-requires c κs = (c .before .pre .1 .planes, range-sizes (c .before .args .dial) (c .before .pre .0) .2)
 
--- src/moving.rt:23:1
+-- src/moving.rt:25:1
 returns : tie.Need-returns
-returns c = let a = c .before .before .args in arrived (a .dial) (a .used) (a .at) (c .reached .result) (c .before .record-of .result) (c .reached .ensures) (c .before .record-of .ensures)
+returns c =
+    let a = c .before .before .args in
+    arrived (a .dial) (a .used) (a .at) (c .reached .result) (c .before .record-of .result) (c .reached .ensures) (c .before .record-of .ensures)
 
 pub arrive-spec : {M : Type 1} → statement M
 arrive-spec = tie.close (tie.spec record-of-requires reached-requires returns)
