@@ -4,8 +4,8 @@
   header.py [DIR]     DIR is the repository, by default the one that this file is in
 
 Compared: the exported functions, their order, the name, width, sign and order of each parameter, the result; the answer's fields
-with the source's struct, with the order in which they are put and with the definitions `Entry`, `entryOf` and `entries`; the refusals'
-numbers; the limits and the sizes to lend; the declarations of examples/rust with the header; and that each public call of the base is exported or is
+with the source's struct, with the order in which they are put and with the definitions `Entry`, `entryOf` and `entries`; the record's
+fields with the source's struct and with the order in which the calls take and put them; the refusals' numbers; the limits and the sizes to lend; the declarations of examples/rust with the header; and that each public call of the base is exported or is
 named in docs/DECISIONS.md.
 Exit status 1 where something differs.
 """
@@ -31,16 +31,16 @@ def source(*path):
     return re.sub(r"//[^\n]*", "", read(*path))
 
 
-def in_c(name, kind, length):
-    """The C parameters of one parameter of the source."""
+def in_c(name, kind, lengths):
+    """The C parameters of one parameter of the source. A lent array of so many numbers is one of the header's structs."""
     if kind in NUMBERS:
         return [f"{NUMBERS[kind]} {name}"]
     m = re.fullmatch(r"&(mut )?\[(\w+)\]", kind)
     if m:
         return [f"{'' if m[1] else 'const '}{NUMBERS[m[2]]} *{name}", f"size_t {name}_len"]
     m = re.fullmatch(r"&mut \[u32; (\d+)\]", kind)
-    if m and int(m[1]) == length:
-        return [f"txp_answer *{name}"]
+    if m and int(m[1]) in lengths:
+        return [f"{lengths[int(m[1])]} *{name}"]
     m = re.fullmatch(r"&mut (\w+)", kind)
     if m and m[1] in NUMBERS:
         return [f"{NUMBERS[m[1]]} *{name}"]
@@ -48,13 +48,13 @@ def in_c(name, kind, length):
     return [f"? {name}"]
 
 
-def rattle_functions(text, length):
+def rattle_functions(text, lengths):
     for m in re.finditer(r'#\[no_mangle\]\s+pub extern "C" fn (\w+)\((.*?)\)\s*(?:->\s*(\w+))?\s*ensures', text, re.S):
         params = []
         for p in re.split(r",(?![^\[]*\])", m[2]):
             if p.strip():
                 name, kind = p.strip().split(": ", 1)
-                params += in_c(name, kind, length)
+                params += in_c(name, kind, lengths)
         yield m[1], NUMBERS.get(m[3], m[3]), params
 
 
@@ -63,14 +63,14 @@ def c_functions(text):
         yield m[2], m[1], [" ".join(p.split()) for p in m[3].split(",")]
 
 
-def functions(header, length):
+def functions(header, lengths):
     marked = 0
     ours = []
     folder = os.path.join(ROOT, "crates", "ctxp", "src")
     for file in ["lib.rt"] + sorted(set(os.listdir(folder)) - {"lib.rt"}):
         text = source("crates", "ctxp", "src", file)
         marked += text.count("no_mangle") + text.count("extern \"C\"")
-        ours += list(rattle_functions(text, length))
+        ours += list(rattle_functions(text, lengths))
     same("exported functions that this test can read", 2 * len(ours), marked)
     theirs = list(c_functions(header))
     same("functions, in order", [f[0] for f in theirs], [f[0] for f in ours])
@@ -99,6 +99,22 @@ def fields(header):
     same("the numbers of an answer that says nothing", len(names), int(re.search(r"^says \[\] = replicate (\d+) 0", spec, re.M)[1]))
     inner = read("crates", "ctxp", "specs", "Inner.antt")
     same("the struct's fields, entry after entry", names, re.findall(r"a \.(\w+)", re.search(r"^entries a =(.*?)\[\]", inner, re.S | re.M)[1]))
+    return len(names)
+
+
+def record(header):
+    ours = re.findall(r"(\w+) (\w+);", re.search(r"typedef struct txp_record \{(.*?)\} txp_record;", header, re.S)[1])
+    same("the record's numbers", {kind for kind, _ in ours}, {"uint32_t"})
+    names = [n for _, n in ours]
+    # the header has the answer's name for P, the source the document's
+    short = ["p" if n == "planes" else n for n in names]
+    struct = re.search(r"pub struct Record \{(.*?)\}", source("crates", "steps", "src", "lib.rt"), re.S)[1]
+    same("the record's fields", short, [n for n, _ in re.findall(r"pub (\w+): (u32)", struct)])
+    folder = os.path.join(ROOT, "crates", "ctxp", "src")
+    calls = "".join(source("crates", "ctxp", "src", file) for file in sorted(os.listdir(folder)))
+    same("the record's fields as taken", [(n, str(i)) for i, n in enumerate(short)], re.findall(r"\b(\w+)(?::| =) \w+\[(\d+)\]", calls))
+    put = [re.findall(r"(\w+)\s*(?:,|$)", items) for items in re.findall(r"\*\w+ = \[(.*?)\];", calls, re.S)]
+    same("the record's fields as put", [short], [items for items in put if len(items) == len(names)])
     return len(names)
 
 
@@ -192,7 +208,8 @@ def main():
     text = read("include", "txp.h")
     header = re.sub(r"[ \t]*/\*.*?\*/", "", text, flags=re.S)
     length = fields(header)
-    counts = functions(header, length), length, refusals(header), rust(header), base()
+    lengths = {length: "txp_answer", record(header): "txp_record"}
+    counts = functions(header, lengths), length, refusals(header), rust(header), base()
     sizes(header)
     for line in wrong:
         print(line)

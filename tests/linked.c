@@ -15,6 +15,7 @@ enum { DESC, GRAND, MARKS, BYTES, VALUES, TABLES };
 static const size_t width[TABLES] = {4, 4, 1, 1, 4};
 
 _Static_assert(sizeof(txp_answer) == 15 * sizeof(uint32_t), "the answer is lent as 15 numbers");
+_Static_assert(sizeof(txp_record) == 8 * sizeof(uint32_t), "the record is lent as 8 numbers");
 
 /* ---- the cases */
 
@@ -196,6 +197,111 @@ static bool all_figures_agree(const uint32_t *n, const int32_t *coefs, size_t co
                            TXP_ALL_FIGURES - 1, &every) == (result == TXP_DONE ? TXP_REFUSED_LENT : result);
 }
 
+/* What a step is lent: the record, with numbers before and behind it that are not, the body and the tables. */
+typedef struct {
+    struct {
+        uint32_t before[4];
+        txp_record record;
+        uint32_t behind[4];
+    } held;
+    const uint8_t *body;
+    size_t body_len;
+    uint32_t usable;
+    buffer values, precisions, marks;
+} stepped;
+
+static uint32_t step(char letter, stepped *s, uint32_t to, txp_answer *answer)
+{
+    int32_t *values = (int32_t *)s->values.lent;
+    uint8_t *precisions = s->precisions.lent, *marks = s->marks.lent;
+    size_t values_len = s->values.count, precisions_len = s->precisions.count, marks_len = s->marks.count;
+    txp_record *record = &s->held.record;
+    switch (letter) {
+    case 'f':
+        return txp_forward(record, s->body, s->body_len, s->usable, values, values_len, precisions, precisions_len, marks,
+                           marks_len, answer);
+    case 'b':
+        return txp_back(record, s->body, s->body_len, s->usable, values, values_len, precisions, precisions_len, marks, marks_len,
+                        answer);
+    default:
+        return txp_turn(record, s->body, s->body_len, s->usable, to, values, values_len, precisions, precisions_len, marks,
+                        marks_len, answer);
+    }
+}
+
+/* A start, and then each command: 2^32 - 1 is a step forward, 2^32 - 2 one back, any other number a turn to it. */
+static uint32_t dial(const uint32_t *n, stepped *s, txp_answer *answer)
+{
+    uint32_t result = txp_start(&s->held.record, n[0], n[1], n[2], (int32_t *)s->values.lent, s->values.count, s->precisions.lent,
+                                s->precisions.count, s->marks.lent, s->marks.count, answer);
+    for (size_t i = 0; i < now.ints.count; i++) {
+        uint32_t to = now.ints.items[i];
+        result = step(to == UINT32_MAX ? 'f' : to == UINT32_MAX - 1 ? 'b' : 't', s, to, answer);
+    }
+    return result;
+}
+
+/* Gives the record, from one of its numbers on, and the first entries of each table what the case has for them: the record, and then
+ * all that is lent of values, precisions and marks. */
+static void give(stepped *s, size_t from, size_t entries)
+{
+    uint32_t record[8];
+    memcpy(record, &s->held.record, sizeof record);
+    for (size_t i = from; i < 8 && i < now.ints.count; i++) {
+        record[i] = now.ints.items[i];
+    }
+    memcpy(&s->held.record, record, sizeof record);
+    const buffer tables[] = {s->values, s->precisions, s->marks};
+    size_t at = 8;
+    for (size_t k = 0; k < 3; k++) {
+        for (size_t i = 0; i < tables[k].count && at < now.ints.count; i++, at++) {
+            if (i < entries) {
+                put(tables[k].lent + i * tables[k].width, tables[k].width, now.ints.items[at]);
+            }
+        }
+    }
+}
+
+/* A step on a record and tables that are given. Where `own` is not 0 no prefix leaves such tables: what the step may have changed
+ * is given again, and all that is asked of the answer is that it is one that a step on a record in range can have. */
+static uint32_t given(char letter, const uint32_t *n, stepped *s, txp_answer *answer)
+{
+    uint32_t own = n[2];
+    give(s, 0, SIZE_MAX);
+    uint32_t result = step(letter, s, n[1], answer);
+    if (own == 0) {
+        return result;
+    }
+    if (result == TXP_DONE || letter == 't') {
+        give(s, 3, own);
+    }
+    if ((result != TXP_DONE && (result < TXP_REFUSED_CONTRADICTION || result > TXP_REFUSED_SPENT)) || answer->refusal != result) {
+        return ~(uint32_t)1;
+    }
+    memset(answer, 0, sizeof *answer);
+    return TXP_DONE;
+}
+
+/* The calls of the stepped decoder. The record is in the table of DESC before and after. */
+static uint32_t steps(char letter, const uint32_t *n, lent_case *c, txp_answer *answer)
+{
+    stepped s = {.body = c->file.lent, .body_len = c->file.count, .usable = n[letter == 'Y' ? 3 : 0],
+                 .values = c->table[VALUES], .precisions = c->table[BYTES], .marks = c->table[MARKS]};
+    memset(&s.held, 0x5a, sizeof s.held);
+    const uint32_t past = s.held.before[0];
+    const buffer desc = c->table[DESC];
+    size_t bytes = desc.count < 8 ? 4 * desc.count : 32;
+    memcpy(&s.held.record, desc.lent, bytes);
+    uint32_t result = letter == 'Y' ? dial(n, &s, answer) : given(letter, n, &s, answer);
+    memcpy(desc.lent, &s.held.record, bytes);
+    for (size_t i = 0; i < 4; i++) {
+        if (s.held.before[i] != past || s.held.behind[i] != past) {
+            return ~(uint32_t)1;
+        }
+    }
+    return result;
+}
+
 /* The result of the call, UINT32_MAX for a letter that is not known. */
 static uint32_t call(char letter, lent_case *c)
 {
@@ -224,6 +330,11 @@ static uint32_t call(char letter, lent_case *c)
     case 'C':
         return txp_decode_body(n[0], n[1], n[2], file, file_len, n[3], values, t[VALUES].count, bytes, t[BYTES].count, marks,
                                t[MARKS].count, answer);
+    case 'Y':
+    case 'f':
+    case 'b':
+    case 't':
+        return steps(letter, n, c, answer);
     case 'S':
         return txp_summaries(n[0], n[1], coefs, coefs_len, desc, t[DESC].count, grand, t[GRAND].count, answer);
     case 'G':
@@ -364,7 +475,7 @@ int main(void)
         }
     }
     free(all);
-    for (int letter = 'A'; letter <= 'Z'; letter++) {
+    for (int letter = 'A'; letter <= 'z'; letter++) {
         if (cases[letter] > 0) {
             printf("%c %lu agree %lu\n", letter, cases[letter], agree[letter]);
         }

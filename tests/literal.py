@@ -15,6 +15,9 @@ MN2 = 7
 # In document 02, "Marks MN8 and MN9 take codes 13 and 14."
 SKIP = [1, 1, 1, 1, 1, 4, 16, 4 ** 2, 4 ** 3, 4 ** 4, 4 ** 5, 4 ** 6, 4 ** 7,
         4 ** 8, 4 ** 9]
+# The pass in which a bit is written at a mark; those of MCP, MD and MG are of
+# the set pass.
+PASS = {MIP: 0, MCP: 1, MD: 1, MG: 1, MSP: 2}
 # "In the set pass MIP, MNP and MSP skip 4."
 SET_SKIP = [4, 4, 4, 4] + SKIP[4:]
 
@@ -137,21 +140,27 @@ def generations(I, what, i):
 
 
 def decode(N, L, P, bits):
-    """Values, precisions, marks and the last finished plane (or P) after the
-    scan reads bits that begin some array's stream. Nothing is refused.
+    """Values, precisions, marks, the last finished plane (or P) and the scan
+    record after the scan reads bits that begin some array's stream. Nothing is
+    refused.
 
     A precision is the last finished plane (or P) or, where that is lower, the
     last plane in which the place's own bit was read or, in document 02, "a set
     that holds it was tested 0".
+
+    The record is document 02's "N, L, P, plane, pass, place, bits used, a
+    pending sign" where the next bit is missing, or else at the end of plane 0.
     """
     I = 4 ** N
     size, sign = [0] * I, [1] * I
     read = [P] * I         # the last plane in which either came
     used, last = 0, P
+    rest = 0, 2, I, 0
 
-    def next_bit(what, i, b, _):
-        nonlocal used
+    def next_bit(what, i, b, mark):
+        nonlocal used, rest
         if used == len(bits):
+            rest = b, PASS[mark[i]], i, int(what == 'sign')
             raise NoNextBit
         bit = bits[used]
         used += 1
@@ -174,4 +183,6 @@ def decode(N, L, P, bits):
     precision = [min(k, last) for k in read]
     values = [s * (m + 2 ** k // 2) if m else 0
               for s, m, k in zip(sign, size, precision)]
-    return values, precision, mark, last
+    plane, stage, place, pending = rest
+    record = N, L, P, plane, stage, place, used, pending
+    return values, precision, mark, last, record

@@ -1,6 +1,7 @@
 #!/usr/bin/env python3
 """A second coder for the texture stream of document 01 (docs/01-scope.md), with
-the sizes of document 02's request T-02 and the precisions of its T-04.
+the stepped decoder of document 02's request T-01, the sizes of its T-02 and the
+precisions of its T-04.
 
 It reaches the answers of document 01 by other means than the scan with marks,
 so that a coder written from the marks can be compared with it.
@@ -11,6 +12,7 @@ so that a coder written from the marks can be compared with it.
   ordered by place.  It accepts an answer if the greatest array that the answers
   allow still fits them.
 - The table of marks after any number of bits is read off the parts that stand.
+- The stepped decoder takes no step: it decodes each prefix from its first bit.
 
 Sentences in quotation marks are those of document 01, or of document 02 where
 that is said.  Bits and places count from 0.
@@ -52,7 +54,11 @@ Refused = namedtuple('Refused', 'number place')
 Header = namedtuple('Header', 'N L P declared bits')
 Encoded = namedtuple('Encoded', 'P bits file desc grand marks')
 Decoded = namedtuple(
-    'Decoded', 'values precisions marks used finished error plane_bits')
+    'Decoded', 'values precisions marks used finished error plane_bits record')
+# The scan record of document 02: "N, L, P, plane, pass, place, bits used, a
+# pending sign". Its pass is 0 for the pixel, 1 for the set and 2 for the
+# refinement pass.
+Record = namedtuple('Record', 'N L P plane stage place used pending')
 
 
 # Linear order.
@@ -369,13 +375,15 @@ class Decoder:
     found. In the plane b in progress: read holds the coefficients whose own
     bit was read, fresh those of a set split in it whose own bit was not, zero
     the sets tested 0, and the refinement pass has passed all places below
-    passed.
+    passed. stage is the pass in progress, question what was asked last, and
+    pending says that it was answered 1 and its sign is not read.
     """
 
     def __init__(self, N, L, P, bits, ceiling=None):
+        self.N, self.L = N, L
         self.shape, self.P, self.bits = shape_of(N, L), P, bits
         self.greatest = Greatest(self.shape, P, ceiling)
-        self.used = self.finished = self.passed = 0
+        self.used = self.finished = self.passed = self.stage = 0
         self.b = P
         self.plane_bits = []
         self.known, self.negative = [0] * self.shape.I, [False] * self.shape.I
@@ -383,7 +391,7 @@ class Decoder:
         self.unfound, self.found = set(range(D)), {}
         self.standing = {(DESC, i) for i in range(D // 4, D)}
         self.read, self.fresh, self.zero = set(), set(), []
-        self.question = None
+        self.question, self.pending = None, False
 
     def next_bit(self):
         """The next usable bit."""
@@ -404,7 +412,9 @@ class Decoder:
         """A test bit and, after a 1, the sign. "A test bit 1 whose sign is
         missing has changed no mark": nothing is noted before the sign."""
         if self.answer(PIXEL, i):
+            self.pending = True
             self.negative[i] = self.next_bit() == 1
+            self.pending = False
             self.known[i] = 1 << self.b
             self.found[i] = self.b
             self.unfound.remove(i)
@@ -429,13 +439,14 @@ class Decoder:
 
     def plane(self, b):
         """Plane b: the pixel pass, the set pass and the refinement pass."""
-        self.b, self.passed = b, 0
+        self.b, self.passed, self.stage = b, 0, 0
         self.read, self.fresh, self.zero = set(), set(), []
         self.greatest.start(b)
         start = self.used
         found_before = sorted(self.found)
         for i in sorted(self.unfound):
             self.test(i)
+        self.stage = 1
         queue = [(STEP[kind] * i, kind, i) for kind, i in self.standing]
         heapify(queue)
         while queue:
@@ -447,6 +458,7 @@ class Decoder:
                     heappush(queue, (STEP[kind] * i, kind, i))
             else:
                 self.zero.append((kind, i))
+        self.stage = 2
         for i in found_before:
             self.passed = i
             self.known[i] |= self.answer(PIXEL, i) << b
@@ -469,6 +481,17 @@ class Decoder:
     def last_plane(self):
         """The number of the last finished plane, or P if none."""
         return self.P - self.finished
+
+    def record(self):
+        """Where the scan rests once all bits are read: at the next question,
+        or at the end of plane 0, at which P = 0 begins."""
+        if self.finished == self.P:
+            plane, stage, place = 0, 2, self.shape.I
+        else:
+            kind, i = self.question
+            plane, stage, place = self.b, self.stage, STEP[kind] * i
+        return Record(self.N, self.L, self.P, plane, stage, place, self.used,
+                      int(self.pending))
 
     def precisions(self):
         """Each coefficient's precision k: "b if its own bit of the plane b in
@@ -535,7 +558,8 @@ def decode(N, L, P, bits, ceiling=None):
     precisions = decoder.precisions()
     return Decoded(decoder.values(precisions), precisions, decoder.marks(),
                    decoder.used, decoder.finished,
-                   2 ** decoder.last_plane() - 1, decoder.plane_bits)
+                   2 ** decoder.last_plane() - 1, decoder.plane_bits,
+                   decoder.record())
 
 
 def marks_after(N, L, P, bits):
@@ -670,6 +694,76 @@ def decode_body(N, L, P, body, usable, lent):
     if min(lent) < 4 ** N:
         return Refused(5, 0)
     return decode(N, L, P, unpack(body)[:usable])
+
+
+# Stepped decoder.
+
+def start(N, L, P, lent):
+    """The position before the first bit, or a refusal. A position is what
+    decoding a prefix answers, with its record."""
+    return decode_body(N, L, P, b'', 0, lent)
+
+
+def in_range(record, usable):
+    """No 16, "a record whose sizes, plane, pass or place are out of range or
+    whose bits used pass the usable ones"."""
+    N, L, P, plane, stage, place, used, pending = record
+    if check_sizes(N, L) or P > PLANE_LIMIT or used > usable:
+        return False
+    at_end = (plane, stage, place, pending) == (0, 2, 4 ** N, 0)
+    return at_end or (plane < P and stage <= 2 and place < 4 ** N
+                      and pending <= 1)
+
+
+def check_step(record, bits, lent):
+    """The checks of each step: "16 first, then 5"."""
+    if not in_range(record, len(bits)):
+        return Refused(16, 0)
+    if min(lent) < 4 ** record.N:
+        return Refused(5, 0)
+    return None
+
+
+def prefix(record, bits, count):
+    """The position after so many bits, or the refusal of the first of them
+    that is refused."""
+    return decode(record.N, record.L, record.P, bits[:count])
+
+
+def forward(record, body, usable, lent):
+    """The position one bit on, or a refusal: "15, forward with no usable bit
+    left", or 12 or 13 of the bit."""
+    bits = unpack(body)[:usable]
+    refused = check_step(record, bits, lent)
+    if refused:
+        return refused
+    if record.used == len(bits):
+        return Refused(15, 0)
+    return prefix(record, bits, record.used + 1)
+
+
+def back(record, body, usable, lent):
+    """The position one bit before, or a refusal: "14, back at bit 0"."""
+    bits = unpack(body)[:usable]
+    refused = check_step(record, bits, lent)
+    if refused:
+        return refused
+    if record.used == 0:
+        return Refused(14, 0)
+    return prefix(record, bits, record.used - 1)
+
+
+def turn(record, body, usable, to, lent):
+    """The refusal of the step that ends a turn to a number of bits, or None,
+    and the position that it ends at; no position where 16 or 5 refuses all."""
+    bits = unpack(body)[:usable]
+    refused = check_step(record, bits, lent)
+    if refused:
+        return refused, None
+    position = prefix(record, bits, min(to, len(bits)))
+    if isinstance(position, Refused):
+        return position, prefix(record, bits, position.place)
+    return Refused(15, 0) if to > len(bits) else None, position
 
 
 def too_large(data):

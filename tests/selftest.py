@@ -13,11 +13,11 @@ from operator import le
 import literal
 from arrays import STYLES, placed, random_array, random_bits, scattered
 from second import (
-    DESC, GRAND, N_LIMIT, PIXEL, STEP, Decoder, Encoded, Refused, decode,
-    decode_file, encode, encode_file, linear_place, linear_places,
-    marks_after, output_bytes, pack, parts_after, plane_count, plane_figures,
-    read_file, shape_of, show, stream_by_plane, summaries, to_linear,
-    to_raster, worst_body, write_file)
+    DESC, GRAND, N_LIMIT, PIXEL, STEP, Decoder, Encoded, Record, Refused, back,
+    decode, decode_file, encode, encode_file, forward, linear_place,
+    linear_places, marks_after, output_bytes, pack, parts_after, plane_count,
+    plane_figures, read_file, shape_of, show, start, stream_by_plane,
+    summaries, to_linear, to_raster, turn, worst_body, write_file)
 
 NO_BUDGET = 2 ** 32 - 1
 
@@ -299,12 +299,13 @@ def compare_cut(N, L, A, budget):
     P, bits, mark = literal.encode(N, L, A, budget)
     equal(encode(N, L, A, budget), (P, bits), 'bits')
     answer = decode(N, L, P, bits)
-    values, precisions, marks, last = literal.decode(N, L, P, bits)
+    values, precisions, marks, last, record = literal.decode(N, L, P, bits)
     equal(answer.marks, mark, 'marks of the encoder')
     equal(answer.marks, marks, 'marks of the decoder')
     equal(answer.values, values, 'values')
     equal(answer.precisions, precisions, 'precisions')
     equal(answer.used, len(bits), 'used')
+    equal(answer.record, record, 'record')
     equal((answer.finished, answer.error), (P - last, 2 ** last - 1), 'error')
     # "differs nowhere by more than the worst error"
     equal(max(abs(a - v) for a, v in zip(A, values)) <= answer.error, True,
@@ -588,6 +589,105 @@ def random_bodies(count):
         equal(kinds[kind] > 0, True, 'kind ' + kind)
 
 
+# Stepped decoder.
+
+def by_steps(position, body, usable, to, lent):
+    """What a turn answers, by single steps."""
+    while position.used != to:
+        step = forward if position.used < to else back
+        got = step(position.record, body, usable, lent)
+        if isinstance(got, Refused):
+            return got, position
+        position = got
+    return None, position
+
+
+def turns(count):
+    """A turn ends where single steps end, and with the same refusal; what it
+    ends at is what decoding that prefix leaves. A step back undoes a step
+    forward."""
+    rng = random.Random(7)
+    seen = dict.fromkeys((None, 12, 13, 15), 0)
+    for n in range(count):
+        N = rng.choice((2, 2, 3))
+        L, P = rng.randint(1, N - 1), rng.randint(0, 3)
+        _, bits = encode(N, L, random_array(rng, N, P, STYLES[n % 7]),
+                         NO_BUDGET)
+        more = random_bits(rng, rng.randint(0, 20), rng.choice((0.1, 0.5)))
+        if rng.random() < 0.7:
+            bits = bits[:rng.randint(0, len(bits))]
+        body = pack(bits + more)
+        usable = rng.choice((len(bits), len(bits + more), NO_BUDGET))
+        most = min(usable, 8 * len(body))
+        lent = (4 ** N,) * 3
+        position = start(N, L, P, lent)
+        for _ in range(6):
+            to = rng.randint(0, most + 1)
+            wanted = by_steps(position, body, usable, to, lent)
+            refused, position = turn(position.record, body, usable, to, lent)
+            equal((refused, position), wanted, 'a turn by steps')
+            seen[refused and refused.number] += 1
+            equal(position, decode(N, L, P, (bits + more + [0] * 8)[
+                :position.used]), 'the prefix decoded')
+            on = forward(position.record, body, usable, lent)
+            if not isinstance(on, Refused):
+                equal(back(on.record, body, usable, lent), position,
+                      'a bit forward and back')
+    for number in seen:
+        equal(seen[number] > 0, True, 'turns that end with %s' % number)
+
+
+def step_refusals():
+    """Any faults together: "16 first, then 5", then 14 or 15; each field of a
+    record out of range; a start checks 1, 2, 9, 5."""
+    P, bits = encode(2, 1, SAMPLE, NO_BUDGET)
+    body, enough = pack(bits), (16, 16, 16)
+    position = decode(2, 1, P, bits[:20])
+    equal(position.record, Record(2, 1, 3, 1, 2, 0, 20, 0), 'a record')
+    equal(decode(2, 1, P, bits).record, Record(2, 1, 3, 0, 2, 16, 37, 0),
+          'the record at the end')
+    equal(start(2, 1, 0, enough).record, Record(2, 1, 0, 0, 2, 16, 0, 0),
+          'the record of P = 0')
+    equal(start(2, 1, 3, enough).record, Record(2, 1, 3, 2, 0, 0, 0, 0),
+          'the first record')
+    equal(decode(2, 1, 3, bits[:1]).record, Record(2, 1, 3, 2, 0, 0, 1, 1),
+          'a pending sign')
+    largest = 2 ** 32 - 1
+    for name, wrong in (('N', (0, 1, 11, largest)), ('L', (0, 2, largest)),
+                        ('P', (0, 1, 25, largest)), ('plane', (3, largest)),
+                        ('stage', (3, largest)), ('place', (16, 17, largest)),
+                        ('used', (38, 41, largest)), ('pending', (2, largest))):
+        for x in wrong:
+            record = position.record._replace(**{name: x})
+            for step in (forward, back):
+                equal(step(record, body, 37, enough), Refused(16, 0), name)
+            equal(turn(record, body, 37, x, enough), (Refused(16, 0), None),
+                  name)
+    end = decode(2, 1, P, bits).record
+    for change in ({'plane': 1}, {'stage': 1}, {'place': 17}, {'pending': 1},
+                   {'used': 41}):
+        equal(forward(end._replace(**change), body, largest, enough),
+              Refused(16, 0), 'at the end, but %s' % change)
+    for unfit, short, spent in product((False, True), repeat=3):
+        lent = (16, 15, 16) if short else enough
+        for step, used, number in ((back, 0, 14), (forward, 20, 15)):
+            record = position.record._replace(
+                used=used if spent else 10, place=16 if unfit else 0)
+            got = step(record, body, 20, lent)
+            equal(got.number if isinstance(got, Refused) else None,
+                  16 if unfit else 5 if short else number if spent else None,
+                  'faults of a step')
+    for faults in product((False, True), repeat=4):
+        N, L, P, lent = ((wrong if fault else right) for fault, wrong, right in
+                         zip(faults, (1, 0, 25, (16, 16, 15)),
+                             (2, 1, 3, enough)))
+        got = start(N, L, P, lent)
+        first = next((number for number, fault in zip((1, 2, 9, 5), faults)
+                      if fault), None)
+        equal(got.number if isinstance(got, Refused) else None, first,
+              'faults of a start')
+
+
 # Files.
 
 def decode_refusals():
@@ -681,6 +781,8 @@ def run(full=False):
     worst_bodies()
     all_small(full)
     random_bodies(20000 if full else 3000)
+    turns(2000 if full else 150)
+    step_refusals()
     decode_refusals()
     encode_refusals()
     files()

@@ -22,7 +22,7 @@ from itertools import accumulate, groupby, product
 import second
 from arrays import (STYLES, random_array, random_bits, scattered, stretched,
                     tiled)
-from second import Decoder, Refused, encode, write_file
+from second import Decoder, Record, Refused, encode, write_file
 from selftest import (EZW, NO_BUDGET, SAMPLE, SMALL, asked, clash_kind,
                       own_map)
 
@@ -849,6 +849,307 @@ def header_case(data):
     return 'taken', case('H', (), answer(**numbers), (), data)
 
 
+# Stepped decoder.
+
+# The commands of a dial beside turns: one bit forward and one bit back.
+FORWARD, BACK = -1, -2
+
+# The lent tables that a step changes, in the order of its parameters.
+STEPPED = 'values', 'bytes', 'marks'
+
+
+def tables_of(position):
+    """What a position has of each of the STEPPED."""
+    return position.values, position.precisions, position.marks
+
+
+def walked(N, L, P, body, usable, commands, lent):
+    """The last answer of a dial, a refusal or None, and the position that it
+    leaves; there is none where the start is refused. The record then holds
+    what it held, which is out of range."""
+    position = second.start(N, L, P, lent)
+    if isinstance(position, Refused):
+        return Refused(16, 0) if commands else position, None
+    refused = None
+    for command in commands:
+        record = position.record
+        if command in (FORWARD, BACK):
+            step = second.forward if command == FORWARD else second.back
+            got = step(record, body, usable, lent)
+            refused = got if isinstance(got, Refused) else None
+            position = position if refused else got
+        else:
+            refused, position = second.turn(record, body, usable, command,
+                                            lent)
+    return refused, position
+
+
+def dial_case(N, L, P, body, usable, commands=(), lent=None):
+    """A call of txp_start, and of txp_turn, txp_forward and txp_back for each
+    command."""
+    lent = lent or (4 ** N,) * 3
+    refused, position = walked(N, L, P, body, usable, commands, lent)
+    tables = tables_of(position) if position else ((),) * 3
+    numbers = {} if refused else decoded_numbers(position)
+    return case('Y', (N, L, P, usable), answer(refused, **numbers), commands,
+                body, desc=(8, position.record if position else ()),
+                **dict(zip(STEPPED, zip(lent, tables))))
+
+
+def step_case(letter, record, tables, body, usable, to=0, own=0):
+    """A call of txp_forward, txp_back or txp_turn on a given record and on
+    given tables, which hold what is lent. Where own is not 0, no prefix leaves
+    them, and so much of each is not compared."""
+    lent = list(map(len, tables))
+    refused, position = None, None
+    if not own and letter == 't':
+        refused, position = second.turn(record, body, usable, to, lent)
+    elif not own:
+        step = second.forward if letter == 'f' else second.back
+        got = step(record, body, usable, lent)
+        refused = got if isinstance(got, Refused) else None
+        position = None if refused else got
+    after = tables
+    if position:
+        after = [list(held) + list(table[len(held):])
+                 for held, table in zip(tables_of(position), tables)]
+    numbers = {} if refused or own else decoded_numbers(position)
+    return case(letter, (usable, to, own), answer(refused, **numbers),
+                list(record) + [x for table in tables for x in table], body,
+                desc=(8, position.record if position else record),
+                **dict(zip(STEPPED, zip(lent, after))))
+
+
+def small_bodies():
+    """N, L, P, the bits and the body of each small stream."""
+    for N, L, A in SMALL:
+        P, bits = encode(N, L, A, NO_BUDGET)
+        yield N, L, P, bits, second.pack(bits)
+
+
+def step_cases(seed):
+    """(kind, case) of the stepped decoder."""
+    rng = random.Random('%d steps' % seed)
+    for N, L, P, bits, body in small_bodies():
+        count = len(bits)
+        for at in range(count):
+            yield 'every bit forward', dial_case(N, L, P, body, count,
+                                                 [count, at, FORWARD])
+        for at in range(count):
+            yield 'every bit back', dial_case(N, L, P, body, count,
+                                              [at + 1, BACK])
+        for commands in ([FORWARD] * count,
+                         [FORWARD] * count + [BACK] * count,
+                         [FORWARD, FORWARD, BACK] * (count - 1),
+                         [count] + [BACK, BACK, FORWARD] * (count - 1)):
+            yield 'all bits in a row', dial_case(N, L, P, body, count,
+                                                 commands)
+    yield from starts(rng)
+    yield from walks(rng)
+    yield from step_ends(rng)
+    yield from refused_steps(rng)
+    yield from given_steps(rng)
+    yield from unfit_records()
+    yield from foreign_steps(rng)
+
+
+def starts(rng):
+    """Starts of each shape, and those that are refused, with a step after
+    them."""
+    for N, L in shapes(6):
+        for P in (0, 24, rng.randint(1, 23)):
+            yield 'start', dial_case(N, L, P, b'', 0)
+    for N, L, P, lent in product((1, 2, 11, NO_BUDGET), (0, 1, 2, NO_BUDGET),
+                                 (24, 25, NO_BUDGET),
+                                 ((16,) * 3, (15, 16, 16), (16, 15, 16),
+                                  (16, 16, 15), (0,) * 3)):
+        if (N, L, P, lent) != (2, 1, 24, (16,) * 3):
+            yield 'refused', dial_case(N, L, P, b'', 0, (), lent)
+    for N, L, lent in ((9, 8, 4 ** 8), (10, 9, 4 ** 9), (10, 10, 0),
+                       (3, 2, 63), (6, 3, 4095)):
+        yield 'refused', dial_case(N, L, 24, b'', 0, (), (lent,) * 3)
+    for command in (FORWARD, BACK, 0, 5):
+        yield 'refused', dial_case(2, 2, 3, b'\xff', 8, (command,), (16,) * 3)
+        yield 'refused', dial_case(2, 1, 3, b'\xff', 8, (command,), (15,) * 3)
+
+
+def walks(rng):
+    """Turns to random places and single steps, on tables that may be longer
+    than need be; some turns are past the end, and the last command is one of
+    each kind."""
+    for N, L in shapes(6):
+        for n in range({2: 24, 3: 16, 4: 6}.get(N, 3)):
+            P = rng.randint(1, 24 if N < 5 else 6)
+            data, bits = whole_file(rng, N, L, P)
+            body = data[second.HEADER_BYTES:]
+            usable = rng.choice((len(bits), len(bits), rng.randint(0, len(bits)),
+                                 NO_BUDGET))
+            commands = []
+            for _ in range(rng.randint(1, 9 if N < 5 else 3)):
+                commands += rng.choice((
+                    [rng.randint(0, len(bits))],
+                    [FORWARD] * rng.randint(1, 5), [BACK] * rng.randint(1, 5),
+                    [rng.choice((len(bits) + 1, NO_BUDGET - 2, 0))]))
+            commands += ([], [FORWARD], [BACK], [rng.randint(0, len(bits))])[
+                n % 4]
+            longer = rng.choice((0, 0, 1, 7))
+            yield 'walk', dial_case(N, L, P, body, usable, commands,
+                                    (4 ** N + longer, 4 ** N, 4 ** N + longer))
+
+
+def step_ends(rng):
+    """Both ends of the usable bits and of the scan: 14, 15 and 13, and what
+    is left to do after each; P = 0."""
+    for N, L, P, bits, body in small_bodies():
+        count = len(bits)
+        for usable in (count, count - 1, count // 2, 0):
+            for commands in ([BACK], [usable, FORWARD], [usable + 1],
+                             [usable, FORWARD, BACK], [BACK, FORWARD],
+                             [NO_BUDGET - 2], [usable, usable], [1, BACK, BACK],
+                             [usable, 0], [usable, 0, FORWARD], [0]):
+                if N < 4:
+                    yield 'ends', dial_case(N, L, P, body, usable, commands)
+        longer = second.pack(bits + [0] * 9)
+        for usable in (count + 1, 8 * len(longer), NO_BUDGET):
+            for commands in ([count, FORWARD], [count + 1], [NO_BUDGET - 2],
+                             [count, FORWARD, BACK], [count]):
+                yield 'beyond', dial_case(N, L, P, longer, usable, commands)
+    for N, L in shapes(4):
+        for body, usable in ((b'', 0), (b'', 9), (b'\x80', 0), (b'\0', 1),
+                             (b'\xff', NO_BUDGET)):
+            for commands in ([FORWARD], [BACK], [0], [1], [NO_BUDGET - 2]):
+                if N == 2 or usable < 2:
+                    yield 'P 0', dial_case(N, L, 0, body, usable, commands)
+
+
+def refused_steps(rng):
+    """Bodies with a contradiction, up to it and past it, and steps from the
+    last good position on."""
+    for N, L in shapes(4):
+        for kind, data, _ in contradictions(rng, N, L, 4 if N < 4 else 1):
+            N, L, P, _, bits = second.read_file(data)
+            at = second.decode(N, L, P, bits).place
+            body = data[second.HEADER_BYTES:]
+            for usable, commands in (
+                    (len(bits), [at, FORWARD]), (len(bits), [len(bits)]),
+                    (NO_BUDGET, [NO_BUDGET - 2]), (at, [at + 1]),
+                    (len(bits), [len(bits), BACK, FORWARD, FORWARD]),
+                    (len(bits), [len(bits), rng.randint(0, at)])):
+                yield kind, dial_case(N, L, P, body, usable, commands)
+
+
+def given_steps(rng):
+    """Steps and turns on a record and tables as decoding a prefix leaves them,
+    the tables longer than need be."""
+    for N, L, P, bits, body in small_bodies():
+        count = len(bits)
+        for at in sorted(rng.sample(range(count + 1), 14 if N < 4 else 4)):
+            position = second.decode(N, L, P, bits[:at])
+            more = rng.choice((0, 1, 5))
+            tables = [list(held) + [rng.randrange(256) for _ in range(more)]
+                      for held in tables_of(position)]
+            usable = rng.choice((at, count, NO_BUDGET))
+            for letter, to in (('f', 0), ('b', NO_BUDGET), ('t', at),
+                               ('t', rng.randint(0, count)),
+                               ('t', rng.choice((NO_BUDGET, 2 ** 31, 0)))):
+                yield 'given', step_case(letter, position.record, tables, body,
+                                         usable, to)
+
+
+def unfit_records():
+    """Records of which a field is out of range, alone and together with
+    another or with a table that is too short: 16 first, then 5, then 14 or
+    15."""
+    P, bits = encode(2, 1, SAMPLE, NO_BUDGET)
+    body = second.pack(bits)
+    largest = NO_BUDGET
+    wrong = {'N': (0, 1, 11, 256, largest), 'L': (0, 2, 257, largest),
+             'P': (0, 1, 25, 256, largest), 'plane': (3, 258, largest),
+             'stage': (3, 256, largest), 'place': (16, 17, 2 ** 31, largest),
+             'used': (38, 41, 2 ** 31, largest), 'pending': (2, 256, largest)}
+
+    def each(position, change, short, usable=37):
+        """All three calls on a record that is changed so, and on tables of
+        which some lack an entry."""
+        tables = [list(table)[:16 - lack] for table, lack
+                  in zip(tables_of(position), short)]
+        record = position.record._replace(**change)
+        for letter, to in (('f', 0), ('b', 0), ('t', record.used),
+                           ('t', largest)):
+            yield step_case(letter, record, tables, body, usable, to)
+
+    middle = second.decode(2, 1, P, bits[:20])
+    whole = second.decode(2, 1, P, bits)
+    first = second.decode(2, 1, P, [])
+    zero = second.decode(2, 1, 0, [])
+    for name, numbers in wrong.items():
+        for x in numbers:
+            for one in each(middle, {name: x}, (0, 0, 0)):
+                yield 'refused16', one
+        for other, others in wrong.items():
+            if other > name:
+                for one in each(middle, {name: numbers[-1], other: others[0]},
+                                (0, 0, 0)):
+                    yield 'refused16', one
+        for one in each(middle, {name: numbers[0]}, (0, 1, 0)):
+            yield 'refused16', one
+    for position in (whole, zero):
+        for change in ({'plane': 1}, {'stage': 0}, {'stage': 1}, {'stage': 3},
+                       {'place': 15, 'P': 0}, {'place': 17}, {'pending': 1},
+                       {'used': 41}):
+            for one in each(position, change, (0, 0, 0), largest):
+                yield 'refused16', one
+    # the next larger N, whose tables are too short; one table too short
+    for change, short in (({'N': 3}, (0, 0, 0)), ({'N': 10}, (0, 0, 0)),
+                          ({}, (1, 0, 0)), ({}, (0, 1, 0)), ({}, (0, 0, 1)),
+                          ({}, (16, 16, 16))):
+        for one in each(middle, change, short):
+            yield 'refused5', one
+    for position, usable in ((first, 0), (first, 37), (whole, 37), (zero, 0),
+                             (whole, largest), (zero, 37)):
+        for short in ((0, 0, 0), (1, 0, 0), (0, 0, 1)):
+            for one in each(position, {}, short, usable):
+                if one.answer[0]:
+                    yield 'refused%d' % one.answer[0], one
+
+
+def foreign_steps(rng):
+    """Records in range and tables that no prefix leaves."""
+    for N, L in shapes(4):
+        I = 4 ** N
+        for n in range({2: 24, 3: 8, 4: 2}[N]):
+            top = (7, 15, 256)[n % 3]
+            P = rng.choice((0, 1, 2, 5, 24))
+            usable = rng.randint(1, 40)
+            record = Record(N, L, P, 0, 2, I, rng.randint(0, usable), 0)
+            if P and n % 8:
+                record = record._replace(
+                    plane=rng.randrange(P), stage=rng.randrange(3),
+                    place=rng.choice((0, rng.randrange(I), I - 1)),
+                    pending=rng.randrange(2))
+            wide = 2 ** 31 if n % 6 == 5 else 2 ** 25 if n % 2 else 9
+            more = rng.choice((0, 3))
+            tables = ([rng.randrange(-wide, wide) for _ in range(I + more)],
+                      [rng.randrange(256 if n % 2 else 25)
+                       for _ in range(I + more)],
+                      [rng.randrange(top) for _ in range(I + more)])
+            body = rng.randbytes(5)
+            for letter, to in (('f', 0), ('b', 0), ('t', rng.randint(0, 41)),
+                               ('t', rng.choice((0, NO_BUDGET)))):
+                yield 'foreign', step_case(letter, record, tables, body,
+                                           usable, to, I)
+
+
+def wide_walks(rng, N, L):
+    """A start and walks of a large N, on an array with few coefficients."""
+    P, bits = encode(N, L, scattered(rng, N, 2), NO_BUDGET)
+    kind, body, count = 'N %d L %d' % (N, L), second.pack(bits), len(bits)
+    yield kind, dial_case(N, L, P, body, count)
+    for commands in ([count + 1], [count, FORWARD, count // 2, BACK],
+                     [rng.randint(0, count), rng.randint(0, count)]):
+        yield kind, dial_case(N, L, P, body, count, commands)
+
+
 # Cases of a large N.
 
 def stored_cases(seed):
@@ -867,6 +1168,8 @@ def stored_cases(seed):
         yield from wide_refusals(rng, N, L)
     arrays = [random_array(rng, N, 24, 'single') for _ in range(3)]
     yield from whole_arrays(N, arrays + [tiled(rng, N, 24)], 4 ** N)
+    for L in (3, N - 1):
+        yield from wide_walks(rng, N, L)
 
 
 def large_cases(seed):
@@ -893,6 +1196,8 @@ def large_cases(seed):
     for L in (4, N - 1):
         yield from wide_refusals(rng, N, L)
     yield from whole_arrays(N, [list(range(4 ** N))], 4 ** N + 7)
+    for L in (4, N - 1):
+        yield from wide_walks(rng, N, L)
 
 
 def coded(N, L, budget, A):
@@ -1061,6 +1366,7 @@ def damaged_cases(cases):
             chosen.append(decode_body_case(
                 2, 1, 3, data[second.HEADER_BYTES:],
                 int.from_bytes(data[8:12], 'big'), (17, 18, 19)))
+    chosen += damaged_steps(bits)
     letters = {one.letter for one in chosen if not one.answer[0]}
     refused = {one.letter for one in chosen if one.answer[0]}
     for _, one in cases:
@@ -1073,6 +1379,27 @@ def damaged_cases(cases):
             yield 'damaged: ' + what, wrong
 
 
+def damaged_steps(bits):
+    """Cases of the stepped decoder on the sample, whose bits these are: taken
+    and refused ones, and those on tables that no prefix leaves."""
+    body, longer = second.pack(bits), (17, 18, 19)
+    for usable, commands in ((37, [20, FORWARD]), (37, [20, BACK]), (20, [21])):
+        yield dial_case(2, 1, 3, body, usable, commands, longer)
+    yield dial_case(2, 2, 3, body, 37, [], longer)
+    position = second.decode(2, 1, 3, bits[:20])
+    tables = [list(held) + [9] * (lent - 16) for held, lent
+              in zip(tables_of(position), longer)]
+    unfit = position.record._replace(stage=3)
+    for letter in 'fbt':
+        for record, own in ((position.record, 0), (unfit, 0),
+                            (position.record, 16)):
+            yield step_case(letter, record, tables, body, 37, 24, own)
+    # refused on tables that no prefix leaves: nothing there may change
+    for letter, used in (('f', 37), ('b', 0)):
+        yield step_case(letter, position.record._replace(used=used), tables,
+                        body, 37, 0, 16)
+
+
 # Lines whose lists repeat what stands before, as few others do: worst bodies
 # that agree, and that differ.
 AGREE = 'W 3 2 1 ~1 16 0*7 35 0 ~1*7', 'W 3 2 1 ~2 16 0*7 51 ~8*7 0'
@@ -1080,7 +1407,7 @@ DIFFER = 'W 3 2 1 ~1 16 0*7 51 0 ~1*7', 'W 3 2 1 ~2 16 0*7 51 ~8*8'
 
 # Lines that are no case.
 MALFORMED = (
-    '', ' ', 'Y', 'e 3 2 1 3', 'WW 3 2 1 3', 'W3 2 1 3', 'W  3 2 1 3',
+    '', ' ', 'y', 'e 3 2 1 3', 'WW 3 2 1 3', 'W3 2 1 3', 'W  3 2 1 3',
     'W 3 2 1', 'W 3 2 1 3 ', 'W 3 2 1 3 4', 'W 5 2 1 3 0 0', 'W 3 2 1 x',
     'W 3 2 1 3x', 'W 3 2 1 4294967296', 'W 3 2 1 -2147483649', 'W 3 2 1 -0',
     'W 3 2 1 -', 'W 3 2 1 +3', 'W 3 2 1 3*0', 'W 3 2 1*3', 'W 3 2 1*',
@@ -1159,7 +1486,7 @@ def write(directory, seed):
     cases = list(coder_cases(seed, decodes))
     for more in (worst_cases(), place_cases(seed), order_cases(seed),
                  number_cases(seed), small_cases(), stored_cases(seed),
-                 every_bit_cases()):
+                 every_bit_cases(), step_cases(seed)):
         cases += more
     counts = cut_counts(cases)
     for kind in CUT_KINDS:

@@ -1,4 +1,5 @@
 // The calls, each by the letter of its cases: tests/VECTORS.md has the table.
+use crate::stepping;
 
 // The result where a letter is not known: no refusal's number.
 pub const UNKNOWN: u32 = 99;
@@ -134,6 +135,10 @@ pub fn call(
         b'B' => ctxp::txp_encode_body(a, b, ints, desc, grand, marks, bytes, wide(c), d, answer),
         b'D' => ctxp::txp_decode(file, values, bytes, marks, answer),
         b'C' => ctxp::txp_decode_body(a, b, c, file, d, values, bytes, marks, answer),
+        b'Y' => stepping::dial(case, ints, file, desc, values, bytes, marks, answer),
+        b'f' => stepping::given(case, ints, file, desc, values, bytes, marks, answer),
+        b'b' => stepping::given(case, ints, file, desc, values, bytes, marks, answer),
+        b't' => stepping::given(case, ints, file, desc, values, bytes, marks, answer),
         _ => array(case, ints, file, desc, grand, bytes, values, answer),
     }
 }

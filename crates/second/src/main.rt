@@ -1,5 +1,6 @@
 // Holds the calls for C to the cases of an independent second coder, which are read on standard input. tests/VECTORS.md has their format.
 mod calls;
+mod stepping;
 mod tables;
 mod text;
 
@@ -442,7 +443,7 @@ fn say_kind(letter: u8, counts: &[usize; 512]) {
 
 fn say_counts(counts: &[usize; 512]) {
     let mut letter = b'A';
-    while letter <= b'Z' {
+    while letter <= b'z' {
         say_kind(letter, counts);
         letter += 1;
     }

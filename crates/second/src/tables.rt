@@ -36,6 +36,23 @@ fn signed(x: u32) -> i32 {
     negated(4294967295 - x + 1)
 }
 
+// The 32 bits of a number.
+pub fn word(x: i32) -> u32 {
+    let size = coef::magnitude(x);
+    if coef::is_negative(x) {
+        return complement(size);
+    }
+    size
+}
+
+// The 32 bits of the number below 0 with this magnitude.
+fn complement(size: u32) -> u32 {
+    if size == 0 {
+        return 0;
+    }
+    4294967295 - size + 1
+}
+
 // Gives the first n entries of a table a list's numbers, and those past the list what stands there before a call.
 pub fn fill_bytes(table: &mut [u8], n: usize, list: &[u32], count: usize) {
     let mut i = 0;
@@ -111,4 +128,72 @@ pub fn ints_hold(table: &[i32], n: usize, list: &[u32], count: usize) -> bool {
         i += 1;
     }
     true
+}
+
+// A number for the entries below n, and for the others the one that they hold.
+fn byte_below(n: usize, i: usize, x: u8, held: u8) -> u8 {
+    if i < n {
+        return x;
+    }
+    held
+}
+
+fn int_below(n: usize, i: usize, x: i32, held: i32) -> i32 {
+    if i < n {
+        return x;
+    }
+    held
+}
+
+// Gives the numbers of a record, from one on, those that stand at the same places.
+pub fn give_record(record: &mut [u32; 8], from: usize, ints: &[i32]) {
+    let mut i = from;
+    while i < 8 {
+        if ints.len() <= i {
+            return;
+        }
+        record[i] = word(ints[i]);
+        i += 1;
+    }
+}
+
+// Puts a record into the first entries of a table.
+pub fn put_record(table: &mut [u32], record: &[u32; 8]) {
+    let mut i = 0;
+    while i < 8 {
+        if table.len() <= i {
+            return;
+        }
+        table[i] = record[i];
+        i += 1;
+    }
+}
+
+// Gives the first n entries of a table the numbers from a place on. The answer is the place behind those for all of its entries.
+pub fn give_ints(table: &mut [i32], n: usize, ints: &[i32], from: usize) -> usize {
+    let mut i = 0;
+    let mut at = from;
+    while i < table.len() {
+        if ints.len() <= at {
+            return at;
+        }
+        table[i] = int_below(n, i, ints[at], table[i]);
+        i += 1;
+        at += 1;
+    }
+    at
+}
+
+pub fn give_bytes(table: &mut [u8], n: usize, ints: &[i32], from: usize) -> usize {
+    let mut i = 0;
+    let mut at = from;
+    while i < table.len() {
+        if ints.len() <= at {
+            return at;
+        }
+        table[i] = byte_below(n, i, byte(word(ints[at])), table[i]);
+        i += 1;
+        at += 1;
+    }
+    at
 }

@@ -4,10 +4,10 @@ use Rattle.second.proofs.say_counts.Statement.{statement}
 use Rattle.second.proofs.say_counts.Tie as tie
 
 abbrev Inv-loop : tie.InvT-loop
-Inv-loop counts letter₀ t3 t4 letter = letter ≤ 91
+Inv-loop counts letter₀ t3 t4 letter = letter ≤ 123
 
 abbrev μ-loop : tie.MeasureT-loop
-μ-loop counts letter₀ t3 t4 letter = 91 - letter
+μ-loop counts letter₀ t3 t4 letter = 123 - letter
 
 loop-holds : tie.Need-loop-holds Inv-loop μ-loop
 loop-holds c = search needs
