@@ -1,13 +1,15 @@
 // Whole streams of 2^N x 2^N coefficients, L levels, through plain C, C written for speed, and the proved library; what
-// encoding them costs before the first bits, and decoding them where they are cut; and the planes of such an array and
-// the change between its two orders, in plain C and in the proved library.
+// encoding them costs before the first bits, and decoding them where they are cut; the planes of such an array and the
+// change between its two orders, in plain C and in the proved library; and a dial that the library turns over a stream.
 //   bench count N L 12|20    each coder encodes and decodes once: what callgrind counts (bench.sh)
 //   bench open N L 12|20 M   each coder encodes once with a budget of M thousandths of the stream: the same
 //   bench cut N L 12|20 M    each coder decodes once what M thousandths of the stream's bits allow, or M bits (300b): the same
 //   bench planes N L 12|20   the planes once, by each code: the same
 //   bench order N            both changes of order once, by each code: the same
 //   bench figures N L        the figures of each plane by itself, and of all at once: the same
-//   bench time N L REPS      the best time of each coder, in ns for each coded bit, and of encode with no bits, in us
+//   bench dial N L 12|20     the dial up to the last bit and down again, by a call for each bit and by one for all: the same
+//   bench time N L REPS      the best time of each coder, in ns for each coded bit, of encode with no bits, in us, and of
+//                            the dial's steps, their mean and the worst, in us
 #define _GNU_SOURCE
 #include "../include/txp.h"
 #include "gen.h"
@@ -29,8 +31,8 @@ nls_result txp_bench_encode(const int32_t *c, unsigned n, unsigned l, uint32_t b
     return (nls_result){.no = no, .place = a.place, .bits = a.bits, .planes = a.planes};
 }
 
-nls_result txp_bench_decode(const uint8_t *b, uint32_t bits, unsigned n, unsigned l, unsigned p, int32_t *v,
-                            uint8_t *q, uint8_t *m) {
+__attribute__((noinline)) nls_result txp_bench_decode(const uint8_t *b, uint32_t bits, unsigned n, unsigned l, unsigned p,
+                                                      int32_t *v, uint8_t *q, uint8_t *m) {
     txp_answer a;
     uint32_t no = txp_decode_body(n, l, p, b, (bits + 7) / 8, bits, v, I, q, I, m, I, &a);
     return (nls_result){.no = no, .place = a.place, .bits = a.bits, .planes = p, .finished = a.finished, .worst = a.error};
@@ -78,6 +80,26 @@ __attribute__((noinline)) uint32_t txp_bench_one(unsigned n, unsigned l, unsigne
 
 __attribute__((noinline)) uint32_t txp_bench_all(unsigned n, unsigned l, uint32_t *out, txp_answer *a) {
     return txp_figures_all(n, l, coef, TXP_ENTRIES(n), desc, I / 4, grand, I / 16, out, TXP_ALL_FIGURES, a);
+}
+
+// The dial: its record, beside the tables above, and the bits of its stream.
+static txp_record record;
+static uint32_t usable;
+
+__attribute__((noinline)) uint32_t txp_bench_forward(txp_answer *a) {
+    return txp_forward(&record, body, (usable + 7) / 8, usable, values, I, prec, I, marks, I, a);
+}
+
+__attribute__((noinline)) uint32_t txp_bench_back(txp_answer *a) {
+    return txp_back(&record, body, (usable + 7) / 8, usable, values, I, prec, I, marks, I, a);
+}
+
+__attribute__((noinline)) uint32_t txp_bench_up(txp_answer *a) {
+    return txp_turn(&record, body, (usable + 7) / 8, usable, usable, values, I, prec, I, marks, I, a);
+}
+
+__attribute__((noinline)) uint32_t txp_bench_down(txp_answer *a) {
+    return txp_turn(&record, body, (usable + 7) / 8, usable, 0, values, I, prec, I, marks, I, a);
 }
 
 // The same spread of the finest band, growth a level and cut for every N and L.
@@ -204,6 +226,89 @@ static int tops(unsigned n, unsigned l, unsigned planes) {
     return 0;
 }
 
+// The stream of the dial, which starts at its first bit; ends: the bits up to the end of each plane.
+static int start(unsigned n, unsigned l, unsigned planes, uint32_t *ends) {
+    txp_answer a;
+    data(n, l, planes);
+    nls_result e = txp_bench_encode(coef, n, l, UINT32_MAX, desc, grand, marks, body);
+    uint32_t wrong = e.no || e.planes != planes;
+    usable = 0;
+    for (unsigned b = planes; b-- > 0;) {
+        wrong |= txp_figures(n, l, coef, TXP_ENTRIES(n), b, desc, I / 4, grand, I / 16, &a);
+        *ends++ = usable += a.bits;
+    }
+    wrong |= usable != e.bits || txp_start(&record, n, l, planes, values, I, prec, I, marks, I, &a);
+    return wrong != 0;
+}
+
+// Whether an answer is not that of the dial after so many bits.
+static int astray(uint32_t no, const txp_answer *a, uint32_t bits, const uint32_t *ends) {
+    unsigned f = 0;
+    while (f < record.planes && ends[f] <= bits) f++;
+    return no || a->bits != bits || record.used != bits || a->finished != f || a->error != (1u << (record.planes - f)) - 1;
+}
+
+// Whether the tables are not those that decoding so many bits leaves.
+static int differ(uint32_t bits) {
+    static int32_t v[I];
+    static uint8_t q[I], m[I];
+    txp_answer a;
+    size_t all = TXP_ENTRIES(record.n);
+    return txp_decode_body(record.n, record.l, record.planes, body, (bits + 7) / 8, bits, v, I, q, I, m, I, &a)
+        || memcmp(v, values, all * sizeof *v) || memcmp(q, prec, all) || memcmp(m, marks, all);
+}
+
+// Up and down by a call for each bit, then by one for all, and the stream decoded once. Every answer is checked, and at either
+// end the tables are those of decoding.
+static int dial(unsigned n, unsigned l, unsigned planes) {
+    uint32_t ends[TXP_MOST_PLANES];
+    txp_answer a;
+    int wrong = start(n, l, planes, ends) || differ(0);
+    for (uint32_t k = 0; k < usable && !wrong; k++) wrong = astray(txp_bench_forward(&a), &a, k + 1, ends);
+    wrong = wrong || differ(usable);
+    for (uint32_t k = usable; k-- > 0 && !wrong;) wrong = astray(txp_bench_back(&a), &a, k, ends);
+    wrong = wrong || differ(0) || astray(txp_bench_up(&a), &a, usable, ends) || differ(usable)
+        || astray(txp_bench_down(&a), &a, 0, ends) || differ(0);
+    nls_result d = txp_bench_decode(body, usable, n, l, planes, values, prec, marks);
+    if (wrong || d.no || d.bits != usable || memcmp(values, coef, TXP_ENTRIES(n) * sizeof *coef))
+        return printf("dial, N = %u, L = %u, P = %u: wrong\n", n, l, planes), 1;
+    return printf("%u\n", usable), 0;
+}
+
+// The times of the dial's steps. Their mean is that of the best pass over the stream; the worst is the largest of the best
+// times of each step, which have the look at the clock in them.
+static int paces(unsigned n, unsigned l, unsigned planes, unsigned reps) {
+    uint32_t ends[TXP_MOST_PLANES];
+    txp_answer a;
+    double pass[2] = {1e30, 1e30}, worst[2] = {0, 0};
+    int wrong = start(n, l, planes, ends);
+    float *best = malloc(2 * (size_t)usable * sizeof *best);
+    if (wrong || !best) return printf("dial, N = %u, L = %u, P = %u: wrong, or no memory\n", n, l, planes), 1;
+    for (unsigned r = 0; r < reps; r++) {
+        double t = now();
+        for (uint32_t k = 0; k < usable; k++) wrong |= txp_bench_forward(&a) != 0;
+        double u = now();
+        for (uint32_t k = 0; k < usable; k++) wrong |= txp_bench_back(&a) != 0;
+        double v = now();
+        if (u - t < pass[0]) pass[0] = u - t;
+        if (v - u < pass[1]) pass[1] = v - u;
+        for (uint32_t k = 0; k < 2 * usable; k++) {
+            t = now();
+            uint32_t no = k < usable ? txp_bench_forward(&a) : txp_bench_back(&a);
+            u = now();
+            wrong |= astray(no, &a, k < usable ? k + 1 : 2 * usable - k - 1, ends);
+            if (r == 0 || u - t < best[k]) best[k] = (float)(u - t);
+        }
+    }
+    for (uint32_t k = 0; k < 2 * usable; k++)
+        if (best[k] > worst[k >= usable]) worst[k >= usable] = best[k];
+    free(best);
+    if (wrong || differ(0)) return printf("dial, N = %u, L = %u, P = %u: wrong\n", n, l, planes), 1;
+    printf("P = %u  dial   forward %6.3f us, at worst %7.2f us  back %6.3f us, at worst %7.2f us\n", planes, pass[0] / usable / 1000,
+           worst[0] / 1000, pass[1] / usable / 1000, worst[1] / 1000);
+    return 0;
+}
+
 static int times(unsigned n, unsigned l, unsigned reps) {
     uint32_t bits;
     double enc, dec;
@@ -220,6 +325,7 @@ static int times(unsigned n, unsigned l, unsigned reps) {
             }
             printf("P = %u  %-6s encode %6.2f ns/bit  decode %6.2f ns/bit  no bit %6.2f us\n", planes, coders[k].name, enc / bits, dec / bits, none / 1000);
         }
+        if (paces(n, l, planes, reps)) return 1;
     }
     return 0;
 }
@@ -234,7 +340,8 @@ int main(int argc, char **argv) {
         if (argc == 5 && !strcmp(argv[1], "planes") && (last == 12 || last == 20)) return tops(n, l, last);
         if (argc == 3 && !strcmp(argv[1], "order")) return order(n);
         if (argc == 4 && !strcmp(argv[1], "figures")) return figures(n, l);
+        if (argc == 5 && !strcmp(argv[1], "dial") && (last == 12 || last == 20)) return dial(n, l, last);
         if (argc == 5 && !strcmp(argv[1], "time") && last > 0) return times(n, l, last);
     }
-    return fprintf(stderr, "usage: bench count N L 12|20, bench open N L 12|20 THOUSANDTHS, bench cut N L 12|20 THOUSANDTHS or BITSb, bench planes N L 12|20, bench order N, bench figures N L, or bench time N L REPS\n"), 2;
+    return fprintf(stderr, "usage: bench count N L 12|20, bench open N L 12|20 THOUSANDTHS, bench cut N L 12|20 THOUSANDTHS or BITSb, bench planes N L 12|20, bench order N, bench figures N L, bench dial N L 12|20, or bench time N L REPS\n"), 2;
 }

@@ -2,12 +2,13 @@
 # Counts the instructions that encode and decode execute on a whole stream, in plain C, in C written for speed, and in
 # the proved library through its C interface; those of encode with a budget of no bits and of one per cent of the stream,
 # and of decode where the stream is cut, by the same three; those of the planes and of the change between the two orders
-# of a whole array, in plain C and in the library; those of the figures of one plane and of all; then the coders' times on
-# this machine.
+# of a whole array, in plain C and in the library; those of the figures of one plane and of all; those of the dial, turned
+# over a whole stream and back, beside decoding it once; then the coders' times and those of the dial's steps on this machine.
 # The streams are of 256 by 256 and of 1,024 by 1,024, the latter with two numbers of levels; the cut ones of 256 by 256.
 #   sh bench/bench.sh [REPS]
 # Needs gcc and valgrind. On a machine that is not x86-64 it needs gcc, Debian's gcc-x86-64-linux-gnu and qemu-user: the
-# instructions are then counted in the emulator (bench/count.c), and no times are taken.
+# instructions are then counted in the emulator (bench/count.c), which has those of the dial's longest step too, and no
+# times are taken.
 # The counts repeat exactly; the times don't.
 set -eu
 cd "$(dirname "$0")/.."
@@ -19,7 +20,7 @@ cc=gcc
 $cc -std=gnu11 -O2 -ffp-contract=off bench/bench.c bench/nls_summaries.c bench/nls_plain.c bench/nls_fast.c bench/nls_orders.c target/staticlib/libctxp.a -o "$room/bench"
 if [ "$cc" != gcc ]; then
     gcc -O2 -fPIC -shared bench/count.c -o "$room/count.so"
-    named=$(x86_64-linux-gnu-nm "$room/bench" | awk '$3 ~ /^(txp_bench|nls_(plain|fast))_(encode|decode|planes|linear|raster|one|all)$/ { printf ",%s=%s", $3, $1 }')
+    named=$(x86_64-linux-gnu-nm "$room/bench" | awk '$3 ~ /^(txp_bench|nls_(plain|fast))_(encode|decode|planes|linear|raster|one|all|forward|back|up|down)$/ { printf ",%s=%s", $3, $1 }')
 fi
 run() { # ARGUMENTS of the program; what the functions that it ran executed is left in $room/text
     if [ "$cc" = gcc ]; then
@@ -32,6 +33,7 @@ run() { # ARGUMENTS of the program; what the functions that it ran executed is l
 count() { grep -E "[:*]$1( |\$)" "$room/text" | head -1 | sed -e 's/^ *\([0-9,]*\).*/\1/' -e 's/,//g'; }
 counted() { case $1 in txp) count "txp_bench_$2" ;; *) count "nls_$1_$2" ;; esac; } # CODER CALL
 ratio() { echo "$1 $2" | awk '{printf "%.3f", $1 / $2}'; }
+most() { sed -n "s/^\([0-9]*\) most txp_bench_$1\$/\1/p" "$room/text" | grep . || echo -; } # CALL: the instructions of its longest, in the emulator
 columns() { # UNITS 'A UNIT' CALL CALL: what stands above the rows
     printf '%4s %2s %-6s %-5s %9s %13s %6s %8s %6s %13s %6s %8s %6s\n' side L planes coder "$1" "$3 insns" 'to C' "$2" 'to 256' "$4 insns" 'to C' "$2" 'to 256'
 }
@@ -72,6 +74,21 @@ cuts() { # N L: the rows of decode of cut streams, at parts in thousandths or, w
         done
     done
 }
+# N L PLANES BITS KIND CALL CALL: a row of the dial. For the call up and for the one down the instructions, their ratio to
+# those of decoding the stream once, how many they are a bit, and those of the longest call where there is one for each bit.
+dial() {
+    up=- down=-
+    [ "$5" = turn ] || up=$(most "$6") down=$(most "$7")
+    echo "$1 $2 $3 $4 $5 $(counted txp decode) $(counted txp "$6") $up $(counted txp "$7") $down" | awk '
+        { printf "%4d %2s %-6s %-5s %9d %13d %13d %6.3f %8.3f %8s %13d %6.3f %8.3f %8s\n", 2 ^ $1, $2, $3, $5, $4, $6, $7, $7 / $6, $7 / $4, $8, $9, $9 / $6, $9 / $4, $10 }'
+}
+dials() { # N L: the rows of the dial over whole streams, by a call for each bit and by one for all
+    for planes in 12 20; do
+        bits=$(run dial "$1" "$2" $planes)
+        dial "$1" "$2" $planes "$bits" step forward back
+        dial "$1" "$2" $planes "$bits" turn up down
+    done
+}
 columns bits 'a bit' encode decode
 streams 8 5
 streams 10 7
@@ -94,4 +111,6 @@ done
 run figures 8 5
 x=$(($(counted txp one) / 24)) y=$(counted txp all)
 printf 'figures of one plane, on average, %d insns, of all 24 at once %d insns, ratio %s\n' "$x" "$y" "$(ratio "$y" "$x")"
+printf '%4s %2s %-6s %-5s %9s %13s %13s %6s %8s %8s %13s %6s %8s %8s\n' side L planes by bits 'decode insns' 'forward insns' ratio 'a bit' longest 'back insns' ratio 'a bit' longest
+dials 8 5
 [ "$cc" != gcc ] || "$room/bench" time 8 5 "${1:-20}"

@@ -5,7 +5,8 @@
  * ADDRESS is the function's, in hexadecimal, as nm prints it for a program that is linked at fixed addresses. A named
  * function is one that no named function calls, and whose caller does not run inside it: a count begins at the
  * function's first instruction and ends at the next one of its caller. At the end a line for each function that ran is
- * written to standard error, as callgrind_annotate has it: the count, and `count:NAME`.
+ * written to standard error, as callgrind_annotate has it: the count, and `count:NAME`; and one with the instructions
+ * of its longest call, and `most NAME`.
  * The declarations are those of version 1 of qemu's interface.
  */
 #include <stdint.h>
@@ -32,7 +33,7 @@ int qemu_plugin_version = 1;
 /* A function that is counted. */
 struct function {
     const char *name;
-    uint64_t address, count;
+    uint64_t address, count, most;
 };
 
 /* Instructions that are executed one after the other: how many, the addresses of the first and the last, whether the
@@ -59,7 +60,10 @@ static void execute(unsigned cpu, void *held) {
         executed--;
     before = block;
     if (counted && strcmp(block->owner, caller) == 0) {
-        counted->count += executed - executed_before;
+        uint64_t call = executed - executed_before;
+        counted->count += call;
+        if (call > counted->most)
+            counted->most = call;
         counted = NULL;
     }
     if (!counted && block->begins) {
@@ -94,7 +98,8 @@ static void tell(plugin id, void *held) {
     (void)id, (void)held;
     for (size_t i = 0; i < functions_held; i++)
         if (functions[i].count)
-            fprintf(stderr, "%llu count:%s\n", (unsigned long long)functions[i].count, functions[i].name);
+            fprintf(stderr, "%llu count:%s\n%llu most %s\n", (unsigned long long)functions[i].count, functions[i].name,
+                    (unsigned long long)functions[i].most, functions[i].name);
 }
 
 int qemu_plugin_install(plugin id, const struct qemu_info *info, int words, char **word) {
