@@ -104,7 +104,7 @@ module _ (I : ℕ) where
   told-stays-sets l i m true false false = (refl, λ e. refl)
   told-stays-sets l i m false false false = (refl, λ e. absurd (false≢true e))
 
-  told-stays : (l : ℕ) (p : Pass) (i : ℕ) (w : Bool) (m : List ℕ) (a : Bool)
+  pub told-stays : (l : ℕ) (p : Pass) (i : ℕ) (w : Bool) (m : List ℕ) (a : Bool)
       → ((toldAt I l p i w m a) .left ≡ l) × ((toldAt I l p i w m a) .pending ≡ true → (toldAt I l p i w m a) .place ≡ i)
   told-stays l p i true m a = (refl, λ e. absurd (false≢true e))
   told-stays l pixels i false m true = (refl, λ e. refl)

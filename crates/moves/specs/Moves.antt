@@ -1,5 +1,5 @@
 -- Words of inner contracts, which no promise to a caller uses: an answer and the silent moves after it, in a table of any marks.
-use Prim.Native.Nat.{ℕ, _+_, _<_}
+use Prim.Native.Nat.{ℕ, _<_}
 use mathlib.Core.{Path._≡_, Bool.Bool, Bool.true, Bool.false, Bool._&&_, List.List}
 use lib.{Dec.ltb, Dec.eqb, ListN.length, ListN.getD}
 use Rattle.nls.specs.{Marks.MD, Marks.MG, Scan.Pass, Scan.pixels, Scan.sets, Scan.refining, Scan.State, Scan.stateAt, Scan.tellAt, Scan.tellSets, Scan.settle, Scan.movesLeft}

@@ -8,7 +8,7 @@ use borrow.Author.Tests.{eq-eqb, ne-eqb, lt-ltb, le-ltb}
 use lib.Dec.{eqb, ltb}
 use lib.IntN.{ℤ}
 use Rattle.refusals.specs.declared.Refusal.{Refusal, the-variants.Contradiction, the-variants.Beyond, the-variants.Spent}
-use Rattle.sizes.specs.Sizes.{mostN, mostPlanes, allOf, coarsestOf, sideFits, levelsFit}
+use Rattle.sizes.specs.Sizes.{mostN, mostPlanes, allOf, coarsestOf}
 use Rattle.sizes.proofs.Laws.{both, side-most, all-most}
 use Rattle.bits.specs.Bits.{bitAt}
 use Rattle.nls.specs.Scan.{State}
@@ -25,7 +25,7 @@ use Rattle.steps.specs.Ready.{Stood, forwardIn}
 use Rattle.steps.specs.Steps.{stepsOf, positionOf}
 use Rattle.steps.proofs.RecordLaws.{range-sizes}
 use Rattle.steps.proofs.Standing.{record-n, record-l, record-p, record-used, record-stand, record-same}
-use Rattle.steps.proofs.CallLaws.{steps-on, steps-end, steps-none}
+use Rattle.steps.proofs.CallLaws.{steps-on, steps-end}
 
 module _ (r : Record) (range : inRange r ≡ true) where
   abbrev I : ℕ

@@ -38,7 +38,8 @@ use Rattle.decoder.specs.declared.body.ReadTo.{ReadTo}
 use Rattle.steps.specs.Records.{recordAfter, inRange, stateIn}
 use Rattle.steps.specs.Steps.{ownOf, Reached, Starts}
 use Rattle.steps.specs.declared.Record.{Record}
-use Rattle.steps.proofs.Standing.{Sizes, record-sizes, Means, record-means, Ended, ended-settle}
+use Rattle.moves.proofs.Ended.{Ended, ended-settle}
+use Rattle.steps.proofs.Standing.{Sizes, record-sizes, Means, record-means}
 
 -- ---- a scan that ended stands where a plane would begin
 

@@ -2,14 +2,14 @@
 use mathlib.Core.Path.{_≡_, refl, sym, ap, _∙_}
 use mathlib.Core.Bool.{Bool, true, false, _&&_, _||_, cond}
 use mathlib.Core.List.{List}
-use Prim.Native.Nat.{ℕ, zero, suc, _+_, _-_, _^_, _≤_, _<_}
+use Prim.Native.Nat.{ℕ, zero, suc, _-_, _≤_, _<_}
 use native.Mathlib.Omega.{arith}
 use borrow.Author.Tests.{leb-true, ltb-true, lt-ltb, eq-eqb, ne-eqb}
-use lib.Dec.{leb, ltb, eqb}
+use lib.Dec.{leb, ltb}
 use lib.ListN.{getD}
 use mir.Val.{boolByte}
 use Rattle.sizes.specs.Sizes.{allOf, coarsestOf, mostPlanes, sideFits, levelsFit, Sized}
-use Rattle.sizes.proofs.Laws.{both-left, both-right, side-most, all-most, coarsest-least, coarsest-all}
+use Rattle.sizes.proofs.Laws.{both-left, both-right, coarsest-least, coarsest-all}
 use Rattle.nls.specs.Marks.{MIP, startMarks}
 use Rattle.nls.specs.Scan.{pixels, stateAt, bitOf, start}
 use Rattle.nls.specs.Stream.{begin}
@@ -21,7 +21,7 @@ use Rattle.moves.specs.Stands.{stand, stateOf}
 use Rattle.moves.specs.declared.Stand.{Stand}
 use Rattle.moves.proofs.Passes.{pass-back}
 use Rattle.decoder.proofs.ValueLaws.{as-digit}
-use Rattle.steps.specs.Records.{recordAt, recordOf, isEnd, isWithin, inRange, standIn}
+use Rattle.steps.specs.Records.{recordAt, recordOf, isEnd, isWithin, inRange}
 use Rattle.steps.specs.declared.Record.{Record}
 
 -- ---- a record in range

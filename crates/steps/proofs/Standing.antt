@@ -2,29 +2,29 @@
 use mathlib.Core.Path.{_≡_, refl, sym, ap, subst, _∙_}
 use mathlib.Core.Bool.{Bool, true, false, false≢true, cond, _&&_, _||_, and-false}
 use mathlib.Core.List.{List}
-use Prim.Native.Nat.{ℕ, zero, suc, _+_, _*_, _-_, _%_, _≤_, _<_}
+use Prim.Native.Nat.{ℕ, zero, suc, _+_, _-_, _≤_, _<_}
 use native.Mathlib.Decide.{ℕ-discrete}
 use native.Mathlib.Omega.{arith}
-use borrow.Author.Tests.{eqb-true, eqb-false, eq-eqb, ne-eqb, ltb-true, ltb-false, lt-ltb, le-leb}
+use borrow.Author.Tests.{eqb-true, eq-eqb, ne-eqb, ltb-true, lt-ltb, le-leb}
 use lib.Dec.{ltb, leb, eqb}
 use lib.IntN.{ℤ}
-use lib.ListN.{length, getD, length-set, List·getD-eq-default}
+use lib.ListN.{length}
 use mir.Val.{boolByte}
 use Rattle.sizes.specs.Sizes.{mostPlanes, allOf, coarsestOf, sideFits, levelsFit}
 use Rattle.sizes.proofs.Laws.{both, both-left, both-right, sized, coarsest-least, coarsest-all}
 use Rattle.bits.specs.Bits.{digit}
 use Rattle.bits.proofs.Laws.{digit-le}
-use Rattle.nls.specs.Scan.{Pass, pixels, sets, refining, State, stateAt, lookAt, lookPixels, lookSets, lookRefining, settle}
-use Rattle.nls.proofs.Kept.{AfterMove, settle-keeps}
+use Rattle.nls.specs.Scan.{pixels, refining, State, stateAt}
 use Rattle.moves.specs.Stands.{passOf, passNumber, stand, stateOf, standOf}
-use Rattle.moves.specs.Moves.{toldSets, toldAt, told, onward}
+use Rattle.moves.specs.Moves.{onward}
 use Rattle.moves.specs.declared.Stand.{Stand}
 use Rattle.moves.proofs.Laws.{pass-small, onward-left, onward-place}
 use Rattle.moves.proofs.Passes.{pass-back}
-use Rattle.undo.specs.Back.{Prior, first, quiet, answered, is, block, fourAre, manyDescs, fresh, unasked, priorPixels, priorRefining, priorSet, priorBlock, priorSets, prior, bigIn, back}
-use Rattle.undo.proofs.Ends.{block-before}
-use Rattle.undo.proofs.Fuel.{behind, nearer, back-first, back-answered, back-quiet}
+use Rattle.moves.proofs.Ended.{ended-onward}
+use Rattle.undo.specs.Back.{first, quiet, is, block, priorPixels, prior, bigIn, back}
+use Rattle.undo.proofs.Fuel.{back-first, back-quiet}
 use Rattle.undo.proofs.Bounds.{back-within}
+use Rattle.undo.proofs.Lands.{Goes, back-lands}
 use Rattle.steps.specs.Records.{recordAt, recordOf, isEnd, isWithin, inRange, standIn, stateIn}
 use Rattle.steps.specs.Ready.{Stood}
 use Rattle.steps.specs.declared.Record.{Record}
@@ -130,148 +130,6 @@ module _ (N L P used : ℕ) (s : State) where
         go : Dec (s .left ≡ 0) → Means (cond (eqb (s .left) 0) E W)
         go (yes e) = subst (λ (x : Bool). Means (cond x E W)) (sym (eq-eqb (s .left) 0 e)) (means-end (ended e))
         go (no h) = subst (λ (x : Bool). Means (cond x E W)) (sym (ne-eqb (s .left) 0 h)) (means-in h top (place h))
-
--- ---- a scan that ended stands where a plane would begin
-
-abbrev pub Ended : State → Type 0
-Ended s = s .left ≡ 0 → s ≡ stateAt 0 pixels 0 (s .marks)
-
-module _ (I : ℕ) where
-  ended-pixels : (b i : ℕ) (m : List ℕ) (x y : Bool) → AfterMove I Ended (lookPixels b i m x y)
-  ended-pixels b i m false y = λ e. absurd (omega (arith, e))
-  ended-pixels b i m true true = tt
-  ended-pixels b i m true false = λ e. absurd (omega (arith, e))
-
-  ended-sets : (b i : ℕ) (m : List ℕ) (x d g c : Bool) → AfterMove I Ended (lookSets b i m x d g c)
-  ended-sets b i m false d g c = λ e. absurd (omega (arith, e))
-  ended-sets b i m true true g c = tt
-  ended-sets b i m true false true c = tt
-  ended-sets b i m true false false true = tt
-  ended-sets b i m true false false false = λ e. absurd (omega (arith, e))
-
-  ended-refining : (b i : ℕ) (m : List ℕ) (x s n : Bool) → AfterMove I Ended (lookRefining b i m x s n)
-  ended-refining b i m false s n = λ e. ap (λ (l : ℕ). stateAt l pixels 0 m) e
-  ended-refining b i m true true n = tt
-  ended-refining b i m true false true = λ e. absurd (omega (arith, e))
-  ended-refining b i m true false false = λ e. absurd (omega (arith, e))
-
-  ended-look : (l : ℕ) (p : Pass) (i : ℕ) (w : Bool) (m : List ℕ) → AfterMove I Ended (lookAt I l p i w m)
-  ended-look zero p i w m = tt
-  ended-look (suc b) p i true m = tt
-  ended-look (suc b) pixels i false m = ended-pixels b i m (ltb i I) (eqb (getD m i 0) 1)
-  ended-look (suc b) sets i false m = ended-sets b i m (ltb i I) (eqb (getD m i 0) 5) (eqb (getD m i 0) 6) (eqb (getD m i 0) 4)
-  ended-look (suc b) refining i false m = ended-refining b i m (ltb i I) (eqb (getD m i 0) 3) (eqb (getD m i 0) 2)
-
-  pub ended-settle : (s : State) → Ended s → Ended (settle I s)
-  ended-settle s h = settle-keeps I Ended (λ t k. ended-look (t .left) (t .pass) (t .place) (t .pending) (t .marks)) s h
-
-  -- an answer leaves the plane in progress
-  told-sets-left : (l i : ℕ) (m : List ℕ) (a d g : Bool) → (toldSets I l i m a d g) .left ≡ l
-  told-sets-left l i m true true g = refl
-  told-sets-left l i m false true g = refl
-  told-sets-left l i m true false true = refl
-  told-sets-left l i m false false true = refl
-  told-sets-left l i m true false false = refl
-  told-sets-left l i m false false false = refl
-
-  told-left : (l : ℕ) (p : Pass) (i : ℕ) (w : Bool) (m : List ℕ) (a : Bool) → (toldAt I l p i w m a) .left ≡ l
-  told-left l p i true m a = refl
-  told-left l pixels i false m true = refl
-  told-left l pixels i false m false = refl
-  told-left l sets i false m a = told-sets-left l i m a (eqb (getD m i 0) 5) (eqb (getD m i 0) 6)
-  told-left l refining i false m a = refl
-
-  ended-onward : (s : State) (a : Bool) → 1 ≤ s .left → Ended (onward I s a)
-  ended-onward s a h = ended-settle (told I s a) (λ e. absurd (omega (arith, h, e, told-left (s .left) (s .pass) (s .place) (s .pending) (s .marks) a)))
-
--- ---- the way back leads to one of I places, where there are I marks and a plane is left
-
--- a mark is one of the table
-marked : (m : List ℕ) (q c : ℕ) → is m q c ≡ true → 1 ≤ c → q < length m
-marked m q c e h = go (ltb q (length m)) refl
-  where
-    go : (t : Bool) → ltb q (length m) ≡ t → q < length m
-    go true f = ltb-true q (length m) f
-    go false f = absurd (omega (arith, h, eqb-true (getD m q 0) c e, List·getD-eq-default m 0 {n = q} (ltb-false q (length m) f)))
-
-module _ (I D P : ℕ) (big : ℕ → ℕ → Bool) where
-  -- from place q, with l planes left
-  abbrev Leads : ℕ → ℕ → Prior → Type 0
-  Leads l q first = q ≡ 0
-  Leads l q (quiet t) = (l ≤ t .left) × (length (t .marks) ≡ I) × (t .pending ≡ false)
-  Leads l q (answered t) = (l ≤ t .left) × (t .place < I)
-
-  leads-unasked : (l q : ℕ) (p : Pass) (i v : ℕ) (m : List ℕ) (t : Bool) → i < I → Leads l q (unasked I D P big l p i v m t)
-  leads-unasked l q p i v m true h = (omega arith, h)
-  leads-unasked l q p i v m false h = (omega arith, h)
-
-  module _ (l q : ℕ) (m : List ℕ) (long : length m ≡ I) (k : q ≤ I) where
-    leads-pixels : (i : ℕ) (z a s : Bool) → eqb q 0 ≡ z → i ≤ q - 1 → Leads l q (priorPixels I D P big l i m z a s)
-    leads-pixels i true true s ez e = (omega arith, long, refl)
-    leads-pixels i true false s ez e = eqb-true q 0 ez
-    leads-pixels i false a true ez e = leads-unasked l q pixels i 1 m (is m i 2) (omega (arith, eqb-false q 0 ez, k, e))
-    leads-pixels i false a false ez e = (omega arith, long, refl)
-
-    leads-refining : (i : ℕ) (z s o : Bool) → eqb q 0 ≡ z → i ≤ q - 1 → Leads l q (priorRefining I D P big l i m z s o)
-    leads-refining i true s o ez e = (omega arith, long, refl)
-    leads-refining i false true true ez e = (omega arith, omega (arith, eqb-false q 0 ez, k, e))
-    leads-refining i false true false ez e = (omega arith, length-set m i 2 ∙ long, refl)
-    leads-refining i false false o ez e = (omega arith, long, refl)
-
-    leads-set : (i : ℕ) (t : Bool) → (q ≡ 0 → ⊥) → i ≤ q - 1 → Leads l q (priorSet I D P big l i m t)
-    leads-set i true n e = (omega arith, omega (arith, n, k, e))
-    leads-set i false n e = (omega arith, long, refl)
-
-    leads-block : (a n : Bool) → (q ≡ 0 → ⊥) → Leads l q (priorBlock I D P big l q m a n)
-    leads-block true true n = leads-unasked l q sets (q - 1) 4 m (is m (q - 1) 2) (omega (arith, n, k))
-    leads-block true false n = (omega arith, long, refl)
-    leads-block false x n = leads-set (block m q) (is m (block m q) 5 || is m (block m q) 6) n (block-before m q)
-
-    leads-sets : (x c y z : Bool) → eqb (q % 4) 0 ≡ x → is m q 4 ≡ c → manyDescs D m q ≡ y → eqb q 0 ≡ z → Leads l q (priorSets I D P big l q m x c y z)
-    leads-sets false c y z ex ec ey ez = leads-unasked l q sets (q - 1) 4 m (is m (q - 1) 2) (omega (arith, eqb-false (q % 4) 0 ex, k))
-    leads-sets true true y z ex ec ey ez = (omega arith, omega (arith, long, marked m q 4 ec (omega arith)))
-    leads-sets true false true z ex ec ey ez = (omega arith, omega (arith, long, marked m q 5 one (omega arith)))
-      where
-        one : is m q 5 ≡ true
-        one = both-left (is m q 5) _ (both-right (leb (4 * D) q) (fourAre m q 5) (both-right (eqb (q % 16) 0) (leb (4 * D) q && fourAre m q 5) ey))
-    leads-sets true false false true ex ec ey ez = (omega arith, long, refl)
-    leads-sets true false false false ex ec ey ez =
-        leads-block (ltb 0 (getD m (q - 4) 0) && ltb (getD m (q - 4) 0) 4) (leb D (q - 4) && fresh I D P big m (q - 4)) (eqb-false q 0 ez)
-
-  -- what the way back goes from
-  pub record Goes (s : State) : Type 0 where
-    pub planes : s .left ≤ P
-    pub some : 1 ≤ s .left
-    pub place : s .place ≤ I
-    pub waits : s .pending ≡ true → s .place < I
-    pub long : length (s .marks) ≡ I
-
-  prior-leads : (s : State) → Goes s → Leads (s .left) (s .place) (prior I D P big s)
-  prior-leads s g = go (s .left) (s .pass) (s .place) (s .pending) (s .marks) (g .place) (g .waits) (g .long)
-    where
-      go : (l : ℕ) (p : Pass) (q : ℕ) (w : Bool) (m : List ℕ) → q ≤ I → (w ≡ true → q < I) → length m ≡ I → Leads l q (prior I D P big (record { left = l; pass = p; place = q; pending = w; marks = m }))
-      go l p q true m k h n = (omega arith, h refl)
-      go l pixels q false m k h n = leads-pixels l q m n k (block m q) (eqb q 0) (ltb l P) (is m (block m q) 1 || is m (block m q) 2) refl (block-before m q)
-      go l sets q false m k h n = leads-sets l q m n k (eqb (q % 4) 0) (is m q 4) (manyDescs D m q) (eqb q 0) refl refl refl refl
-      go l refining q false m k h n = leads-refining l q m n k (block m q) (eqb q 0) (is m (block m q) 3) (big l (block m q)) refl (block-before m q)
-
-  abbrev pub Lands : State → Type 0
-  Lands s = (1 ≤ s .left) × (s .place < I)
-
-  lands : (n : ℕ) (s : State) → 1 ≤ I → Goes s → behind I D P big s < n → Lands (back I D P big s)
-  lands zero s i g h = absurd (omega (arith, h))
-  lands (suc n) s i g h = on (prior I D P big s) refl (prior-leads s g) (λ t. lands n t i)
-    where
-      on : (x : Prior) → prior I D P big s ≡ x → Leads (s .left) (s .place) x → ((t : State) → Goes t → behind I D P big t < n → Lands (back I D P big t)) → Lands (back I D P big s)
-      on first e f ih = subst Lands (sym (back-first I D P big s e)) (g .some, omega (arith, i, f))
-      on (quiet t) e f ih =
-          let w = nearer I D P big s t e (g .planes) (g .place) in
-          subst Lands (sym (back-quiet I D P big s t e (g .planes) (g .place)))
-          (ih t (record { planes = w .1; some = omega (arith, g .some, f .0); place = w .2; waits = λ x. absurd (false≢true (sym (f .2) ∙ x)); long = f .1 }) (omega (arith, w .0, h)))
-      on (answered t) e f ih = subst Lands (sym (back-answered I D P big s t e)) (omega (arith, g .some, f .0), f .1)
-
-  pub back-lands : (s : State) → 1 ≤ I → Goes s → Lands (back I D P big s)
-  back-lands s i g = lands (suc (behind I D P big s)) s i g (omega arith)
 
 -- ---- by a record in range
 

@@ -1,7 +1,7 @@
 -- Words of inner contracts, which no promise to a caller uses: what holds where the checks of a step do.
 use Prim.Native.Nat.{ℕ, _-_, _≤_, _<_}
 use mathlib.Core.{Path._≡_, Bool.true, Bool.false, Bool.cond, List.List}
-use lib.{Dec.ltb, ListN.length}
+use lib.{Dec.ltb}
 use Rattle.refusals.specs.declared.Refusal.the-variants.{First, Spent}
 use Rattle.sizes.specs.Sizes.{allOf}
 use Rattle.bits.specs.Bits.{bitAt}

@@ -1,8 +1,8 @@
 -- The calls of the stepped decoder (document 02, T-01): what each checks, what it answers, and what it leaves.
 use Prim.Native.Nat.{ℕ, zero, suc, _+_, _*_, _-_, _≤_, _<_, min}
-use mathlib.Core.{Path._≡_, Bool.Bool, Bool.cond, Bool._&&_, List.List, List.[], List._∷_, List._++_}
+use mathlib.Core.{Path._≡_, Bool.cond, Bool._&&_, List.List, List.[], List._∷_, List._++_}
 use lib.{Dec.leb, Dec.ltb, ListN.length, ListN.take}
-use Rattle.refusals.specs.{Refusals.placeOf, Checks.Check, Checks.need, Checks.firstOf, declared.Refusal.Refusal, declared.Refusal.the-variants.First, declared.Refusal.the-variants.Spent, declared.Outcome.Outcome}
+use Rattle.refusals.specs.{Refusals.placeOf, Checks.Check, Checks.need, Checks.firstOf, declared.Refusal.the-variants.First, declared.Refusal.the-variants.Spent, declared.Outcome.Outcome}
 use Rattle.refusals.specs.declared.Refusal.the-variants as refusal
 use Rattle.refusals.specs.declared.Outcome.the-variants as outcome
 use Rattle.sizes.specs.Sizes.{allOf}

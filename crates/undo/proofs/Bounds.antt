@@ -1,5 +1,4 @@
 -- The way back keeps within P planes and I places, in any table.
-use mathlib.Core.Path.{_≡_, refl}
 use mathlib.Core.Bool.{Bool}
 use Prim.Native.Nat.{ℕ, zero, suc, _-_, _≤_}
 use Rattle.nls.specs.Scan.{State, movesLeft}

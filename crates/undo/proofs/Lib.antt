@@ -10,6 +10,7 @@ pub mod Ends
 pub mod Bounds
 pub mod Tables
 pub mod Fuel
+pub mod Lands
 pub mod Steps
 pub mod Ways
 pub mod Decided
