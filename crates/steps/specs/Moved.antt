@@ -1,5 +1,6 @@
--- What a step leaves, in any tables: words of the contracts of steps which no promise in the words of decoding uses. That this is what
--- decoding one bit more or one bit fewer leaves is `forward-follows` and `back-follows` of proofs/Demands.antt.
+-- What a step leaves, in any tables: words of the contracts of steps. Of these the promise in the words of decoding uses `Step`, `step` and
+-- `stays` alone. That the others are what decoding one bit more or one bit fewer leaves is `forward-follows` and `back-follows` of
+-- proofs/Demands.antt.
 use Prim.Native.Nat.{ℕ, _+_, _-_, _*_, _/_, _^_}
 use mathlib.Core.{Bool.Bool, Bool.not, Bool._&&_, Bool.cond, Option.Option, Option.none, Option.some, List.List}
 use lib.{Dec.eqb, IntN.ℤ, IntN.pos, ListN.set}
