@@ -1,5 +1,5 @@
 -- The loop of the way back, turn by turn, and the tests before it.
-use Prim.Native.Nat.{ℕ, zero, suc, _*_, _%_, _≤_, _<_}
+use Prim.Native.Nat.{ℕ, _*_, _%_, _≤_, _<_}
 use mathlib.Core.Path.{_≡_, refl, sym, ap, subst, _∙_}
 use mathlib.Core.Bool.{Bool, true, false, cond}
 use mathlib.Core.List.{List}
@@ -10,9 +10,10 @@ use lib.IntN.{ℤ}
 use lib.ListN.{length}
 use Rattle.sizes.specs.Sizes.{mostN, mostPlanes, allOf}
 use Rattle.sizes.proofs.Laws.{both-left, both-right}
-use Rattle.nls.specs.Scan.{State, pixels, sets, refining, stateAt}
+use Rattle.nls.specs.Scan.{State, stateAt}
 use Rattle.moves.specs.declared.Stand.{Stand}
-use Rattle.moves.specs.Stands.{passOf, passNumber, stand, stateOf, standOf}
+use Rattle.moves.specs.Stands.{passOf, stand, stateOf, standOf}
+use Rattle.moves.proofs.Passes.{pass-back}
 use Rattle.undo.specs.Back.{answered, bigIn, prior, priorAt, back}
 use Rattle.undo.specs.declared.Before.{Before}
 use Rattle.undo.specs.declared.Before.the-variants.{Nothing, Quiet, Answer}
@@ -116,19 +117,8 @@ room-told m v D P t e f =
 
 -- ---- the whole way
 
--- a pass below 3 is told by its number
-pub same-number : (p : ℕ) → p < 3 → passNumber (passOf p) ≡ p
-unfolding passOf
-same-number p h = go p h
-  where
-    go : (k : ℕ) → k < 3 → passNumber (cond (eqb k 0) pixels (cond (eqb k 1) sets refining)) ≡ k
-    go zero h = refl
-    go (suc zero) h = refl
-    go (suc (suc zero)) h = refl
-    go (suc (suc (suc k))) h = absurd (omega arith)
-
 pub stood-stand : (t : State) (st : Stand) (m : List ℕ) → Stood t st m → st ≡ standOf t
-stood-stand t st m s = ap (λ (k : ℕ). stand (st .left) k (st .place) (st .pending)) (sym (same-number (st .pass) (s .passed))) ∙ ap standOf (sym (s .same))
+stood-stand t st m s = ap (λ (k : ℕ). stand (st .left) k (st .place) (st .pending)) (sym (pass-back (st .pass) (s .passed))) ∙ ap standOf (sym (s .same))
 
 pub stood-marks : (t : State) (st : Stand) (m : List ℕ) → Stood t st m → m ≡ t .marks
 stood-marks t st m s = sym (ap (λ (u : State). u .marks) (s .same))

@@ -7,15 +7,12 @@ use Rattle.steps.proofs.moving.arrive.Lts as lts
 use Rattle.steps.proofs.records.reached.Reads as reached-reads
 use Rattle.steps.proofs.records.record_of.Reads as record-of-reads
 
--- src/moving.rt:30:15
 record-of-requires : tie.Need-record-of-requires
 record-of-requires c κs = (range-sizes (c .args .dial) (c .pre .0) .0, c .pre .1 .known, stood-place (c .args .dial) (c .pre .0) (c .args .at) (c .pre .1))
 
--- src/moving.rt:31:17
 reached-requires : tie.Need-reached-requires
 reached-requires c κs = (c .before .pre .1 .planes, range-sizes (c .before .args .dial) (c .before .pre .0) .2)
 
--- src/moving.rt:25:1
 returns : tie.Need-returns
 returns c =
     let a = c .before .before .args in

@@ -8,23 +8,18 @@ use Rattle.steps.proofs.moving.bars.Lts as lts
 use Rattle.decoder.proofs.bars_zero.Reads as bars-zero-reads
 use Rattle.sizes.proofs.coarsest_of.Reads as coarsest-of-reads
 
--- src/moving.rt:52:9
 returns : tie.Need-returns
 returns c = search needs
 
--- src/moving.rt:55:9
 returns-2 : tie.Need-returns-2
 returns-2 c = rw (c .before .if1 .left, c .if2 .taken)
 
--- src/moving.rt:59:9
 coarsest-of-requires : tie.Need-coarsest-of-requires
 coarsest-of-requires c κs = search needs
 
--- src/moving.rt:57:5
 bars-zero-requires : tie.Need-bars-zero-requires
 bars-zero-requires c κs = search needs
 
--- src/moving.rt:47:1
 returns-3 : tie.Need-returns-3
 returns-3 c =
     let s = c .before .before .before .before .before in

@@ -34,11 +34,9 @@ Inv-loop dial body most to values₀ precisions₀ marks₀ at₀ used₀ values
 abbrev μ-loop : tie.MeasureT-loop
 μ-loop dial body most to values₀ precisions₀ marks₀ at₀ used₀ values precisions marks at used = to - used
 
--- src/moving.rt:126:9
 stand-of-requires : tie.Need-stand-of-requires Inv-loop μ-loop
 stand-of-requires c κs = search needs
 
--- src/moving.rt:128:5
 loop-holds : tie.Need-loop-holds Inv-loop μ-loop
 loop-holds c =
     let s = c .before .before .before .before in
@@ -48,35 +46,27 @@ loop-holds c =
       s .pre .0,
     )
 
--- src/moving.rt:129:32
 cast-read : tie.Need-cast-read Inv-loop μ-loop
 cast-read c = search needs
 
--- src/moving.rt:129:15
 read-requires : tie.Need-read-requires Inv-loop μ-loop
 read-requires c κs = search needs
 
--- src/moving.rt:130:23
 enum-known-bit : tie.Need-enum-known-bit Inv-loop μ-loop
 enum-known-bit c = search needs
 
--- src/moving.rt:132:21
 refuse-requires : tie.Need-refuse-requires Inv-loop μ-loop
 refuse-requires c κs = search needs
 
--- src/moving.rt:132:21
 same-length : tie.Need-same-length Inv-loop μ-loop
 same-length c = c .before .before .before .before .before .before .before .before .loop .inv .2 .valuesSize ∙ sym (c .before .before .before .before .before .before .before .before .before .before .before .before .before .pre .0 .valuesSize)
 
--- src/moving.rt:132:21
 same-length-2 : tie.Need-same-length-2 Inv-loop μ-loop
 same-length-2 c = c .before .before .before .before .before .before .before .before .loop .inv .2 .precisionsSize ∙ sym (c .before .before .before .before .before .before .before .before .before .before .before .before .before .pre .0 .precisionsSize)
 
--- src/moving.rt:132:21
 same-length-3 : tie.Need-same-length-3 Inv-loop μ-loop
 same-length-3 c = c .before .before .before .before .before .before .before .before .loop .inv .2 .marksSize ∙ sym (c .before .before .before .before .before .before .before .before .before .before .before .before .before .pre .0 .marksSize)
 
--- src/moving.rt:132:21
 returns : tie.Need-returns Inv-loop μ-loop
 returns c =
     let s = c .before .before .before .before .before .before .before .before .before .before .before .before .before in
@@ -88,27 +78,21 @@ returns c =
     ∙ climb-ends (a .dial) range (l .at) (l .inv .1) (a .most) (a .body .now) (l .used) (l .values) (l .precisions) (l .marks) (a .to) (Beyond (l .used)) (c .before .before .before .before .before .before .before .loop-test .taken) (forward-beyond (a .dial) range (l .at) (l .inv .1) (a .most) (a .body .now) (l .used) (l .values) (l .precisions) (l .marks) _ bit (c .before .if1 .taken))
     ∙ l .inv .0
 
--- src/moving.rt:134:20
 bars-requires : tie.Need-bars-requires Inv-loop μ-loop
 bars-requires c κs = search needs
 
--- src/moving.rt:135:21
 refuse-requires-2 : tie.Need-refuse-requires-2 Inv-loop μ-loop
 refuse-requires-2 c κs = search needs
 
--- src/moving.rt:135:21
 same-length-4 : tie.Need-same-length-4 Inv-loop μ-loop
 same-length-4 c = c .before .before .before .before .before .before .before .before .before .before .before .loop .inv .2 .valuesSize ∙ sym (c .before .before .before .before .before .before .before .before .before .before .before .before .before .before .before .before .pre .0 .valuesSize)
 
--- src/moving.rt:135:21
 same-length-5 : tie.Need-same-length-5 Inv-loop μ-loop
 same-length-5 c = c .before .before .before .before .before .before .before .before .before .before .before .loop .inv .2 .precisionsSize ∙ sym (c .before .before .before .before .before .before .before .before .before .before .before .before .before .before .before .before .pre .0 .precisionsSize)
 
--- src/moving.rt:135:21
 same-length-6 : tie.Need-same-length-6 Inv-loop μ-loop
 same-length-6 c = c .before .before .before .before .before .before .before .before .before .before .before .loop .inv .2 .marksSize ∙ sym (c .before .before .before .before .before .before .before .before .before .before .before .before .before .before .before .before .pre .0 .marksSize)
 
--- src/moving.rt:135:21
 returns-2 : tie.Need-returns-2 Inv-loop μ-loop
 returns-2 c =
     let s = c .before .before .before .before .before .before .before .before .before .before .before .before .before .before .before .before in
@@ -120,19 +104,15 @@ returns-2 c =
     ∙ climb-ends (a .dial) range (l .at) (l .inv .1) (a .most) (a .body .now) (l .used) (l .values) (l .precisions) (l .marks) (a .to) (Contradiction (l .used)) (c .before .before .before .before .before .before .before .before .before .before .loop-test .taken) (forward-barred (a .dial) range (l .at) (l .inv .1) (a .most) (a .body .now) (l .used) (l .values) (l .precisions) (l .marks) _ bit (c .before .before .before .before .if1 .left) _ (c .before .before .bars .ensures) (c .before .if2 .taken))
     ∙ l .inv .0
 
--- src/moving.rt:137:17
 tell-requires : tie.Need-tell-requires Inv-loop μ-loop
 tell-requires c κs = search needs
 
--- src/moving.rt:138:24
 add-used : tie.Need-add-used Inv-loop μ-loop
 add-used c = omega (arith, c .before .before .before .before .before .before .before .before .before .before .before .before .before .before .before .before .before .before .loop-test .taken, c .before .before .before .before .before .before .before .before .before .before .before .before .before .before .before .before .before .before .before .before .before .before .before .before .fits .to .fits)
 
--- src/moving.rt:128:5
 loop-less : tie.Need-loop-less Inv-loop μ-loop
 loop-less c = omega (arith, c .before .before .before .before .before .before .before .before .before .before .before .before .before .before .before .before .before .before .loop-test .taken)
 
--- src/moving.rt:128:5
 loop-again : tie.Need-loop-again Inv-loop μ-loop
 loop-again c =
     let s = c .before .before .before .before .before .before .before .before .before .before .before .before .before .before .before .before .before .before .before .before .before .before .before .before in
@@ -152,27 +132,21 @@ loop-again c =
       },
     )
 
--- src/moving.rt:141:47
 enum-told : tie.Need-enum-told Inv-loop μ-loop
 enum-told c = search needs
 
--- src/moving.rt:141:17
 refuse-requires-3 : tie.Need-refuse-requires-3 Inv-loop μ-loop
 refuse-requires-3 c κs = search needs
 
--- src/moving.rt:141:17
 same-length-7 : tie.Need-same-length-7 Inv-loop μ-loop
 same-length-7 c = c .before .before .before .before .before .loop .inv .2 .valuesSize ∙ sym (c .before .before .before .before .before .before .before .before .before .before .pre .0 .valuesSize)
 
--- src/moving.rt:141:17
 same-length-8 : tie.Need-same-length-8 Inv-loop μ-loop
 same-length-8 c = c .before .before .before .before .before .loop .inv .2 .precisionsSize ∙ sym (c .before .before .before .before .before .before .before .before .before .before .pre .0 .precisionsSize)
 
--- src/moving.rt:141:17
 same-length-9 : tie.Need-same-length-9 Inv-loop μ-loop
 same-length-9 c = c .before .before .before .before .before .loop .inv .2 .marksSize ∙ sym (c .before .before .before .before .before .before .before .before .before .before .pre .0 .marksSize)
 
--- src/moving.rt:141:17
 returns-3 : tie.Need-returns-3 Inv-loop μ-loop
 returns-3 c =
     let s = c .before .before .before .before .before .before .before .before .before .before in
@@ -183,23 +157,18 @@ returns-3 c =
     ∙ climb-ends (a .dial) range (l .at) (l .inv .1) (a .most) (a .body .now) (l .used) (l .values) (l .precisions) (l .marks) (a .to) Spent (c .before .before .before .before .loop-test .taken) (forward-spent (a .dial) range (l .at) (l .inv .1) (a .most) (a .body .now) (l .used) (l .values) (l .precisions) (l .marks) (told-none (a .body .now) (l .used) (a .most) (c .before .before .before .read .ensures) (s .pre .1) (c .before .enum-told .given .1)))
     ∙ l .inv .0
 
--- src/moving.rt:145:5
 arrive-requires : tie.Need-arrive-requires Inv-loop μ-loop
 arrive-requires c κs = search needs
 
--- src/moving.rt:114:1
 same-length-10 : tie.Need-same-length-10 Inv-loop μ-loop
 same-length-10 c = c .before .before .loop .inv .2 .valuesSize ∙ sym (c .before .before .before .before .before .before .before .pre .0 .valuesSize)
 
--- src/moving.rt:114:1
 same-length-11 : tie.Need-same-length-11 Inv-loop μ-loop
 same-length-11 c = c .before .before .loop .inv .2 .precisionsSize ∙ sym (c .before .before .before .before .before .before .before .pre .0 .precisionsSize)
 
--- src/moving.rt:114:1
 same-length-12 : tie.Need-same-length-12 Inv-loop μ-loop
 same-length-12 c = c .before .before .loop .inv .2 .marksSize ∙ sym (c .before .before .before .before .before .before .before .pre .0 .marksSize)
 
--- src/moving.rt:114:1
 returns-4 : tie.Need-returns-4 Inv-loop μ-loop
 returns-4 c =
     let s = c .before .before .before .before .before .before .before in

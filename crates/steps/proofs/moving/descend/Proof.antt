@@ -30,56 +30,44 @@ abbrev μ-loop : tie.MeasureT-loop
 μ-loop dial body most to values₀ precisions₀ marks₀ coarsest at₀ used₀ values precisions marks at used =
     used - to
 
--- src/moving.rt:161:9
 coarsest-of-requires : tie.Need-coarsest-of-requires Inv-loop μ-loop
 coarsest-of-requires c κs = search needs
 
--- src/moving.rt:162:9
 stand-of-requires : tie.Need-stand-of-requires Inv-loop μ-loop
 stand-of-requires c κs = c .before .before .before .before .pre .0 .range
 
--- src/moving.rt:164:5
 loop-holds : tie.Need-loop-holds Inv-loop μ-loop
 loop-holds c = let s = c .before .before .before .before .before in
     let a = s .args in
     descending-first (a .dial) (s .pre .0 .range) (a .body .now) (a .most) (a .to) (c .stand-of .result) (a .values .now) (a .precisions .now) (a .marks .now) (c .stand-of .ensures) (s .pre .1) (s .pre .0 .valuesSize) (s .pre .0 .precisionsSize) (s .pre .0 .marksSize)
 
--- src/moving.rt:165:32
 cast-read : tie.Need-cast-read Inv-loop μ-loop
 cast-read c = search needs
 
--- src/moving.rt:165:32
 sub-read : tie.Need-sub-read Inv-loop μ-loop
 sub-read c = search needs
 
--- src/moving.rt:165:15
 read-requires : tie.Need-read-requires Inv-loop μ-loop
 read-requires c κs = search needs
 
--- src/moving.rt:166:23
 enum-known-bit : tie.Need-enum-known-bit Inv-loop μ-loop
 enum-known-bit c = search needs
 
--- src/moving.rt:167:17
 go-back-requires : tie.Need-go-back-requires Inv-loop μ-loop
 go-back-requires c κs = search needs
 
--- src/moving.rt:168:17
 untell-requires : tie.Need-untell-requires Inv-loop μ-loop
 untell-requires c κs = let s = c .before .before .before .before .before .before .before .before .before .before .before .before .before .before .before .before .before .before .before in
     let a = s .args in
     let w = c .before .before .before .before .before .before .before .before .before .before .before .before .before .loop in
     (record { range = s .pre .0 .range; valuesSize = w .inv .valuesSize; precisionsSize = w .inv .precisionsSize; marksSize = omega (arith, w .inv .marksSize) }, from-stood (a .dial) (s .pre .0 .range) (a .body .now) (w .used) (w .at) (w .values) (w .precisions) (w .marks) (w .inv .stood) (length (w .marks)) (length (w .values)) (c .before .before .before .before .before .before .before .before .before .before .before .before .before .before .before .coarsest-of .result) (c .before .before .before .before .before .go-back .result) _ (w .inv .marksSize) (w .inv .valuesSize) (range-coarsest (a .dial) (s .pre .0 .range) _ (c .before .before .before .before .before .before .before .before .before .before .before .before .before .before .before .coarsest-of .ensures)) (c .before .before .before .before .before .go-back .ensures .0) (c .before .before .before .before .before .go-back .ensures .1) (w .inv .marksSize))
 
--- src/moving.rt:169:24
 sub-used : tie.Need-sub-used Inv-loop μ-loop
 sub-used c = omega (arith, c .before .before .before .before .before .before .before .before .before .before .before .before .before .before .before .before .loop-test .taken)
 
--- src/moving.rt:164:5
 loop-less : tie.Need-loop-less Inv-loop μ-loop
 loop-less c = omega (arith, c .before .before .before .before .before .before .before .before .before .before .before .before .before .before .before .before .loop-test .taken)
 
--- src/moving.rt:164:5
 loop-again : tie.Need-loop-again Inv-loop μ-loop
 loop-again c = let s = c .before .before .before .before .before .before .before .before .before .before .before .before .before .before .before .before .before .before .before .before .before .before .before in
     let a = s .args in
@@ -87,50 +75,39 @@ loop-again c = let s = c .before .before .before .before .before .before .before
     let t = told-bit (a .body .now) (w .used - 1) (a .most) (c .before .before .before .before .before .before .before .before .before .before .before .before .before .before .before .read .ensures) _ (c .before .before .before .before .before .before .before .before .before .before .before .before .before .bit .given .1) in
     descending-on (a .dial) (s .pre .0 .range) (a .body .now) (a .most) (a .to) _ (w .used) (w .at) (w .values) (w .precisions) (w .marks) (w .inv) (c .before .before .before .before .before .before .before .before .before .before .before .before .before .before .before .before .loop-test .taken) (length (w .marks)) (length (w .values)) (c .before .before .before .before .before .before .before .before .before .before .before .before .before .before .before .before .before .before .before .coarsest-of .result) (c .before .before .before .before .before .before .before .before .before .go-back .result) _ (w .inv .marksSize) (w .inv .valuesSize) (range-coarsest (a .dial) (s .pre .0 .range) _ (c .before .before .before .before .before .before .before .before .before .before .before .before .before .before .before .before .before .before .before .coarsest-of .ensures)) (c .before .before .before .before .before .before .before .before .before .go-back .ensures .0) (c .before .before .before .before .before .before .before .before .before .go-back .ensures .1) _ _ _ (t .1) (c .before .before .before .untell .ensures .0) (c .before .before .before .untell .ensures .1) (omega (arith, w .inv .valuesSize)) (omega (arith, w .inv .precisionsSize)) (omega (arith, w .inv .marksSize))
 
--- src/moving.rt:172:47
 enum-told : tie.Need-enum-told Inv-loop μ-loop
 enum-told c = search needs
 
--- src/moving.rt:172:17
 refuse-requires : tie.Need-refuse-requires Inv-loop μ-loop
 refuse-requires c κs = (c .before .before .before .before .before .before .before .before .before .before .pre .0 .range, c .before .before .before .before .loop .inv .stood)
 
--- src/moving.rt:172:17
 same-length : tie.Need-same-length Inv-loop μ-loop
 same-length c = omega (arith, c .before .before .before .before .before .loop .inv .valuesSize, c .before .before .before .before .before .before .before .before .before .before .before .pre .0 .valuesSize)
 
--- src/moving.rt:172:17
 same-length-2 : tie.Need-same-length-2 Inv-loop μ-loop
 same-length-2 c = omega (arith, c .before .before .before .before .before .loop .inv .precisionsSize, c .before .before .before .before .before .before .before .before .before .before .before .pre .0 .precisionsSize)
 
--- src/moving.rt:172:17
 same-length-3 : tie.Need-same-length-3 Inv-loop μ-loop
 same-length-3 c = omega (arith, c .before .before .before .before .before .loop .inv .marksSize, c .before .before .before .before .before .before .before .before .before .before .before .pre .0 .marksSize)
 
--- src/moving.rt:172:17
 returns : tie.Need-returns Inv-loop μ-loop
 returns c = let s = c .before .before .before .before .before .before .before .before .before .before .before in
     let a = s .args in
     let w = c .before .before .before .before .before .loop in
     absurd (omega (arith, c .before .before .before .before .loop-test .taken, w .inv .few, told-none (a .body .now) (w .used - 1) (a .most) (c .before .before .before .read .ensures) (s .pre .2) (c .before .enum-told .given .1)))
 
--- src/moving.rt:176:5
 arrive-requires : tie.Need-arrive-requires Inv-loop μ-loop
 arrive-requires c κs = (c .before .before .before .before .before .before .before .pre .0 .range, c .before .loop .inv .stood)
 
--- src/moving.rt:149:1
 same-length-4 : tie.Need-same-length-4 Inv-loop μ-loop
 same-length-4 c = omega (arith, c .before .before .loop .inv .valuesSize, c .before .before .before .before .before .before .before .before .pre .0 .valuesSize)
 
--- src/moving.rt:149:1
 same-length-5 : tie.Need-same-length-5 Inv-loop μ-loop
 same-length-5 c = omega (arith, c .before .before .loop .inv .precisionsSize, c .before .before .before .before .before .before .before .before .pre .0 .precisionsSize)
 
--- src/moving.rt:149:1
 same-length-6 : tie.Need-same-length-6 Inv-loop μ-loop
 same-length-6 c = omega (arith, c .before .before .loop .inv .marksSize, c .before .before .before .before .before .before .before .before .pre .0 .marksSize)
 
--- src/moving.rt:149:1
 returns-2 : tie.Need-returns-2 Inv-loop μ-loop
 returns-2 c = let s = c .before .before .before .before .before .before .before .before in
     let a = s .args in

@@ -9,11 +9,9 @@ use Rattle.steps.proofs.moving.refuse.Reads as reads
 use Rattle.steps.proofs.moving.refuse.Lts as lts
 use Rattle.steps.proofs.records.record_of.Reads as record-of-reads
 
--- src/moving.rt:41:15
 record-of-requires : tie.Need-record-of-requires
 record-of-requires c κs = (range-sizes (c .args .dial) (c .pre .0) .0, c .pre .1 .known, stood-place (c .args .dial) (c .pre .0) (c .args .at) (c .pre .1))
 
--- src/moving.rt:36:1
 returns : tie.Need-returns
 returns c = λ m t. ap (λ (x : Record). stays (c .before .args .why) x t) (c .record-of .ensures m)
 

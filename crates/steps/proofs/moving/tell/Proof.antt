@@ -12,50 +12,40 @@ use Rattle.steps.proofs.tables.asked.Reads as asked-reads
 use Rattle.steps.proofs.tables.hear.Reads as hear-reads
 use Rattle.steps.proofs.tables.note.Reads as note-reads
 
--- src/moving.rt:80:13
 sub-b : tie.Need-sub-b
 sub-b c = search needs
 
--- src/moving.rt:81:9
 asked-requires : tie.Need-asked-requires
 asked-requires c κs = search needs
 
--- src/moving.rt:82:5
 hear-requires : tie.Need-hear-requires
 hear-requires c κs =
     let s = c .before .before .before .before .before .before in
     omega (arith, s .pre .2, stood-planes (s .args .dial) (s .pre .0 .range) (s .args .at) (s .pre .1))
 
--- src/moving.rt:83:69
 cast-note : tie.Need-cast-note
 cast-note c =
     let s = c .before .before .before .before .before .before .before .before .before in
     record { fits = omega (arith, stood-planes (s .args .dial) (s .pre .0 .range) (s .args .at) (s .pre .1)) }
 
--- src/moving.rt:83:5
 note-requires : tie.Need-note-requires
 note-requires c κs =
     let s = c .before .before .before .before .before .before .before .before .before in
     let z = range-sizes (s .args .dial) (s .pre .0 .range) in
     (s .pre .0 .precisionsSize, z .0, z .1)
 
--- src/moving.rt:84:5
 go-on-requires : tie.Need-go-on-requires
 go-on-requires c κs = search needs
 
--- src/moving.rt:68:1
 same-length : tie.Need-same-length
 same-length c = search needs
 
--- src/moving.rt:68:1
 same-length-2 : tie.Need-same-length-2
 same-length-2 c = search needs
 
--- src/moving.rt:68:1
 same-length-3 : tie.Need-same-length-3
 same-length-3 c = search needs
 
--- src/moving.rt:68:1
 returns : tie.Need-returns
 returns c =
     let s = c .before .before .before .before .before .before .before .before .before .before .before .before .before .before .before .before in

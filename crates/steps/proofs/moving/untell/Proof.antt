@@ -14,35 +14,28 @@ use Rattle.steps.proofs.tables.asked.Reads as asked-reads
 use Rattle.steps.proofs.tables.note.Reads as note-reads
 use Rattle.steps.proofs.tables.unhear.Reads as unhear-reads
 
--- src/moving.rt:100:9
 asked-requires : tie.Need-asked-requires
 asked-requires c κs = search needs
 
--- src/moving.rt:101:5
 unhear-requires : tie.Need-unhear-requires
 unhear-requires c κs = let s = c .before .before .before .before in
     omega (arith, s .pre .1 .planes, range-sizes (s .args .dial) (s .pre .0 .range) .2)
 
--- src/moving.rt:108:9
 cast-note : tie.Need-cast-note
 cast-note c = let s = c .before .before .before .before .before .before .before .before in
     record { fits = omega (arith, s .pre .1 .planes, range-sizes (s .args .dial) (s .pre .0 .range) .2) }
 
--- src/moving.rt:102:5
 note-requires : tie.Need-note-requires
 note-requires c κs = let s = c .before .before .before .before .before .before .before .before in
     let z = range-sizes (s .args .dial) (s .pre .0 .range) in
     (s .pre .0 .precisionsSize, z .0, z .1)
 
--- src/moving.rt:88:1
 same-length : tie.Need-same-length
 same-length c = search needs
 
--- src/moving.rt:88:1
 same-length-2 : tie.Need-same-length-2
 same-length-2 c = search needs
 
--- src/moving.rt:88:1
 returns : tie.Need-returns
 returns c = let s = c .before .before .before .before .before .before .before .before .before .before .before in
     let a = s .args in
