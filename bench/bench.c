@@ -7,7 +7,8 @@
 //   bench planes N L 12|20   the planes once, by each code: the same
 //   bench order N            both changes of order once, by each code: the same
 //   bench figures N L        the figures of each plane by itself, and of all at once: the same
-//   bench dial N L 12|20     the dial up to the last bit and down again, by a call for each bit and by one for all: the same
+//   bench dial N L 2|5|12|20 the dial up to the last bit and down again, by a call for each bit and by one for all: the same;
+//                            2 and 5 are streams whose longest steps are long
 //   bench time N L REPS      the best time of each coder, in ns for each coded bit, of encode with no bits, in us, and of
 //                            the dial's steps, their mean and the worst, in us
 #define _GNU_SOURCE
@@ -102,11 +103,14 @@ __attribute__((noinline)) uint32_t txp_bench_down(txp_answer *a) {
     return txp_turn(&record, body, (usable + 7) / 8, usable, 0, values, I, prec, I, marks, I, a);
 }
 
-// The same spread of the finest band, growth a level and cut for every N and L.
+// The same spread of the finest band, growth a level and cut for every N and L. With 2 planes every coefficient is found in the
+// first of them, and with 5 three of four are, and the others in the last: there a step forward or back passes over most places.
 static void data(unsigned n, unsigned l, unsigned planes) {
     gen_state = 0x9e3779b97f4a7c15u;
     gen_laplace(coef, n, l, 4, 3, 4095);
     if (planes == 20) gen_laplace(coef, n, l, 500, 3.5, 1048575);
+    if (planes == 2) gen_level(coef, n, 3, 0);
+    if (planes == 5) gen_level(coef, n, 31, 4);
 }
 
 // The figures of all planes at once, and of each by itself.
@@ -340,8 +344,8 @@ int main(int argc, char **argv) {
         if (argc == 5 && !strcmp(argv[1], "planes") && (last == 12 || last == 20)) return tops(n, l, last);
         if (argc == 3 && !strcmp(argv[1], "order")) return order(n);
         if (argc == 4 && !strcmp(argv[1], "figures")) return figures(n, l);
-        if (argc == 5 && !strcmp(argv[1], "dial") && (last == 12 || last == 20)) return dial(n, l, last);
+        if (argc == 5 && !strcmp(argv[1], "dial") && (last == 2 || last == 5 || last == 12 || last == 20)) return dial(n, l, last);
         if (argc == 5 && !strcmp(argv[1], "time") && last > 0) return times(n, l, last);
     }
-    return fprintf(stderr, "usage: bench count N L 12|20, bench open N L 12|20 THOUSANDTHS, bench cut N L 12|20 THOUSANDTHS or BITSb, bench planes N L 12|20, bench order N, bench figures N L, bench dial N L 12|20, or bench time N L REPS\n"), 2;
+    return fprintf(stderr, "usage: bench count N L 12|20, bench open N L 12|20 THOUSANDTHS, bench cut N L 12|20 THOUSANDTHS or BITSb, bench planes N L 12|20, bench order N, bench figures N L, bench dial N L 2|5|12|20, or bench time N L REPS\n"), 2;
 }

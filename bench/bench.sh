@@ -82,8 +82,8 @@ dial() {
     echo "$1 $2 $3 $4 $5 $(counted txp decode) $(counted txp "$6") $up $(counted txp "$7") $down" | awk '
         { printf "%4d %2s %-6s %-5s %9d %13d %13d %6.3f %8.3f %8s %13d %6.3f %8.3f %8s\n", 2 ^ $1, $2, $3, $5, $4, $6, $7, $7 / $6, $7 / $4, $8, $9, $9 / $6, $9 / $4, $10 }'
 }
-dials() { # N L: the rows of the dial over whole streams, by a call for each bit and by one for all
-    for planes in 12 20; do
+dials() { # N L: the rows of the dial over whole streams, by a call for each bit and by one for all; 2 and 5 planes: long steps
+    for planes in 12 20 2 5; do
         bits=$(run dial "$1" "$2" $planes)
         dial "$1" "$2" $planes "$bits" step forward back
         dial "$1" "$2" $planes "$bits" turn up down

@@ -1,4 +1,4 @@
-// Test data: a small generator, and Laplacian-like coefficients.
+// Test data: a small generator, Laplacian-like coefficients, and coefficients of one magnitude or two.
 #ifndef GEN_H
 #define GEN_H
 #include <stdint.h>
@@ -28,6 +28,13 @@ static inline void gen_laplace(int32_t *c, unsigned N, unsigned L, double finest
         while (level-- > 0) scale *= ratio;
         double x = -scale * gen_ln(gen_unit());
         int32_t m = x > most ? most : (int32_t)x;
+        c[i] = gen_u32() & 1 ? -m : m;
+    }
+}
+// Magnitudes of `most`, but for one in `part` on average, which are 1 (0: none).
+static inline void gen_level(int32_t *c, unsigned N, int32_t most, uint32_t part) {
+    for (uint32_t i = 0; i < 1u << 2 * N; i++) {
+        int32_t m = part && gen_u32() % part == 0 ? 1 : most;
         c[i] = gen_u32() & 1 ? -m : m;
     }
 }

@@ -7,6 +7,8 @@ use Rattle.marking.proofs.set_skip.Reads as set-skip
 use Rattle.marking.proofs.fill.Reads as fill
 use Rattle.marking.proofs.split_desc.Reads as split-desc
 use Rattle.marking.proofs.split_grand.Reads as split-grand
+use Rattle.marking.proofs.same_four.Reads as same-four
+use Rattle.marking.proofs.set_four.Reads as set-four
 use Rattle.marking.proofs.start.Reads as start
 
 pub skip-decided : OneAnswer skip.Learnt
@@ -24,6 +26,12 @@ split-desc-decided k args r r' s s' p q = (refl, p ∙ sym q)
 
 pub split-grand-decided : OneOutcome split-grand.Learnt (λ k s. now (s .0))
 split-grand-decided k args r r' s s' p q = (refl, p ∙ sym q)
+
+pub same-four-decided : OneAnswer same-four.Learnt
+same-four-decided k args r r' s s' p q = p ∙ sym q
+
+pub set-four-decided : OneOutcome set-four.Learnt (λ k s. now (s .0))
+set-four-decided k args r r' s s' p q = (refl, p ∙ sym q)
 
 pub start-decided : OneOutcome start.Learnt (λ k s. now (s .0))
 start-decided k args r r' s s' p q = (refl, p ∙ sym q)

@@ -6,15 +6,15 @@ use mathlib.Core.List.{List, [], _∷_, _++_, append-nil}
 use native.Mathlib.Omega.{arith}
 use native.Mathlib.Nat.{not-suc-le-zero, le-of-suc-le-suc, pow-le-pow-right}
 use native.Mathlib.Numerals.{add-one}
-use borrow.Author.Tests.{lt-ltb, le-ltb, ltb-true, ltb-false, le-leb, lt-leb, leb-true, eq-eqb, ne-eqb, eqb-true}
+use borrow.Author.Tests.{lt-ltb, le-ltb, ltb-true, ltb-false, le-leb, lt-leb, leb-true, leb-false, eq-eqb, ne-eqb, eqb-true}
 use lib.Dec.{ltb, leb, eqb, lit≤}
-use lib.ListN.{length, replicate, take, drop, set, length-replicate}
+use lib.ListN.{length, replicate, take, drop, getD, set, length-replicate}
 use lib.Seq.{drop-length, length-take-le}
 use Rattle.sizes.specs.Sizes.{mostN, allOf, sideFits}
 use Rattle.sizes.proofs.Laws.{both-left, both-right}
 use Rattle.nls.specs.Marks.{MN, skip, setSkip, pushFrom, push, splitGrand, pushRoots, startMarks}
 use Rattle.nls.proofs.Machine.Run.{skip-pos}
-use Rattle.marking.specs.Marking.{codesEnd, skipOf, setSkipOf, pushMost, newDesc, descSplitMarks, grandSplitMarks, inTable, startFits}
+use Rattle.marking.specs.Marking.{codesEnd, skipOf, setSkipOf, pushMost, newDesc, descSplitMarks, grandSplitMarks, sameFour, inTable, startFits}
 
 -- ---- fills
 
@@ -217,6 +217,36 @@ module _ (I i : ℕ) where
   pub in-both : inTable I i ≡ true → (I ≤ allOf mostN) × (i < I)
   unfolding inTable
   in-both e = (leb-true I (allOf mostN) (both-left (leb I (allOf mostN)) (ltb i I) e), ltb-true i I (both-right (leb I (allOf mostN)) (ltb i I) e))
+
+-- ---- four marks
+
+module _ (I i : ℕ) where
+  pub four-few : I < 4 → false ≡ leb (i + 4) I
+  four-few h = rw (lt-leb (i + 4) I (omega arith))
+
+  pub four-so : 4 ≤ I → leb i (I - 4) ≡ leb (i + 4) I
+  four-so h = on (leb i (I - 4)) refl
+    where
+      on : (x : Bool) → leb i (I - 4) ≡ x → leb i (I - 4) ≡ leb (i + 4) I
+      on true e = let w = leb-true i (I - 4) e in rw (e, le-leb (i + 4) I (omega arith))
+      on false e = let w = leb-false i (I - 4) e in rw (e, lt-leb (i + 4) I (omega arith))
+
+-- what the tests tell
+pub four-inside : (I i : ℕ) (r : Bool) → r ≡ leb (i + 4) I → r ≡ true → i + 4 ≤ I
+four-inside I i r e t = leb-true (i + 4) I (sym e ∙ t)
+
+pub four-told : (m : List ℕ) (i v : ℕ) → sameFour m i v ≡ true
+    → (i + 4 ≤ length m) × (getD m i 0 ≡ v) × (getD m (i + 1) 0 ≡ v) × (getD m (i + 2) 0 ≡ v) × (getD m (i + 3) 0 ≡ v)
+four-told m i v e =
+    let a = both-right (leb (i + 4) (length m)) _ e in
+    let b = both-right (eqb (getD m i 0) v) _ a in
+    let c = both-right (eqb (getD m (i + 1) 0) v) _ b in (
+      leb-true (i + 4) (length m) (both-left (leb (i + 4) (length m)) _ e),
+      eqb-true (getD m i 0) v (both-left (eqb (getD m i 0) v) _ a),
+      eqb-true (getD m (i + 1) 0) v (both-left (eqb (getD m (i + 1) 0) v) _ b),
+      eqb-true (getD m (i + 2) 0) v (both-left (eqb (getD m (i + 2) 0) v) _ c),
+      eqb-true (getD m (i + 3) 0) v (both-right (eqb (getD m (i + 2) 0) v) _ c),
+    )
 
 module _ (I D : ℕ) where
   pub start-large : allOf mostN < I → false ≡ startFits I D

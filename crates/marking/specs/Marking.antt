@@ -1,7 +1,7 @@
 -- Marks as the code has them: skips, pushes and splits of a table that is no larger than that of the largest N (document 01, "Marks").
 use Prim.Native.Nat.{ℕ, _+_, _-_, _*_, _%_}
 use mathlib.Core.{Bool.Bool, Bool.cond, Bool._&&_, List.List}
-use lib.{Dec.ltb, Dec.leb, Dec.eqb, ListN.set}
+use lib.{Dec.ltb, Dec.leb, Dec.eqb, ListN.length, ListN.getD, ListN.set}
 use Rattle.sizes.specs.Sizes.{mostN, allOf}
 use Rattle.nls.specs.Marks.{MD, MN, skip, setSkip, pushFrom, splitDesc}
 
@@ -29,6 +29,13 @@ grandSplitMarks I i m = newDesc I (i + 12) (newDesc I (i + 8) (newDesc I (i + 4)
 
 abbrev pub descSplitMarks : ℕ → ℕ → List ℕ → List ℕ
 descSplitMarks I i m = splitDesc I i m (ltb (4 * i) I)
+
+-- the four marks from i on are in the table, and all of them are v; and they become v
+abbrev pub sameFour : List ℕ → ℕ → ℕ → Bool
+sameFour m i v = leb (i + 4) (length m) && (eqb (getD m i 0) v && (eqb (getD m (i + 1) 0) v && (eqb (getD m (i + 2) 0) v && eqb (getD m (i + 3) 0) v)))
+
+abbrev pub setFour : List ℕ → ℕ → ℕ → List ℕ
+setFour m i v = set (set (set (set m i v) (i + 1) v) (i + 2) v) (i + 3) v
 
 -- a table of I marks is no larger than that of the largest N, and i is a place of it
 unfoldable pub inTable : ℕ → ℕ → Bool

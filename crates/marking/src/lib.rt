@@ -2,10 +2,11 @@
 ghost use mathlib.Core.Path.{_≡_};
 ghost use mathlib.Core.Bool.{cond};
 ghost use Prim.Native.Nat.{_+_, _*_, _%_, _<_, _≤_};
+ghost use lib.Dec.{leb};
 ghost use lib.ListN.{length, replicate, set};
 ghost use Rattle.sizes.specs.Sizes.{mostN, allOf};
 ghost use Rattle.nls.specs.Marks.{startMarks};
-ghost use Rattle.marking.specs.Marking.{skipOf, setSkipOf, pushMost, newDesc, descSplitMarks, grandSplitMarks, inTable, startFits};
+ghost use Rattle.marking.specs.Marking.{skipOf, setSkipOf, pushMost, newDesc, descSplitMarks, grandSplitMarks, sameFour, setFour, inTable, startFits};
 
 // The marks: none; a coefficient that is not found, one found in this plane, one found before, one whose set was just split;
 // a DESC, a GRAND; and MN2, the first of the marks that skip more.
@@ -106,7 +107,7 @@ fn in_table(all: usize, place: usize) -> bool
 // Four coefficients by themselves; past the end nothing is written. Where all four are in the table one test does.
 fn four_alone(marks: &mut [u8], place: usize)
     requires { ⌜ place < allOf mostN ⌝ }
-    ensures { λ _. ⌜ now (marks .exit) ≡ set (set (set (set (now (marks .entry)) place 4) (place + 1) 4) (place + 2) 4) (place + 3) 4 ⌝ }
+    ensures { λ _. ⌜ now (marks .exit) ≡ setFour (now (marks .entry)) place 4 ⌝ }
 {
     if place + 3 < marks.len() {
         marks[place] = MCP;
@@ -169,6 +170,47 @@ pub fn split_grand(marks: &mut [u8], place: usize)
     let all = marks.len();
     if in_table(all, place) {
         open_grand(marks, all, place);
+    }
+}
+
+// Whether four entries from a place on are in a table of this many.
+fn four_in(all: usize, place: usize) -> bool
+    ensures { λ r. ⌜ r ≡ leb (place + 4) all ⌝ }
+{
+    if all < 4 {
+        return false;
+    }
+    place <= all - 4
+}
+
+// Whether the four marks from a place on are all this one.
+pub fn same_four(marks: &[u8], place: usize, mark: u8) -> bool
+    ensures { λ r. ⌜ r ≡ sameFour (now (marks .entry)) place mark ⌝ }
+{
+    if !four_in(marks.len(), place) {
+        return false;
+    }
+    if marks[place] != mark {
+        return false;
+    }
+    if marks[place + 1] != mark {
+        return false;
+    }
+    if marks[place + 2] != mark {
+        return false;
+    }
+    marks[place + 3] == mark
+}
+
+// The four marks from a place on become this one; a table that has no such four stays as it is.
+pub fn set_four(marks: &mut [u8], place: usize, mark: u8)
+    ensures { λ _. ⌜ now (marks .exit) ≡ cond (leb (place + 4) (length (now (marks .entry)))) (setFour (now (marks .entry)) place mark) (now (marks .entry)) ⌝ }
+{
+    if four_in(marks.len(), place) {
+        marks[place] = mark;
+        marks[place + 1] = mark;
+        marks[place + 2] = mark;
+        marks[place + 3] = mark;
     }
 }
 

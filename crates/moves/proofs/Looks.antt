@@ -1,23 +1,25 @@
--- Looks at places, and the silent moves: each way through a look, and the turns of the loop over them.
+-- Looks at places, and the silent moves: places passed over at once, each way through a look, and the turns of the loop over looks.
 use Prim.Native.Nat.{ℕ, zero, suc, _+_, _-_, _/_, _≤_, _<_, min}
 use mathlib.Core.Path.{_≡_, refl, sym, ap, subst, _∙_}
-use mathlib.Core.Bool.{Bool, true, false}
+use mathlib.Core.Bool.{Bool, true, false, cond, _||_, or-false}
 use mathlib.Core.List.{List}
 use native.Mathlib.Omega.{arith}
 use native.Mathlib.Nat.{pow-le-pow-right}
-use borrow.Author.Tests.{lt-ltb, le-ltb, ltb-true, ltb-false, eq-eqb, ne-eqb}
-use lib.Dec.{ltb, lit<}
+use borrow.Author.Tests.{lt-ltb, le-ltb, ltb-true, ltb-false, le-leb, eq-eqb, ne-eqb, eqb-true}
+use lib.Dec.{ltb, leb, eqb, lit<}
 use lib.ListN.{length, getD, set, length-set}
+use lib.Seq.{getD-set-other}
 use Rattle.sizes.specs.Sizes.{mostN, allOf}
 use Rattle.nls.specs.Marks.{MIP, MNP, MSP, MCP, MD, MG, skip, setSkip}
 use Rattle.nls.specs.Scan.{Question, bitOf, signOf, inDesc, inGrand, Pass, pixels, sets, refining, State, stateAt, Look, silent, asks, look, settle, movesLeft}
+use Rattle.nls.proofs.Booleans.{neither}
 use Rattle.nls.proofs.Machine.Run.{skip-pos, settle-hush, settle-asks, settle-over, Falls, falls}
 use Rattle.nls.proofs.Machine.Table.{skip-7}
 use Rattle.nls.proofs.Machine.Cover.{sskip-small, sskip-big}
-use Rattle.marking.specs.Marking.{codesEnd, skipOf}
-use Rattle.marking.proofs.Laws.{skip-is}
+use Rattle.marking.specs.Marking.{codesEnd, skipOf, sameFour, setFour}
+use Rattle.marking.proofs.Laws.{skip-is, four-told}
 use Rattle.moves.specs.Stands.{passOf, passNumber, stand, stateOf, standOf}
-use Rattle.moves.specs.Moves.{Moves}
+use Rattle.moves.specs.Moves.{Moves, Passed}
 use Rattle.moves.specs.declared.{Stand.Stand, Ahead.Ahead, Ahead.the-variants.Rests, Ahead.the-variants.Goes}
 use Rattle.moves.proofs.Passes.{pass-back}
 
@@ -34,11 +36,88 @@ module _ (I k i : ℕ) where
   pub behind-all : codesEnd ≤ k → i < I → I ≤ allOf mostN → (min I I ≡ min (i + skip k) I) × (i < I)
   behind-all h w o = (omega (arith, skip-all k h), w)
 
-  pub behind-four : k < 5 → (min (i + 4) I ≡ min (i + setSkip k) I) × (i < i + 4)
-  behind-four h = rw (sskip-small k h) (refl, omega arith)
+  -- a set is skipped as far in the set pass
+  pub behind-set : (r : ℕ) → (min r I ≡ min (i + skip k) I) × (i < r) → 4 ≤ k → (k ≡ 4 → ⊥) → (min r I ≡ min (i + setSkip k) I) × (i < r)
+  behind-set r e h n = rw (sskip-big k (omega arith)) e
 
-  pub behind-set-high : (r : ℕ) → (min r I ≡ min (i + skip k) I) × (i < r) → 5 ≤ k → (min r I ≡ min (i + setSkip k) I) × (i < r)
-  behind-set-high r e h = rw (sskip-big k h) e
+-- ---- places passed over
+
+-- a pass asks nothing from a place to itself, nor on two ways of which one begins where the other ends
+pub passed-none : {I : ℕ} {p : Pass} {i : ℕ} {m : List ℕ} → Passed I p i m i m
+passed-none = record { on = omega arith; long = refl; ahead = λ b. refl }
+
+pub passed-on : {I : ℕ} {p : Pass} {i j k : ℕ} {m n o : List ℕ} → Passed I p i m j n → Passed I p j n k o → Passed I p i m k o
+passed-on u v = record { on = omega arith; long = v .long ∙ u .long; ahead = λ b. v .ahead b ∙ u .ahead b }
+
+passed-four : {I : ℕ} {p : Pass} (i : ℕ) {m n o q r : List ℕ} → Passed I p i m (i + 1) n → Passed I p (i + 1) n (i + 1 + 1) o → Passed I p (i + 2) o (i + 2 + 1) q → Passed I p (i + 3) q (i + 3 + 1) r
+    → Passed I p i m (i + 4) r
+passed-four i a b c d =
+    let e : i + 1 + 1 ≡ i + 2 = omega arith in
+    let f : i + 2 + 1 ≡ i + 3 = omega arith in
+    let g : i + 3 + 1 ≡ i + 4 = omega arith in
+    passed-on a (passed-on (rw e at b) (passed-on (rw f at c) (rw g at d)))
+
+-- one place
+module _ (I i : ℕ) (m : List ℕ) where
+  passed-hush : (p : Pass) (j : ℕ) (n : List ℕ) → ((b : ℕ) → look I (stateAt (suc b) p i m) ≡ silent (stateAt (suc b) p j n)) → i ≤ j → length n ≡ length m → Passed I p i m j n
+  passed-hush p j n f h e = record { on = h; long = e; ahead = λ b. sym (settle-hush I (stateAt (suc b) p i m) (stateAt (suc b) p j n) (f b)) }
+
+  pub old-one : i < I → getD m i 0 ≡ MSP → Passed I pixels i m (i + 1) m
+  unfolding skip
+  old-one w e = passed-hush pixels (i + 1) m (λ b. rw (lt-ltb i I w, e, e)) (omega arith) refl
+
+  pub alone-one : i < I → getD m i 0 < MCP → Passed I sets i m (i + 4) m
+  alone-one w h =
+      passed-hush sets (i + 4) m
+      (λ b. rw (lt-ltb i I w, ne-eqb (getD m i 0) MD (λ e. omega arith), ne-eqb (getD m i 0) MG (λ e. omega arith), ne-eqb (getD m i 0) MCP (λ e. omega arith), sskip-small (getD m i 0) (omega arith)))
+      (omega arith) refl
+
+  new-found : i < I → getD m i 0 ≡ MNP → Passed I refining i m (i + 1) (set m i MSP)
+  new-found w e = passed-hush refining (i + 1) (set m i MSP) (λ b. rw (lt-ltb i I w, e)) (omega arith) (length-set m i MSP)
+
+  new-not : i < I → getD m i 0 ≡ MIP → Passed I refining i m (i + 1) m
+  unfolding skip
+  new-not w e = passed-hush refining (i + 1) m (λ b. rw (lt-ltb i I w, e, e)) (omega arith) refl
+
+-- a place by what `is_new` answers, and leaves of the marks
+abbrev pub IsNew : List ℕ → ℕ → Bool → List ℕ → Type 0
+IsNew m i x n = (x ≡ (eqb (getD m i 0) MIP || eqb (getD m i 0) MNP)) × (n ≡ cond (eqb (getD m i 0) MNP) (set m i MSP) m)
+
+module _ (i : ℕ) (m : List ℕ) (x : Bool) (n : List ℕ) (e : IsNew m i x n) where
+  pub new-one : (I : ℕ) → x ≡ true → i < I → Passed I refining i m (i + 1) n
+  new-one I t w = on (eqb (getD m i 0) MNP) refl (e .0) (e .1)
+    where
+      on : (y : Bool) → eqb (getD m i 0) MNP ≡ y → x ≡ (eqb (getD m i 0) MIP || y) → n ≡ cond y (set m i MSP) m → Passed I refining i m (i + 1) n
+      on true q a f = rw f (new-found I i m w (eqb-true (getD m i 0) MNP q))
+      on false q a f = rw f (new-not I i m w (eqb-true (getD m i 0) MIP (sym (or-false (eqb (getD m i 0) MIP)) ∙ sym a ∙ t)))
+
+  none-new : x ≡ false → eqb (getD m i 0) MNP ≡ false
+  none-new t = neither (eqb (getD m i 0) MIP) (eqb (getD m i 0) MNP) (sym (e .0) ∙ t) .1
+
+  pub new-same : x ≡ false → n ≡ m
+  new-same t = e .1 ∙ rw (none-new t)
+
+-- four places; what is written stands before the marks that are still to be read
+later : (m : List ℕ) (i j : ℕ) → i < j → getD m j 0 ≡ MNP → getD (set m i MSP) j 0 ≡ MNP
+later m i j h e = getD-set-other m i j MSP 0 (λ q. omega arith) ∙ e
+
+module _ (I i : ℕ) (m : List ℕ) (long : length m ≡ I) where
+  pub old-four : sameFour m i MSP ≡ true → Passed I pixels i m (i + 4) m
+  old-four e =
+      let f = four-told m i MSP e in
+      passed-four i (old-one I i m (omega arith) (f .1)) (old-one I (i + 1) m (omega arith) (f .2)) (old-one I (i + 2) m (omega arith) (f .3)) (old-one I (i + 3) m (omega arith) (f .4))
+
+  pub new-four : (n : List ℕ) → n ≡ cond (leb (i + 4) (length m)) (setFour m i MSP) m → sameFour m i MNP ≡ true → Passed I refining i m (i + 4) n
+  new-four n g e =
+      let f = four-told m i MNP e in
+      let a : List ℕ = set m i MSP in
+      let b : List ℕ = set a (i + 1) MSP in
+      let c : List ℕ = set b (i + 2) MSP in
+      rw (g, le-leb (i + 4) (length m) (f .0))
+      (passed-four i (new-found I i m (omega arith) (f .1))
+      (new-found I (i + 1) a (omega arith) (later m i (i + 1) (omega arith) (f .2)))
+      (new-found I (i + 2) b (omega arith) (later a (i + 1) (i + 2) (omega arith) (later m i (i + 2) (omega arith) (f .3))))
+      (new-found I (i + 3) c (omega arith) (later b (i + 2) (i + 3) (omega arith) (later a (i + 1) (i + 3) (omega arith) (later m i (i + 3) (omega arith) (f .4))))))
 
 -- ---- one look
 
@@ -46,9 +125,9 @@ module _ (I : ℕ) where
   rests : (s : State) (q : Question) → look I s ≡ asks q → Moves I s Rests (s .marks)
   rests s q e = (refl, settle-asks I s q e)
 
-  goes : (s : State) (l p i : ℕ) (m : List ℕ) → look I s ≡ silent (stateAt l (passOf p) i m) → p < 3 → length m ≡ length (s .marks) → Moves I s (Goes l p i) m
-  goes s l p i m e h n =
-      (n, h, sym (settle-hush I s (stateAt l (passOf p) i m) e), subst (λ (k : Look). Falls I (movesLeft I s) k) e (falls I s))
+  goes : (s : State) (l p i : ℕ) → look I s ≡ silent (stateAt l (passOf p) i (s .marks)) → p < 3 → Moves I s (Goes l p i) (s .marks)
+  goes s l p i e h =
+      (refl, h, sym (settle-hush I s (stateAt l (passOf p) i (s .marks)) e), subst (λ (k : Look). Falls I (movesLeft I s) k) e (falls I s))
 
   -- from any two places past the last one a pass goes on alike
   past-alike : (b : ℕ) (p : Pass) (i j : ℕ) (m : List ℕ) → I ≤ i → I ≤ j → settle I (stateAt (suc b) p i m) ≡ settle I (stateAt (suc b) p j m)
@@ -72,11 +151,15 @@ module _ (I : ℕ) where
       let s = stateAt (suc b) (passOf p) i m in
       (refl, h, alike b (passOf p) r k m (f .0) ∙ sym (settle-hush I s (stateAt (suc b) (passOf p) k m) e), omega (arith, f .1))
 
+  goes-over : (l p i k j : ℕ) (m n o : List ℕ) → Passed I (passOf p) i m k n → Passed I (passOf p) k n j o → 1 ≤ l → p < 3 → i < k → i < I → Moves I (stateAt l (passOf p) i m) (Goes l p j) o
+  goes-over zero p i k j m n o u v h q z w = absurd (omega arith)
+  goes-over (suc b) p i k j m n o u v h q z w = let y : i < j = omega (arith, v .on) in (v .long ∙ u .long, q, v .ahead b ∙ u .ahead b, omega arith)
+
 module _ (I i : ℕ) (m : List ℕ) where
   pub pixels-end : (l : ℕ) → 1 ≤ l → I ≤ i → Moves I (stateAt l pixels i m) (Goes l 1 0) m
   unfolding passOf
   pixels-end zero h w = absurd (omega arith)
-  pixels-end (suc b) h w = goes I (stateAt (suc b) pixels i m) (suc b) 1 0 m (rw (le-ltb i I w)) (lit< tt) refl
+  pixels-end (suc b) h w = goes I (stateAt (suc b) pixels i m) (suc b) 1 0 (rw (le-ltb i I w)) (lit< tt)
 
   pub pixels-rests : (l : ℕ) → 1 ≤ l → i < I → getD m i 0 ≡ MIP → Moves I (stateAt l pixels i m) Rests m
   pixels-rests zero h w e = absurd (omega arith)
@@ -87,10 +170,14 @@ module _ (I i : ℕ) (m : List ℕ) where
   pixels-goes zero r f h w e = absurd (omega arith)
   pixels-goes (suc b) r f h w e = goes-behind I b 0 i (i + skip (getD m i 0)) r m (rw (lt-ltb i I w, ne-eqb (getD m i 0) MIP e)) f w (lit< tt)
 
+  pub pixels-over : (l j : ℕ) → Passed I pixels (i + 1) m j m → 1 ≤ l → i < I → getD m i 0 ≡ MSP → Moves I (stateAt l pixels i m) (Goes l 0 j) m
+  unfolding passOf
+  pixels-over l j v h w e = goes-over I l 0 i (i + 1) j m m m (old-one I i m w e) v h (lit< tt) (omega arith) w
+
   pub sets-end : (l : ℕ) → 1 ≤ l → I ≤ i → Moves I (stateAt l sets i m) (Goes l 2 0) m
   unfolding passOf
   sets-end zero h w = absurd (omega arith)
-  sets-end (suc b) h w = goes I (stateAt (suc b) sets i m) (suc b) 2 0 m (rw (le-ltb i I w)) (lit< tt) refl
+  sets-end (suc b) h w = goes I (stateAt (suc b) sets i m) (suc b) 2 0 (rw (le-ltb i I w)) (lit< tt)
 
   pub sets-desc : (l : ℕ) → 1 ≤ l → i < I → getD m i 0 ≡ MD → Moves I (stateAt l sets i m) Rests m
   sets-desc zero h w e = absurd (omega arith)
@@ -112,27 +199,31 @@ module _ (I i : ℕ) (m : List ℕ) where
   sets-goes (suc b) r f h w d g e =
       goes-behind I b 1 i (i + setSkip (getD m i 0)) r m (rw (lt-ltb i I w, ne-eqb (getD m i 0) MD d, ne-eqb (getD m i 0) MG g, ne-eqb (getD m i 0) MCP e)) f w (lit< tt)
 
+  pub sets-over : (l j : ℕ) → Passed I sets (i + 4) m j m → 1 ≤ l → i < I → getD m i 0 < MCP → Moves I (stateAt l sets i m) (Goes l 1 j) m
+  unfolding passOf
+  sets-over l j v h w e = goes-over I l 1 i (i + 4) j m m m (alone-one I i m w e) v h (lit< tt) (omega arith) w
+
   pub refining-end : (l : ℕ) → 1 ≤ l → I ≤ i → Moves I (stateAt l refining i m) (Goes (l - 1) 0 0) m
   unfolding passOf
   refining-end zero h w = absurd (omega arith)
-  refining-end (suc b) h w = let e : suc b - 1 ≡ b = omega arith in goes I (stateAt (suc b) refining i m) (suc b - 1) 0 0 m (rw (le-ltb i I w, e)) (lit< tt) refl
+  refining-end (suc b) h w = let e : suc b - 1 ≡ b = omega arith in goes I (stateAt (suc b) refining i m) (suc b - 1) 0 0 (rw (le-ltb i I w, e)) (lit< tt)
 
   pub refining-rests : (l : ℕ) → 1 ≤ l → i < I → getD m i 0 ≡ MSP → Moves I (stateAt l refining i m) Rests m
   refining-rests zero h w e = absurd (omega arith)
   refining-rests (suc b) h w e = rests I (stateAt (suc b) refining i m) (bitOf i b) (rw (lt-ltb i I w, eq-eqb (getD m i 0) MSP e))
 
-  pub refining-found : (l : ℕ) → 1 ≤ l → i < I → (getD m i 0 ≡ MSP → ⊥) → getD m i 0 ≡ MNP → Moves I (stateAt l refining i m) (Goes l 2 (i + 1)) (set m i MSP)
+  pub refining-goes : (l r : ℕ) (x : Bool) (n : List ℕ) → (min r I ≡ min (i + skip (getD m i 0)) I) × (i < r) → IsNew m i x n
+      → x ≡ false → 1 ≤ l → i < I → (getD m i 0 ≡ MSP → ⊥) → Moves I (stateAt l refining i m) (Goes l 2 r) n
   unfolding passOf
-  refining-found zero h w d e = absurd (omega arith)
-  refining-found (suc b) h w d e =
-      goes I (stateAt (suc b) refining i m) (suc b) 2 (i + 1) (set m i MSP) (rw (lt-ltb i I w, ne-eqb (getD m i 0) MSP d, eq-eqb (getD m i 0) MNP e)) (lit< tt) (length-set m i MSP)
+  refining-goes zero r x n f u t h w d = absurd (omega arith)
+  refining-goes (suc b) r x n f u t h w d =
+      rw (new-same i m x n u t)
+      (goes-behind I b 2 i (i + skip (getD m i 0)) r m (rw (lt-ltb i I w, ne-eqb (getD m i 0) MSP d, none-new i m x n u t)) f w (lit< tt))
 
-  pub refining-goes : (l r : ℕ) → (min r I ≡ min (i + skip (getD m i 0)) I) × (i < r) → 1 ≤ l → i < I → (getD m i 0 ≡ MSP → ⊥) → (getD m i 0 ≡ MNP → ⊥)
-      → Moves I (stateAt l refining i m) (Goes l 2 r) m
+  pub refining-over : (l j : ℕ) (x : Bool) (n o : List ℕ) → Passed I refining (i + 1) n j o → IsNew m i x n
+      → x ≡ true → 1 ≤ l → i < I → Moves I (stateAt l refining i m) (Goes l 2 j) o
   unfolding passOf
-  refining-goes zero r f h w d e = absurd (omega arith)
-  refining-goes (suc b) r f h w d e =
-      goes-behind I b 2 i (i + skip (getD m i 0)) r m (rw (lt-ltb i I w, ne-eqb (getD m i 0) MSP d, ne-eqb (getD m i 0) MNP e)) f w (lit< tt)
+  refining-over l j x n o v u t h w = goes-over I l 2 i (i + 1) j m n o (new-one i m x n u I t w) v h (lit< tt) (omega arith) w
 
 -- ---- the loop over looks
 

@@ -1,5 +1,5 @@
 -- Words of inner contracts, which no promise to a caller uses: an answer and the silent moves after it, in a table of any marks.
-use Prim.Native.Nat.{ℕ, _<_}
+use Prim.Native.Nat.{ℕ, suc, _≤_, _<_}
 use mathlib.Core.{Path._≡_, Bool.Bool, Bool.true, Bool.false, Bool._&&_, List.List}
 use lib.{Dec.ltb, Dec.eqb, ListN.length, ListN.getD}
 use Rattle.nls.specs.{Marks.MD, Marks.MG, Scan.Pass, Scan.pixels, Scan.sets, Scan.refining, Scan.State, Scan.stateAt, Scan.tellAt, Scan.tellSets, Scan.settle, Scan.movesLeft}
@@ -32,6 +32,12 @@ module _ (I : ℕ) where
   abbrev pub Moves : State → Ahead → List ℕ → Type 0
   Moves s Rests m = (m ≡ s .marks) × (settle I s ≡ s)
   Moves s (Goes l p i) m = (length m ≡ length (s .marks)) × (p < 3) × (settle I (stateAt l (passOf p) i m) ≡ settle I s) × (movesLeft I (stateAt l (passOf p) i m) < movesLeft I s)
+
+  -- From place i to place j a pass asks nothing, and the marks m become m': what is ahead stays the same.
+  pub record Passed (p : Pass) (i : ℕ) (m : List ℕ) (j : ℕ) (m' : List ℕ) : Type 0 where
+    pub on : i ≤ j
+    pub long : length m' ≡ length m
+    pub ahead : (b : ℕ) → settle I (stateAt (suc b) p j m') ≡ settle I (stateAt (suc b) p i m)
 
 -- a table of I marks is no larger than that of the largest N, and the scan stands at one of its places, in one of the three passes
 unfoldable pub standFits : ℕ → Stand → Bool

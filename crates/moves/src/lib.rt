@@ -1,13 +1,14 @@
 // The scan, one answer at a time: what an answer does to the marks, and the silent moves after it.
 ghost use mathlib.Core.Path.{_≡_};
-ghost use mathlib.Core.Bool.{true, false, cond};
+ghost use mathlib.Core.Bool.{true, false, cond, _||_};
 ghost use Prim.Native.Nat.{_+_, _<_, _≤_, min};
-ghost use lib.ListN.{length};
+ghost use lib.Dec.{eqb};
+ghost use lib.ListN.{length, getD, set};
 ghost use Rattle.sizes.specs.Sizes.{mostN, allOf};
-ghost use Rattle.nls.specs.Marks.{skip, setSkip};
+ghost use Rattle.nls.specs.Marks.{MIP, MNP, MSP, skip};
 ghost use Rattle.nls.specs.Scan.{pixels, sets, refining, stateAt, settle};
 ghost use Rattle.moves.specs.Stands.{passOf, stand, stateOf, standOf};
-ghost use Rattle.moves.specs.Moves.{told, onward, Moves, standFits};
+ghost use Rattle.moves.specs.Moves.{told, onward, Moves, Passed, standFits};
 
 // Where the scan stands: the planes that are not finished, the pass (0, 1 or 2), the place, and whether a sign is pending.
 pub struct Stand {
@@ -46,7 +47,7 @@ fn waiting(left: u32, pass: u32, place: usize) -> Stand
     }
 }
 
-// Behind a mark in the pixel and the refinement pass. A code without a meaning skips all.
+// Behind a mark; a code without a meaning skips all. In the set pass this is asked of the marks of sets alone.
 fn behind(all: usize, mark: u8, place: usize) -> usize
     requires { ⌜ (place < all) × (all ≤ allOf mostN) ⌝ }
     ensures { λ r. ⌜ (min r all ≡ min (place + skip mark) all) × (place < r) ⌝ }
@@ -57,15 +58,72 @@ fn behind(all: usize, mark: u8, place: usize) -> usize
     all
 }
 
-// Behind a mark in the set pass.
-fn behind_set(all: usize, mark: u8, place: usize) -> usize
-    requires { ⌜ (place < all) × (all ≤ allOf mostN) ⌝ }
-    ensures { λ r. ⌜ (min r all ≡ min (place + setSkip mark) all) × (place < r) ⌝ }
+// Over the coefficients from a place on that were found before this plane, four at a time where it can be: the pixel pass asks
+// nothing there.
+fn over_old(marks: &[u8], all: usize, place: usize) -> usize
+    requires { ⌜ (length (now marks) ≡ all) × (all ≤ allOf mostN) ⌝ }
+    ensures { λ r. ⌜ Passed all pixels place (now (marks .entry)) r (now (marks .entry)) ⌝ }
 {
-    if mark < marking::MD {
-        return place + 4;
+    let mut at = place;
+    while marking::same_four(marks, at, marking::MSP) {
+        at += 4;
     }
-    behind(all, mark, place)
+    while at < all {
+        if marks[at] != marking::MSP {
+            return at;
+        }
+        at += 1;
+    }
+    at
+}
+
+// Over the fours from a place on that are in no set: the set pass asks nothing there.
+fn over_alone(marks: &[u8], all: usize, place: usize) -> usize
+    requires { ⌜ (length (now marks) ≡ all) × (all ≤ allOf mostN) ⌝ }
+    ensures { λ r. ⌜ Passed all sets place (now (marks .entry)) r (now (marks .entry)) ⌝ }
+{
+    let mut at = place;
+    while at < all {
+        if marking::MCP <= marks[at] {
+            return at;
+        }
+        at += 4;
+    }
+    at
+}
+
+// Whether the refinement pass asks nothing at a place, since the coefficient there is not found, or was found in this plane; MNP
+// becomes MSP.
+fn is_new(marks: &mut [u8], place: usize) -> bool
+    requires { ⌜ place < length (now marks) ⌝ }
+    ensures { λ r. ⌜ r ≡ (eqb (getD (now (marks .entry)) place 0) MIP || eqb (getD (now (marks .entry)) place 0) MNP) ⌝ }
+    ensures { λ _. ⌜ now (marks .exit) ≡ cond (eqb (getD (now (marks .entry)) place 0) MNP) (set (now (marks .entry)) place MSP) (now (marks .entry)) ⌝ }
+{
+    let mark = marks[place];
+    if mark == marking::MNP {
+        marks[place] = marking::MSP;
+        return true;
+    }
+    mark == marking::MIP
+}
+
+// Over such coefficients from a place on, four at a time where it can be.
+fn over_new(marks: &mut [u8], all: usize, place: usize) -> usize
+    requires { ⌜ (length (now marks) ≡ all) × (all ≤ allOf mostN) ⌝ }
+    ensures { λ r. ⌜ Passed all refining place (now (marks .entry)) r (now (marks .exit)) ⌝ }
+{
+    let mut at = place;
+    while marking::same_four(marks, at, marking::MNP) {
+        marking::set_four(marks, at, marking::MSP);
+        at += 4;
+    }
+    while at < all {
+        if !is_new(marks, at) {
+            return at;
+        }
+        at += 1;
+    }
+    at
 }
 
 // A place of the pixel pass.
@@ -80,6 +138,10 @@ fn look_pixels(marks: &[u8], all: usize, left: u32, place: usize) -> Ahead
     if mark == marking::MIP {
         return Ahead::Rests;
     }
+    if mark == marking::MSP {
+        let next = over_old(marks, all, place + 1);
+        return Ahead::Goes(left, 0, next);
+    }
     let next = behind(all, mark, place);
     Ahead::Goes(left, 0, next)
 }
@@ -93,6 +155,10 @@ fn look_sets(marks: &[u8], all: usize, left: u32, place: usize) -> Ahead
         return Ahead::Goes(left, 2, 0);
     }
     let mark = marks[place];
+    if mark < marking::MCP {
+        let next = over_alone(marks, all, place + 4);
+        return Ahead::Goes(left, 1, next);
+    }
     if mark == marking::MD {
         return Ahead::Rests;
     }
@@ -102,7 +168,7 @@ fn look_sets(marks: &[u8], all: usize, left: u32, place: usize) -> Ahead
     if mark == marking::MCP {
         return Ahead::Rests;
     }
-    let next = behind_set(all, mark, place);
+    let next = behind(all, mark, place);
     Ahead::Goes(left, 1, next)
 }
 
@@ -118,9 +184,9 @@ fn look_refining(marks: &mut [u8], all: usize, left: u32, place: usize) -> Ahead
     if mark == marking::MSP {
         return Ahead::Rests;
     }
-    if mark == marking::MNP {
-        marks[place] = marking::MSP;
-        return Ahead::Goes(left, 2, place + 1);
+    if is_new(marks, place) {
+        let next = over_new(marks, all, place + 1);
+        return Ahead::Goes(left, 2, next);
     }
     let next = behind(all, mark, place);
     Ahead::Goes(left, 2, next)

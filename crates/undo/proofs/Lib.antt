@@ -12,5 +12,6 @@ pub mod Tables
 pub mod Fuel
 pub mod Lands
 pub mod Steps
+pub mod Runs
 pub mod Ways
 pub mod Decided

@@ -37,12 +37,12 @@ many-far D m q e =
     let h = both-right (eqb (q % 16) 0) _ e in
     (eqb-true (q % 16) 0 (both-left (eqb (q % 16) 0) _ e), leb-true (4 * D) q (both-left (leb (4 * D) q) _ h))
 
--- nothing begins past the end
-past-many : (D : ℕ) (m : List ℕ) (q : ℕ) → length m ≤ q → manyDescs D m q ≡ false
-past-many D m q h = go (eqb (q % 16) 0) (leb (4 * D) q)
+-- nor do they begin where there is no DESC
+pub many-none : (D : ℕ) (m : List ℕ) (q : ℕ) → (getD m q 0 ≡ 5 → ⊥) → false ≡ manyDescs D m q
+many-none D m q h = go (eqb (q % 16) 0) (leb (4 * D) q)
   where
-    go : (s t : Bool) → (s && (t && fourAre m q 5)) ≡ false
-    go true true = rw (List·getD-eq-default m 0 h)
+    go : (s t : Bool) → false ≡ (s && (t && fourAre m q 5))
+    go true true = rw (ne-eqb (getD m q 0) 5 h)
     go true false = refl
     go false t = refl
 
@@ -121,7 +121,7 @@ module _ (I D P : ℕ) (big : ℕ → ℕ → Bool) where
 
     -- ---- the set pass
 
-    abbrev Ending : Before → List ℕ → Type 0
+    abbrev pub Ending : Before → List ℕ → Type 0
     Ending r m' = Was (priorBlock I D P big l q m (ltb 0 (getD m (q - 4) 0) && ltb (getD m (q - 4) 0) 4) (leb D (q - 4) && fresh I D P big m (q - 4))) r m m'
 
     pub sets-inside : (r : Before) (m' : List ℕ) → (q % 4 ≡ 0 → ⊥) → r ≡ Answer (stand l 1 (q - 1) (is m (q - 1) 2)) → m' ≡ set m (q - 1) 4 → Was (prior I D P big (stateAt l sets q m)) r m m'
@@ -147,7 +147,9 @@ module _ (I D P : ℕ) (big : ℕ → ℕ → Bool) where
           sets-block r m' n w = rw (eq-eqb (q % 4) 0 f, ne-eqb (getD m q 0) 4 h, sym et ∙ k, ne-eqb q 0 n) w
 
       pub sets-end : (r : Before) (m' : List ℕ) → length m ≤ q → (q ≡ 0 → ⊥) → Ending r m' → Was (prior I D P big (stateAt l sets q m)) r m m'
-      sets-end r m' past = sets-block (let z = List·getD-eq-default m 0 past in omega arith) false (sym (past-many D m q past)) refl r m'
+      sets-end r m' past =
+          let z = List·getD-eq-default m 0 past in
+          sets-block (omega arith) false (many-none D m q (omega arith)) refl r m'
 
 -- ---- the passes by number
 

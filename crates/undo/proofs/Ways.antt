@@ -17,7 +17,7 @@ use Rattle.moves.proofs.Passes.{pass-back}
 use Rattle.undo.specs.Back.{answered, bigIn, prior, priorAt, back}
 use Rattle.undo.specs.declared.Before.{Before}
 use Rattle.undo.specs.declared.Before.the-variants.{Nothing, Quiet, Answer}
-use Rattle.undo.specs.Undoing.{Was, Stood, Room, Scanned, tableFits, standFits, backFits}
+use Rattle.undo.specs.Undoing.{Was, Hushed, Stood, Room, Scanned, tableFits, standFits, backFits}
 use Rattle.undo.proofs.Fuel.{behind, nearer, back-first, back-answered, back-quiet}
 use Rattle.undo.proofs.Steps.{was-nothing, was-quiet, was-answer}
 
@@ -42,6 +42,14 @@ module _ (I D P : ℕ) (big : ℕ → ℕ → Bool) (l p q : ℕ) (m m' : List �
       let x = was-quiet (prior I D P big (stateAt l (passOf p) q m)) l' p' q' m m' (rw e at here) in
       let f = nearer I D P big (stateAt l (passOf p) q m) (stateAt l' (passOf p') q' m') (x .0) h k in
       (f .0, f .1, x .1, f .2, sym (back-quiet I D P big (stateAt l (passOf p) q m) (stateAt l' (passOf p') q' m') (x .0) h k) ∙ same)
+
+  -- and further over a run of places where the pass asked nothing
+  pub runs-on : (l' p' q' : ℕ) → r ≡ Quiet l' p' q' → l ≤ P → q ≤ I → (s i : ℕ) (k : List ℕ) → s ≡ I → ((b : ℕ) → l' ≤ b → Hushed s D b big l' (passOf p') q' m' i k)
+      → (behind I D P big (stateAt l' (passOf p') i k) < behind I D P big (stateAt l (passOf p) q m)) × (l' ≤ P) × (p' < 3) × (i ≤ I) × (back I D P big (stateAt l' (passOf p') i k) ≡ whole)
+  runs-on l' p' q' e h j s i k z f =
+      let g = goes-on l' p' q' e h j in
+      let x = subst (λ (t : ℕ). Hushed t D P big l' (passOf p') q' m' i k) z (f P (g .1)) in
+      (omega arith, g .1, g .2, omega arith, x .same ∙ g .4)
 
 -- ---- the tests
 

@@ -23,6 +23,10 @@ waiting left pass place m = record { left = left; pass = pass; place = place; pe
 abbrev pub is : List ℕ → ℕ → ℕ → Bool
 is m t v = eqb (getD m t 0) v
 
+-- the mark at t is that of a coefficient which no set has any more
+abbrev pub alone : List ℕ → ℕ → Bool
+alone m t = ltb noMark (getD m t 0) && ltb (getD m t 0) MCP
+
 -- the value at i has a bit of plane l or above
 abbrev pub bigIn : List ℤ → ℕ → ℕ → Bool
 bigIn v l i = leb (2 ^ l) (magnitude (at v i))
@@ -109,7 +113,7 @@ module _ (I : ℕ) where
     priorSets l q m true false true zero? = answered (stateAt l sets q (joinGrand q m))
     priorSets l q m true false false true = quiet (stateAt l pixels I m)
     priorSets l q m true false false false =
-        priorBlock l q m (ltb noMark (getD m (q - 4) 0) && ltb (getD m (q - 4) 0) MCP) (leb D (q - 4) && fresh m (q - 4))
+        priorBlock l q m (alone m (q - 4)) (leb D (q - 4) && fresh m (q - 4))
 
     abbrev pub priorAt : ℕ → Pass → ℕ → Bool → List ℕ → Prior
     priorAt l p q true m = answered (stateAt l p q m)

@@ -1,16 +1,18 @@
 -- Words of inner contracts of the way back: what the code answers for what led to a state, and what is asked of the tables.
-use Prim.Native.Nat.{ℕ, _*_, _%_, _≤_, _<_}
+use Prim.Native.Nat.{ℕ, _+_, _-_, _*_, _%_, _≤_, _<_}
 use mathlib.Core.Path.{_≡_}
-use mathlib.Core.Bool.{Bool, _&&_}
+use mathlib.Core.Bool.{Bool, _&&_, _||_, not}
 use mathlib.Core.List.{List}
 use lib.Dec.{ltb, leb, eqb}
 use lib.IntN.{ℤ}
 use lib.ListN.{length}
 use Rattle.sizes.specs.Sizes.{mostN, mostPlanes, allOf}
-use Rattle.nls.specs.Scan.{State, stateAt}
+use Rattle.nls.specs.Marks.{MSP}
+use Rattle.nls.specs.Scan.{Pass, State, stateAt}
+use Rattle.marking.specs.Marking.{sameFour}
 use Rattle.moves.specs.declared.Stand.{Stand}
 use Rattle.moves.specs.Stands.{passOf, stateOf}
-use Rattle.undo.specs.Back.{Prior, first, quiet, answered}
+use Rattle.undo.specs.Back.{Prior, first, quiet, answered, is, back}
 use Rattle.undo.specs.declared.Before.{Before}
 use Rattle.undo.specs.declared.Before.the-variants.{Nothing, Quiet, Answer}
 
@@ -25,6 +27,22 @@ Was (quiet t) Nothing m m' = ⊥
 Was (quiet t) (Answer st) m m' = ⊥
 Was (answered t) Nothing m m' = ⊥
 Was (answered t) (Quiet l p i) m m' = ⊥
+
+-- the four coefficients before place q are found; one of the four from i on is big; the one at i was found in the plane in progress
+abbrev pub fourFound : List ℕ → ℕ → Bool
+fourFound m q = leb 4 q && sameFour m (q - 4) MSP
+
+module _ (big : ℕ → ℕ → Bool) (l : ℕ) where
+  abbrev pub anyBig : ℕ → Bool
+  anyBig i = (big l i || big l (i + 1)) || (big l (i + 2) || big l (i + 3))
+
+  abbrev pub isNew : List ℕ → ℕ → Bool
+  isNew m i = is m i MSP && not (big l i)
+
+-- Between place r and place q a pass asked nothing, and going back from q makes m' of the marks m: the way back leads where it leads from r.
+pub record Hushed (I D P : ℕ) (big : ℕ → ℕ → Bool) (l : ℕ) (p : Pass) (q : ℕ) (m : List ℕ) (r : ℕ) (m' : List ℕ) : Type 0 where
+  pub near : r ≤ q
+  pub same : back I D P big (stateAt l p r m') ≡ back I D P big (stateAt l p q m)
 
 -- where the scan stands, and the marks, are those of a state
 pub record Stood (t : State) (st : Stand) (m : List ℕ) : Type 0 where

@@ -1,17 +1,17 @@
 // One bit back: the state of the scan before its last answer, from marks and values alone.
 use moves::Stand;
 ghost use mathlib.Core.Path.{_≡_};
-ghost use mathlib.Core.Bool.{Bool, _&&_, _||_, cond};
+ghost use mathlib.Core.Bool.{Bool, true, _&&_, _||_, not, cond};
 ghost use Prim.Native.Nat.{ℕ, _+_, _*_, _-_, _%_, _<_, _≤_};
-ghost use lib.Dec.{ltb, leb};
+ghost use lib.Dec.{ltb, leb, eqb};
 ghost use lib.ListN.{length, getD, set};
 ghost use Rattle.sizes.specs.Sizes.{mostN, mostPlanes, allOf};
-ghost use Rattle.nls.specs.Marks.{noMark, MNP, MSP, MCP, MD, MG, MN, pushFrom};
+ghost use Rattle.nls.specs.Marks.{noMark, MIP, MNP, MSP, MCP, MD, MG, MN, pushFrom};
 ghost use Rattle.nls.specs.Scan.{pixels, sets, refining, stateAt};
 ghost use Rattle.moves.specs.Stands.{passOf, stand, stateOf, standOf};
 ghost use Rattle.undo.specs.Back as spec;
 ghost use Rattle.undo.specs.declared.Before.the-variants.{Answer};
-ghost use Rattle.undo.specs.Undoing.{Was, Stood, Room, Scanned, tableFits, standFits, backFits};
+ghost use Rattle.undo.specs.Undoing.{Was, Hushed, fourFound, anyBig, isNew, Stood, Room, Scanned, tableFits, standFits, backFits};
 
 // What led to where the scan stands: nothing, a silent move from these planes left, pass and place, or an answer.
 pub enum Before {
@@ -268,7 +268,7 @@ fn new_four(marks: &[u8], all: usize, coarsest: usize, place: usize) -> bool
 // One move back in the set pass, to what ends at a place.
 fn prior_block(marks: &mut [u8], all: usize, coarsest: usize, left: u32, place: usize) -> Before
     requires { ⌜ Room all coarsest (now marks) place × (4 ≤ place) ⌝ }
-    ensures { λ r. ⌜ ((planes : ℕ) (big : ℕ → ℕ → Bool) → Was (spec.priorBlock all coarsest planes big left place (now (marks .entry)) (ltb noMark (getD (now (marks .entry)) (place - 4) 0) && ltb (getD (now (marks .entry)) (place - 4) 0) MCP) (leb coarsest (place - 4) && spec.fresh all coarsest planes big (now (marks .entry)) (place - 4))) r (now (marks .entry)) (now (marks .exit))) ⌝ }
+    ensures { λ r. ⌜ ((planes : ℕ) (big : ℕ → ℕ → Bool) → Was (spec.priorBlock all coarsest planes big left place (now (marks .entry)) (spec.alone (now (marks .entry)) (place - 4)) (leb coarsest (place - 4) && spec.fresh all coarsest planes big (now (marks .entry)) (place - 4))) r (now (marks .entry)) (now (marks .exit))) ⌝ }
 {
     let head = place - 4;
     if alone(marks[head]) {
@@ -356,6 +356,161 @@ fn prior(
     prior_refining(marks, values, all, coarsest, planes, left, place)
 }
 
+// Whether the four coefficients before a place were found before this plane, or in it.
+fn four_found(marks: &[u8], place: usize) -> bool
+    ensures { λ r. ⌜ r ≡ fourFound (now (marks .entry)) place ⌝ }
+{
+    if place < 4 {
+        return false;
+    }
+    marking::same_four(marks, place - 4, marking::MSP)
+}
+
+// Back over the coefficients before a place that are found, four at a time where it can be: the pixel pass asked nothing there.
+fn back_old(marks: &[u8], place: usize) -> usize
+    requires { ⌜ place ≤ length (now marks) ⌝ }
+    ensures { λ r. ⌜ ((D P l : ℕ) (big : ℕ → ℕ → Bool) → l ≤ P → Hushed (length (now (marks .entry))) D P big l pixels place (now (marks .entry)) r (now (marks .entry))) ⌝ }
+{
+    let mut at = place;
+    while four_found(marks, at) {
+        at -= 4;
+    }
+    while 0 < at {
+        if marks[at - 1] != marking::MSP {
+            return at;
+        }
+        at -= 1;
+    }
+    at
+}
+
+// Whether one of four values has a bit of plane `left` or above.
+fn any_big(values: &[i32], left: u32, place: usize) -> bool
+    requires { ⌜ (place + 3 < length (now values)) × (left ≤ mostPlanes) ⌝ }
+    ensures { λ r. ⌜ r ≡ anyBig (spec.bigIn (now (values .entry))) left place ⌝ }
+{
+    let a = values[place];
+    let b = values[place + 1];
+    let c = values[place + 2];
+    let d = values[place + 3];
+    let two = coef::magnitude(a) | coef::magnitude(b);
+    let more = coef::magnitude(c) | coef::magnitude(d);
+    1u32 << left <= two | more
+}
+
+// Whether the four coefficients before a place were found in this plane.
+fn four_new(marks: &[u8], values: &[i32], left: u32, place: usize) -> bool
+    requires { ⌜ (length (now values) ≡ length (now marks)) × (left ≤ mostPlanes) ⌝ }
+    ensures { λ r. ⌜ r ≡ (fourFound (now (marks .entry)) place && not (anyBig (spec.bigIn (now (values .entry))) left (place - 4))) ⌝ }
+{
+    if four_found(marks, place) {
+        return !any_big(values, left, place - 4);
+    }
+    false
+}
+
+// Whether the refinement pass asked nothing at a place, since the coefficient there is not found, or was found in this plane; MSP
+// becomes MNP again.
+fn was_new(marks: &mut [u8], values: &[i32], left: u32, place: usize) -> bool
+    requires { ⌜ (place < length (now marks)) × (length (now values) ≡ length (now marks)) × (left ≤ mostPlanes) ⌝ }
+    ensures { λ r. ⌜ r ≡ (spec.is (now (marks .entry)) place MIP || isNew (spec.bigIn (now (values .entry))) left (now (marks .entry)) place) ⌝ }
+    ensures { λ _. ⌜ now (marks .exit) ≡ cond (isNew (spec.bigIn (now (values .entry))) left (now (marks .entry)) place) (set (now (marks .entry)) place MNP) (now (marks .entry)) ⌝ }
+{
+    let mark = marks[place];
+    if mark == marking::MSP {
+        if is_big(values, left, place) {
+            return false;
+        }
+        marks[place] = marking::MNP;
+        return true;
+    }
+    mark == marking::MIP
+}
+
+// Back over such coefficients before a place, four at a time where it can be.
+fn back_new(marks: &mut [u8], values: &[i32], left: u32, place: usize) -> usize
+    requires { ⌜ (place ≤ length (now marks)) × (length (now values) ≡ length (now marks)) × (left ≤ mostPlanes) ⌝ }
+    ensures { λ r. ⌜ ((D P : ℕ) → left ≤ P → Hushed (length (now (marks .entry))) D P (spec.bigIn (now (values .entry))) left refining place (now (marks .entry)) r (now (marks .exit))) ⌝ }
+{
+    let mut at = place;
+    while four_new(marks, values, left, at) {
+        marking::set_four(marks, at - 4, marking::MNP);
+        at -= 4;
+    }
+    while 0 < at {
+        if !was_new(marks, values, left, at - 1) {
+            return at;
+        }
+        at -= 1;
+    }
+    at
+}
+
+// Whether the four at a place are in no set, and were split before this plane.
+fn old_four(marks: &[u8], all: usize, coarsest: usize, place: usize) -> bool
+    requires { ⌜ (length (now marks) ≡ all) × (all ≤ allOf mostN) × (place + 3 < all) ⌝ }
+    ensures { λ r. ⌜ r ≡ (spec.alone (now (marks .entry)) place && not (leb coarsest place && (spec.noneIs (now (marks .entry)) place MSP && (leb all (4 * place) || spec.is (now (marks .entry)) (4 * place) MG)))) ⌝ }
+{
+    if alone(marks[place]) {
+        return !new_four(marks, all, coarsest, place);
+    }
+    false
+}
+
+// Back over such fours before a place, which is the end, or where such a four begins: the set pass asked nothing there.
+fn back_alone(marks: &[u8], all: usize, coarsest: usize, place: usize) -> usize
+    requires { ⌜ Room all coarsest (now marks) place × (place % 4 ≡ 0) × (place < all → spec.alone (now marks) place ≡ true) ⌝ }
+    ensures { λ r. ⌜ ((P l : ℕ) (big : ℕ → ℕ → Bool) → l ≤ P → Hushed all coarsest P big l sets place (now (marks .entry)) r (now (marks .entry))) ⌝ }
+{
+    let mut at = place;
+    while 4 <= at {
+        if !old_four(marks, all, coarsest, at - 4) {
+            return at;
+        }
+        at -= 4;
+    }
+    at
+}
+
+// Whether a place is the end, or where four begin that are in no set.
+fn at_four(marks: &[u8], all: usize, place: usize) -> bool
+    requires { ⌜ (length (now marks) ≡ all) × (place ≤ all) ⌝ }
+    ensures { λ r. ⌜ r ≡ (eqb (place % 4) 0 && (leb all place || spec.alone (now (marks .entry)) place)) ⌝ }
+{
+    if place % 4 != 0 {
+        return false;
+    }
+    if all <= place {
+        return true;
+    }
+    alone(marks[place])
+}
+
+// Back over the places of a pass where it asked nothing, as far as it is seen by their marks alone, or by values of their own.
+fn run_back(
+    marks: &mut [u8],
+    values: &[i32],
+    coarsest: usize,
+    left: u32,
+    pass: u32,
+    place: usize,
+) -> usize
+    requires { ⌜ Room (length (now marks)) coarsest (now marks) place × (length (now values) ≡ length (now marks)) × (left ≤ mostPlanes) × (pass < 3) ⌝ }
+    ensures { λ r. ⌜ ((P : ℕ) → left ≤ P → Hushed (length (now (marks .entry))) coarsest P (spec.bigIn (now (values .entry))) left (passOf pass) place (now (marks .entry)) r (now (marks .exit))) ⌝ }
+{
+    let all = marks.len();
+    if pass == 0 {
+        return back_old(marks, place);
+    }
+    if pass == 2 {
+        return back_new(marks, values, left, place);
+    }
+    if at_four(marks, all, place) {
+        return back_alone(marks, all, coarsest, place);
+    }
+    place
+}
+
 // The way back from where no sign is pending: silent moves, and the answer before them.
 fn way_back(marks: &mut [u8], values: &[i32], coarsest: usize, planes: u32, from: Stand) -> Stand
     requires { ⌜ Room (length (now marks)) coarsest (now marks) (from .place) × Scanned (length (now marks)) planes (now values) (from .left) (from .pass) ⌝ }
@@ -377,7 +532,7 @@ fn way_back(marks: &mut [u8], values: &[i32], coarsest: usize, planes: u32, from
             Before::Quiet(l, p, i) => {
                 left = l;
                 pass = p;
-                place = i;
+                place = run_back(marks, values, coarsest, l, p, i);
             }
             Before::Answer(stand) => {
                 return stand;

@@ -6,7 +6,7 @@ use Rattle.nls.specs.Scan.{stateAt}
 use Rattle.moves.specs.Stands.{passOf}
 use Rattle.undo.specs.Back.{bigIn, back}
 use Rattle.undo.proofs.Fuel.{behind}
-use Rattle.undo.proofs.Ways.{ends-first, ends-answer, goes-on}
+use Rattle.undo.proofs.Ways.{ends-first, ends-answer, goes-on, runs-on}
 use Rattle.undo.proofs.way_back.Statement.{statement}
 use Rattle.undo.proofs.way_back.Tie as tie
 
@@ -34,11 +34,16 @@ returns c = ends-first (length (c .before .before .before .before .before .befor
 enum-known-l : tie.Need-enum-known-l Inv-loop μ-loop
 enum-known-l c = c .match .keys2
 
+run-back-requires : tie.Need-run-back-requires Inv-loop μ-loop
+run-back-requires c κs = let g = goes-on (length (c .before .before .before .before .before .before .before .before .before .before .args .marks .now)) _ _ _ _ _ _ _ _ _ _ (c .before .before .before .before .before .before .before .before .loop .inv .0) (c .before .before .before .before .before .before .prior .ensures) _ (c .before .before .before .before .before .before .before .before .loop .inv .4) _ _ _ (c .before .before .l .given .1) (c .before .before .before .before .before .before .before .before .loop .inv .1) (c .before .before .before .before .before .before .before .before .loop .inv .3) in
+    let e = c .before .before .before .before .before .before .prior .kept .0 in
+    (record { size = refl; near = omega arith; whole = omega arith; wide = omega arith; roots = omega arith; within = omega arith }, omega arith, omega arith, g .2)
+
 loop-less : tie.Need-loop-less Inv-loop μ-loop
-loop-less c = goes-on (length (c .before .before .before .before .before .before .before .before .before .args .marks .now)) _ _ _ _ _ _ _ _ _ _ (c .before .before .before .before .before .before .before .loop .inv .0) (c .before .before .before .before .before .prior .ensures) _ (c .before .before .before .before .before .before .before .loop .inv .4) _ _ _ (c .before .l .given .1) (c .before .before .before .before .before .before .before .loop .inv .1) (c .before .before .before .before .before .before .before .loop .inv .3) .0
+loop-less c = runs-on (length (c .before .before .before .before .before .before .before .before .before .before .before .before .before .args .marks .now)) _ _ _ _ _ _ _ _ _ _ (c .before .before .before .before .before .before .before .before .before .before .before .loop .inv .0) (c .before .before .before .before .before .before .before .before .before .prior .ensures) _ (c .before .before .before .before .before .before .before .before .before .before .before .loop .inv .4) _ _ _ (c .before .before .before .before .before .l .given .1) (c .before .before .before .before .before .before .before .before .before .before .before .loop .inv .1) (c .before .before .before .before .before .before .before .before .before .before .before .loop .inv .3) _ _ _ (c .before .before .before .before .before .before .before .before .before .prior .kept .0 ∙ c .before .before .before .before .before .before .before .before .before .before .before .loop .inv .0) (c .before .before .run-back .ensures) .0
 
 loop-again : tie.Need-loop-again Inv-loop μ-loop
-loop-again c = let g = goes-on (length (c .before .before .before .before .before .before .before .before .before .args .marks .now)) _ _ _ _ _ _ _ _ _ _ (c .before .before .before .before .before .before .before .loop .inv .0) (c .before .before .before .before .before .prior .ensures) _ (c .before .before .before .before .before .before .before .loop .inv .4) _ _ _ (c .before .l .given .1) (c .before .before .before .before .before .before .before .loop .inv .1) (c .before .before .before .before .before .before .before .loop .inv .3) in (c .before .before .before .before .before .prior .kept .0 ∙ c .before .before .before .before .before .before .before .loop .inv .0, g .1, g .2, g .3, g .4)
+loop-again c = let g = runs-on (length (c .before .before .before .before .before .before .before .before .before .before .before .before .before .args .marks .now)) _ _ _ _ _ _ _ _ _ _ (c .before .before .before .before .before .before .before .before .before .before .before .loop .inv .0) (c .before .before .before .before .before .before .before .before .before .prior .ensures) _ (c .before .before .before .before .before .before .before .before .before .before .before .loop .inv .4) _ _ _ (c .before .before .before .before .before .l .given .1) (c .before .before .before .before .before .before .before .before .before .before .before .loop .inv .1) (c .before .before .before .before .before .before .before .before .before .before .before .loop .inv .3) _ _ _ (c .before .before .before .before .before .before .before .before .before .prior .kept .0 ∙ c .before .before .before .before .before .before .before .before .before .before .before .loop .inv .0) (c .before .before .run-back .ensures) in (c .before .before .run-back .kept .0 ∙ c .before .before .before .before .before .before .before .before .before .prior .kept .0 ∙ c .before .before .before .before .before .before .before .before .before .before .before .loop .inv .0, g .1, g .2, g .3, g .4)
 
 enum-known-stand : tie.Need-enum-known-stand Inv-loop μ-loop
 enum-known-stand c = c .match .keys3
@@ -61,6 +66,7 @@ way-back-spec =
     same-length
     returns
     enum-known-l
+    run-back-requires
     loop-less
     loop-again
     enum-known-stand
