@@ -19,13 +19,9 @@ use Rattle.decoder.specs.Body.{readAnswer, Tables, tables, ownTables, ov
 use Rattle.decoder.specs.declared.body.ReadAnswer.{ReadAnswer}
 use Rattle.decoder.proofs.body.decode.Reads as decode
 use Rattle.decoder.proofs.finish.value_of.Reads as value-of
-use Rattle.decoder.proofs.reading.bars_zero.Reads as bars-zero
 
 pub value-of-decided : OneAnswer value-of.Learnt
 value-of-decided k args r r' s s' p q = p ∙ sym q
-
-pub bars-zero-decided : OneAnswer bars-zero.Learnt
-bars-zero-decided k args r r' s s' p q = p ∙ sym q
 
 -- two readings of one body have one verdict
 decoded-one : (N L P : ℕ) (u : List Bool) (held : Tables) → Sized N L → (r r' : ReadAnswer) (t t' : Tables) → BodyRead N L P u held r t → BodyRead N L P u held r' t' → (r ≡ r') × (t ≡ t')

@@ -25,15 +25,16 @@ use Rattle.nls.proofs.Verdicts.{verdict, verdict-judged}
 use Rattle.room.specs.Room.{bodyBits}
 use Rattle.walk.specs.Scans.{Ran, last, nowOf, isBad, planes, leftOf}
 use Rattle.walk.specs.Visits.{Sv, scanOf}
-use Rattle.decoder.specs.Reading.{Read, codes, plainOf, reader, st, Holds, Stood}
+use Rattle.reading.specs.Reading.{Read, codes, reader, st, Holds}
+use Rattle.reading.proofs.ValueLaws.{level-one}
+use Rattle.reading.proofs.Received.{Matches, reads}
+use Rattle.decoder.specs.Finishing.{plainOf, Stood}
 use Rattle.decoder.specs.Body.{Tables, tables, zeros, ownTables, over, BodyRead}
 use Rattle.decoder.specs.Calls.{ReadReady}
 use Rattle.decoder.specs.declared.body.ReadAnswer.{ReadAnswer}
 use Rattle.decoder.specs.declared.body.ReadAnswer.the-variants.{Done, Refused}
-use Rattle.decoder.proofs.ValueLaws.{level-one}
 use Rattle.decoder.proofs.FinishLaws.{whole}
 use Rattle.decoder.proofs.StoodLaws.{values-are, precisions-are}
-use Rattle.decoder.proofs.Received.{Matches, reads}
 
 -- three equal tables
 same-tables : (v w : List ℤ) (p q m n : List ℕ) → v ≡ w → p ≡ q → m ≡ n → tables v p m ≡ tables w q n

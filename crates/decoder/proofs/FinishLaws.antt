@@ -19,7 +19,7 @@ use Rattle.sizes.proofs.Tables.{table-length, table-suc}
 use Rattle.coef.specs.Coef.{magnitude, negative, signed}
 use Rattle.coef.proofs.Laws.{magnitude-signed, negative-signed}
 use Rattle.nls.specs.Reading.{midpoint, valueBy}
-use Rattle.decoder.specs.Reading.{joinedOr0, middleOf, uncoded}
+use Rattle.decoder.specs.Finishing.{joinedOr0, middleOf, uncoded}
 
 -- the middle of what known bits may be, as the machine makes it: half of 2^k, which is 0 for k = 0
 halved : (k : ℕ) → k ≤ mostPlanes → (1 * 2 ^ k) % 4294967296 / 2 ≡ cond (eqb k 0) 0 (2 ^ (k - 1))

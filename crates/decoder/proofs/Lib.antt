@@ -1,9 +1,4 @@
-pub mod ReadLaws
 pub mod ValueLaws
-pub mod ReadTurns
-pub mod Coded
-pub mod Received
-pub mod NextBit
 pub mod FinishLaws
 pub mod StoodLaws
 pub mod DecodeLaws

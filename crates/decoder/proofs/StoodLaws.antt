@@ -2,11 +2,11 @@
 use mathlib.Core.Path.{_≡_, refl, sym, ap, subst, _∙_}
 use mathlib.Core.Bool.{Bool, true, false, cond}
 use mathlib.Core.List.{List}
-use Prim.Native.Nat.{ℕ, zero, suc, _+_, _*_, _-_, _/_, _≤_, _<_}
+use Prim.Native.Nat.{ℕ, zero, suc, _+_, _*_, _-_, _/_, _%_, _≤_, _<_}
 use native.Mathlib.Omega.{arith}
 use borrow.Author.Tests.{ltb-true, ltb-false, lt-ltb, le-ltb}
 use lib.Dec.{ltb}
-use lib.IntN.{ℤ}
+use lib.IntN.{ℤ, pos, negsuc}
 use lib.ListN.{length, getD, replicate, length-replicate, getD-replicate}
 use lib.Pow.{pow-mono}
 use Rattle.sizes.specs.Sizes.{mostN, mostPlanes, allOf}
@@ -27,8 +27,20 @@ use Rattle.nls.proofs.Values.{midpoint-between, value-range}
 use Rattle.nls.proofs.Precision.Turns.{turn-new, turn-old, precision-of}
 use Rattle.nls.proofs.Precision.Rows.{core-after, turn-head, turn-row, row-same, row-of, row-fits}
 use Rattle.marking.specs.Marking.{codesEnd}
-use Rattle.decoder.specs.Reading.{plainOf, Stood, Codes, Uncodes}
-use Rattle.decoder.proofs.Coded.{codes-at, plain-coded}
+use Rattle.reading.specs.Reading.{coded}
+use Rattle.reading.proofs.Coded.{codes-at}
+use Rattle.decoder.specs.Finishing.{plainOf, Stood, Codes, Uncodes}
+
+-- a code undone
+plain-coded : (z : ℤ) → plainOf (coded z) ≡ z
+plain-coded (pos n) =
+    let e : (2 * n + 0) % 2 ≡ 0 = omega arith in
+    let h : (2 * n + 0) / 2 ≡ n = omega arith in
+    rw (e, h)
+plain-coded (negsuc n) =
+    let e : (2 * suc n + 1) % 2 ≡ 1 = omega arith in
+    let h : (2 * suc n + 1) / 2 ≡ suc n = omega arith in
+    rw (e, h)
 
 -- a turn in the pass that begins at `start` has been, exactly if the pass has come past its place
 ahead : (start place now : ℕ) → ltb (start + place) now ≡ ltb place (now - start)

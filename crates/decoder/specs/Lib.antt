@@ -1,3 +1,3 @@
-pub mod Reading
+pub mod Finishing
 pub mod Body
 pub mod Calls

@@ -2,10 +2,9 @@
 use refusals::Outcome;
 use refusals::Refusal;
 ghost use mathlib.Core.Path.{_≡_};
-ghost use Prim.Native.Nat.{_*_, _≤_};
 ghost use lib.IntN.{pos};
 ghost use lib.ListN.{length, replicate};
-ghost use Rattle.bits.specs.Bits.{bitsOf};
+ghost use Rattle.room.specs.Room.{bodyBits};
 ghost use Rattle.decoder.specs.Body.{tables, BodyRead, Reads};
 ghost use Rattle.decoder.specs.Calls.{ReadReady};
 
@@ -33,7 +32,7 @@ fn clear(values: &mut [i32], precisions: &mut [u8], marks: &mut [u8])
     marking::fill(marks, 0);
 }
 
-// Reads a body whose checks hold into tables of I entries each.
+// Reads the first `usable` bits of a body, or all that it has, into tables of I entries each; the checks of the call hold.
 fn read(
     n: u32,
     l: u32,
@@ -44,20 +43,20 @@ fn read(
     precisions: &mut [u8],
     marks: &mut [u8],
 ) -> ReadAnswer
-    requires { ⌜ ReadReady n l p (length (now values)) (length (now precisions)) (length (now marks)) × (usable ≤ 8 * length (now body)) ⌝ }
-    ensures { λ r. ⌜ BodyRead n l p (bitsOf usable (now (body .entry))) (tables (now (values .entry)) (now (precisions .entry)) (now (marks .entry))) r (tables (now (values .exit)) (now (precisions .exit)) (now (marks .exit))) ⌝ }
+    requires { ⌜ ReadReady n l p (length (now values)) (length (now precisions)) (length (now marks)) ⌝ }
+    ensures { λ r. ⌜ BodyRead n l p (bodyBits usable (now (body .entry))) (tables (now (values .entry)) (now (precisions .entry)) (now (marks .entry))) r (tables (now (values .exit)) (now (precisions .exit)) (now (marks .exit))) ⌝ }
 {
-    let all = sizes::all_of(n);
     let coarsest = sizes::coarsest_of(n, l);
     marking::start(marks, coarsest);
     crate::finish::clear(values);
-    let reached = crate::reading::scan(body, marks, values, all, coarsest, p, usable as usize);
+    let reached = reading::scan(body, marks, values, coarsest, p, usable);
+    let most = room::usable_of(usable, body.len());
     let bits = reached.bits as u32;
     if reached.bad {
         clear(values, precisions, marks);
         return ReadAnswer::Refused(Refusal::Contradiction(bits));
     }
-    if bits < usable {
+    if bits < most {
         clear(values, precisions, marks);
         return ReadAnswer::Refused(Refusal::Beyond(bits));
     }
@@ -86,13 +85,12 @@ pub fn decode(
     match room::check_decode(n, l, p, values.len(), precisions.len(), marks.len()) {
         Outcome::Done => {
             let all = sizes::all_of(n);
-            let most = room::usable_of(usable, body.len());
             read(
                 n,
                 l,
                 p,
                 body,
-                most,
+                usable,
                 &mut values[..all],
                 &mut precisions[..all],
                 &mut marks[..all],

@@ -11,7 +11,7 @@ ghost use Rattle.coef.specs.Coef.{at, magnitude};
 ghost use Rattle.nls.specs.Marks.{MG};
 ghost use Rattle.nls.specs.Reading.{midpoint, valueBy};
 ghost use Rattle.nls.specs.Turns.{downTo, precisionBy};
-ghost use Rattle.decoder.specs.Reading.{joinedOr0, middleOf, uncoded, plainOf, Uncodes, Stood, Codes};
+ghost use Rattle.decoder.specs.Finishing.{joinedOr0, middleOf, uncoded, plainOf, Uncodes, Stood, Codes};
 
 // Every entry becomes 0.
 pub(crate) fn clear(dst: &mut [i32])

@@ -8,7 +8,7 @@ use native.Mathlib.Omega.{arith}
 use borrow.Author.Tests.{leb-true, le-leb, lt-leb, le-ltb, ltb-true, eqb-false}
 use lib.Dec.{leb, ltb, eqb}
 use lib.IntN.{ℤ}
-use lib.ListN.{length, drop, take-append-drop, length-append}
+use lib.ListN.{length, take, drop, take-append-drop, length-append}
 use lib.Seq.{length-take-le}
 use Rattle.refusals.specs.Checks.{Check, need, firstOf}
 use Rattle.refusals.specs.declared.Refusal.{Refusal}
@@ -17,7 +17,7 @@ use Rattle.refusals.specs.declared.Refusal.the-variants as refusal
 use Rattle.refusals.specs.declared.Outcome.{Outcome}
 use Rattle.refusals.specs.declared.Outcome.the-variants as outcome
 use Rattle.refusals.proofs.Laws.{first-holds, first-fails, first-none, AllHold, passed, first-then-done, first-then-refused}
-use Rattle.sizes.specs.Sizes.{allOf, coarsestOf, sideFits}
+use Rattle.sizes.specs.Sizes.{allOf, coarsestOf}
 use Rattle.sizes.proofs.Laws.{both, both-left, both-right}
 use Rattle.sizes.specs.Tables.{table}
 use Rattle.bits.specs.Bits.{bitAt}
@@ -34,34 +34,23 @@ use Rattle.moves.proofs.Laws.{state-stand}
 use Rattle.undo.specs.Back.{bigIn, back}
 use Rattle.steps.specs.Records.{recordOf, recordAfter, inRange, standIn, stateIn}
 use Rattle.steps.specs.Moved.{Step, step, stays, askedIn, heard, unheard, noted, movedTo, barred, raised, raisedTo, lowered, loweredTo}
-use Rattle.steps.specs.Ready.{Stood, forwardIn, backIn}
+use Rattle.steps.specs.Ready.{Ready, CallReady, Stood, forwardIn, backIn, ownSteps}
 use Rattle.steps.specs.Steps.{usableBits, recordChecks, ownOf, within, forwardTo, forwardOf, backTo, backOf, stepsOf, positionOf, turnTo, turnOf, Starts}
 use Rattle.steps.specs.declared.Record.{Record}
-use Rattle.steps.proofs.RecordLaws.{range-sizes}
 use Rattle.steps.proofs.Standing.{stood-first, stood-onward, stood-back, record-range, record-n, record-used}
 use Rattle.steps.proofs.Lengths.{heard-length, unheard-length, noted-length, onward-length, back-length}
 use Rattle.steps.proofs.Good.{Own, own-over, over-over}
 
 -- ---- the checks of a record and of the tables lent with it, where all hold
 
-pub record CallReady (r : Record) (most values precisions marks : ℕ) : Type 0 where
-  pub range : inRange r ≡ true
-  pub side : sideFits (r .n) ≡ true
-  pub few : r .used ≤ most
-  pub valuesRoom : allOf (r .n) ≤ values
-  pub precisionsRoom : allOf (r .n) ≤ precisions
-  pub marksRoom : allOf (r .n) ≤ marks
-
 pub call-ready : (r : Record) (most values precisions marks : ℕ) → outcome.Done ≡ firstOf (recordChecks r most values precisions marks) → CallReady r most values precisions marks
 unfolding AllHold roomIn
 call-ready r most values precisions marks is =
     let all = passed (recordChecks r most values precisions marks) (sym is) in
-    let range = both-left (inRange r) (leb (r .used) most) (all .0) in
     let rooms = all .1 .0 in
     let others = both-right (leb (allOf (r .n)) values) (leb (allOf (r .n)) precisions && leb (allOf (r .n)) marks) rooms in
     record {
-      range = range;
-      side = range-sizes r range .0;
+      range = both-left (inRange r) (leb (r .used) most) (all .0);
       few = leb-true (r .used) most (both-right (inRange r) (leb (r .used) most) (all .0));
       valuesRoom = leb-true (allOf (r .n)) values (both-left (leb (allOf (r .n)) values) (leb (allOf (r .n)) precisions && leb (allOf (r .n)) marks) rooms);
       precisionsRoom = leb-true (allOf (r .n)) precisions (both-left (leb (allOf (r .n)) precisions) (leb (allOf (r .n)) marks) others);
@@ -77,6 +66,23 @@ checks-done r most values precisions marks range few v k m =
     ∙ first-holds (roomIn (allOf (r .n)) values precisions marks) Lent [] (both (le-leb (allOf (r .n)) values v) (both (le-leb (allOf (r .n)) precisions k) (le-leb (allOf (r .n)) marks m)))
     ∙ first-none
 
+-- ---- the tables cut to their first I entries, and put back
+
+pub own-ready : (r : Record) (most : ℕ) (held : Tables) → CallReady r most (length (held .values)) (length (held .precisions)) (length (held .marks)) → (I : ℕ) → I ≡ allOf (r .n)
+    → Ready r (length (take I (held .values))) (length (take I (held .precisions))) (length (take I (held .marks)))
+own-ready r most held w I ei =
+    record {
+      range = w .range;
+      valuesSize = length-take-le I (held .values) (omega (arith, ei, w .valuesRoom)) ∙ ei;
+      precisionsSize = length-take-le I (held .precisions) (omega (arith, ei, w .precisionsRoom)) ∙ ei;
+      marksSize = length-take-le I (held .marks) (omega (arith, ei, w .marksRoom)) ∙ ei;
+    }
+
+pub own-steps : (f : Record → Tables → Step) (k : ℕ) (r : Record) (held : Tables) (I : ℕ) → I ≡ allOf (r .n) → (x : Step) → x ≡ stepsOf f k (step (positionOf r) r (ownOf I held))
+    → within I held x ≡ ownSteps f k r held
+own-steps f k r held I ei x e =
+    ap (λ (s : Step). within I held s) e ∙ ap (λ (n : ℕ). within n held (stepsOf f k (step (positionOf r) r (ownOf n held)))) ei
+
 -- ---- one step, over the first I entries
 
 -- the first I entries as they were
@@ -90,24 +96,23 @@ module _ (checks : List Check) (t : Bool) (why : Refusal) (r : Record) (held : T
       → stays cause r held ≡ to (firstOf (checks ++ (need t why ∷ [])))
   call-refused cause is e = sym e ∙ ap (λ (o : Outcome). to o) (sym (first-then-refused checks (need t why ∷ []) cause (sym is)))
 
-  call-moved : (I : ℕ) (f : Tables → Step) → outcome.Done ≡ firstOf checks → to outcome.Done ≡ within I held (f (ownOf I held)) → to (outcome.Refused why) ≡ stays why r held
-      → (answer : ReadAnswer) (dial : Record) (own : Tables) → step answer dial own ≡ cond t (f (ownOf I held)) (stays why r (ownOf I held))
-      → step answer dial (over I own held) ≡ to (firstOf (checks ++ (need t why ∷ [])))
-  call-moved I f is done refused answer dial own e = tell t refl
-    where
-      last : firstOf (checks ++ (need t why ∷ [])) ≡ firstOf (need t why ∷ [])
-      last = first-then-done checks (need t why ∷ []) (sym is)
+  module _ (is : outcome.Done ≡ firstOf checks) where
+    last : firstOf (checks ++ (need t why ∷ [])) ≡ firstOf (need t why ∷ [])
+    last = first-then-done checks (need t why ∷ []) (sym is)
 
-      put : step answer dial (over I own held) ≡ within I held (cond t (f (ownOf I held)) (stays why r (ownOf I held)))
-      put = ap (λ (s : Step). within I held s) e
+    call-barred : t ≡ false → to (outcome.Refused why) ≡ stays why r held → stays why r held ≡ to (firstOf (checks ++ (need t why ∷ [])))
+    call-barred h e = sym e ∙ ap (λ (o : Outcome). to o) (sym (last ∙ first-fails t why [] h))
 
-      tell : (x : Bool) → t ≡ x → step answer dial (over I own held) ≡ to (firstOf (checks ++ (need t why ∷ [])))
-      tell true h =
-          put ∙ ap (λ (x : Bool). within I held (cond x (f (ownOf I held)) (stays why r (ownOf I held)))) h ∙ sym done
-          ∙ ap (λ (o : Outcome). to o) (sym (last ∙ first-holds t why [] h ∙ first-none))
-      tell false h =
-          put ∙ ap (λ (x : Bool). within I held (cond x (f (ownOf I held)) (stays why r (ownOf I held)))) h
-          ∙ ap (λ (x : Tables). stays why r x) (own-back I held) ∙ sym refused ∙ ap (λ (o : Outcome). to o) (sym (last ∙ first-fails t why [] h))
+    call-moved : (I : ℕ) (f : Tables → Step) → to outcome.Done ≡ within I held (f (ownOf I held)) → to (outcome.Refused why) ≡ stays why r held
+        → within I held (cond t (f (ownOf I held)) (stays why r (ownOf I held))) ≡ to (firstOf (checks ++ (need t why ∷ [])))
+    call-moved I f done refused = tell t refl
+      where
+        at : Bool → Step
+        at x = within I held (cond x (f (ownOf I held)) (stays why r (ownOf I held)))
+
+        tell : (x : Bool) → t ≡ x → at t ≡ to (firstOf (checks ++ (need t why ∷ [])))
+        tell true h = ap at h ∙ sym done ∙ ap (λ (o : Outcome). to o) (sym (last ∙ first-holds t why [] h ∙ first-none))
+        tell false h = ap at h ∙ ap (λ (x : Tables). stays why r x) (own-back I held) ∙ call-barred h refused
 
 module _ (r : Record) (held : Tables) where
   -- the outcome of the checks, where this many bits are usable
@@ -134,29 +139,24 @@ module _ (usable : ℕ) (body : List ℕ) (r : Record) (held : Tables) (most : �
   pub back-refused : (cause : Refusal) → outcome.Refused cause ≡ outcomeFor r held most → stays cause r held ≡ backOf usable body r held
   back-refused cause is = call-refused checks (ltb 0 (r .used)) First r held (λ o. backTo o body r held) cause (so _ is) refl
 
-  module _ (is : outcome.Done ≡ outcomeFor r held most) (all : ℕ) (ea : all ≡ allOf (r .n)) (answer : ReadAnswer) (dial : Record) (own : Tables) where
-    pub forward-moved : step answer dial own ≡ forwardIn most body r (ownOf all held) → step answer dial (over all own held) ≡ forwardOf usable body r held
-    forward-moved e =
-        call-moved checks (ltb (r .used) (usableBits usable body)) Spent r held (λ o. forwardTo o body r held) all raise (so _ is)
-        (ap (λ (k : ℕ). within k held (raise (ownOf k held))) (sym ea)) refl answer dial own (e ∙ ap (λ (k : ℕ). forwardIn k body r (ownOf all held)) em)
+  module _ (is : outcome.Done ≡ outcomeFor r held most) where
+    -- where no usable bit is left, and where no bit is used
+    pub forward-at-end : r .used ≡ most → stays Spent r held ≡ forwardOf usable body r held
+    forward-at-end h =
+        call-barred checks (ltb (r .used) (usableBits usable body)) Spent r held (λ o. forwardTo o body r held) (so _ is) (le-ltb (r .used) (usableBits usable body) (omega (arith, h, em))) refl
 
-    pub back-moved : step answer dial own ≡ backIn body r (ownOf all held) → step answer dial (over all own held) ≡ backOf usable body r held
-    back-moved e =
-        call-moved checks (ltb 0 (r .used)) First r held (λ o. backTo o body r held) all lower (so _ is)
-        (ap (λ (k : ℕ). within k held (lower (ownOf k held))) (sym ea)) refl answer dial own e
+    pub back-at-first : r .used ≡ 0 → stays First r held ≡ backOf usable body r held
+    back-at-first h = call-barred checks (ltb 0 (r .used)) First r held (λ o. backTo o body r held) (so _ is) (le-ltb 0 (r .used) (omega (arith, h))) refl
 
-  -- where no usable bit is left, and where no bit is used
-  pub forward-at-end : outcome.Done ≡ outcomeFor r held most → r .used ≡ most → stays Spent r held ≡ forwardOf usable body r held
-  forward-at-end is h =
-      let I : ℕ = allOf (r .n) in
-      ap (λ (t : Tables). stays Spent r t) (sym (own-back I held))
-      ∙ forward-moved is I refl (decode.Refused Spent) r (ownOf I held) (rw (le-ltb (r .used) most (omega (arith, h))))
+    module _ (I : ℕ) (ei : I ≡ allOf (r .n)) where
+      forward-once : within I held (forwardIn most body r (ownOf I held)) ≡ forwardOf usable body r held
+      forward-once =
+          ap (λ (k : ℕ). within I held (forwardIn k body r (ownOf I held))) em
+          ∙ call-moved checks (ltb (r .used) (usableBits usable body)) Spent r held (λ o. forwardTo o body r held) (so _ is) I raise (ap (λ (k : ℕ). within k held (raise (ownOf k held))) (sym ei)) refl
 
-  pub back-at-first : outcome.Done ≡ outcomeFor r held most → r .used ≡ 0 → stays First r held ≡ backOf usable body r held
-  back-at-first is h =
-      let I : ℕ = allOf (r .n) in
-      ap (λ (t : Tables). stays First r t) (sym (own-back I held))
-      ∙ back-moved is I refl (decode.Refused First) r (ownOf I held) (rw (le-ltb 0 (r .used) (omega (arith, h))))
+      back-once : within I held (backIn body r (ownOf I held)) ≡ backOf usable body r held
+      back-once =
+          call-moved checks (ltb 0 (r .used)) First r held (λ o. backTo o body r held) (so _ is) I lower (ap (λ (k : ℕ). within k held (lower (ownOf k held))) (sym ei)) refl
 
 -- ---- many steps of one kind
 
@@ -246,17 +246,17 @@ abbrev Keeps : ℕ → ℕ → ReadAnswer → Record → Tables → Type 0
 Keeps N most (decode.Done d) dial own = (dial .n ≡ N) × (inRange dial ≡ true) × (dial .used ≤ most) × Own (allOf N) own
 Keeps N most (decode.Refused why) dial own = Unit {0}
 
-module _ (r : Record) (range : inRange r ≡ true) (most : ℕ) where
+module _ (r : Record) (most : ℕ) (t : Tables) (w : Ready r (length (t .values)) (length (t .precisions)) (length (t .marks))) where
   moved-keeps : (used : ℕ) (s : State) (v : List ℤ) (k : List ℕ) → used ≤ most → Stood r (standOf s) → Own (allOf (r .n)) (tables v k (s .marks))
       → let x = movedTo r used s v k in Keeps (r .n) most (x .answer) (x .dial) (x .held)
-  moved-keeps used s v k h w o = (
+  moved-keeps used s v k h at o = (
     record-n (r .n) (r .l) (r .p) used s,
-    subst (λ (t : State). inRange (recordOf (r .n) (r .l) (r .p) used t) ≡ true) (state-stand s) (record-range r range used (standOf s) (s .marks) w),
+    subst (λ (t : State). inRange (recordOf (r .n) (r .l) (r .p) used t) ≡ true) (state-stand s) (record-range r (w .range) used (standOf s) (s .marks) at),
     subst (λ (x : ℕ). x ≤ most) (sym (record-used (r .n) (r .l) (r .p) used s)) h,
     o,
   )
 
-  module _ (body : List ℕ) (t : Tables) (o : Own (allOf (r .n)) t) where
+  module _ (body : List ℕ) where
     abbrev here : State
     here = stateIn r (t .marks)
 
@@ -280,11 +280,11 @@ module _ (r : Record) (range : inRange r ≡ true) (most : ℕ) where
         on true false false e f =
             moved-keeps (r .used + 1) (onward (allOf (r .n)) here a) (heard (askedIn (allOf (r .n)) here) (here .place) (here .left - 1) a (t .values)) (noted (r .n) (r .l) (askedIn (allOf (r .n)) here) (here .place) (here .left - 1) a (t .precisions))
             (omega (arith, ltb-true (r .used) most e))
-            (stood-onward r range (standIn r) (t .marks) a (stood-first r range) (omega (arith, eqb-false (here .left) 0 f)))
+            (stood-onward r (w .range) (standIn r) (t .marks) a (stood-first r (w .range)) (omega (arith, eqb-false (here .left) 0 f)))
             (record {
-              values = heard-length (askedIn (allOf (r .n)) here) (here .place) (here .left - 1) a (t .values) ∙ o .values;
-              precisions = noted-length (r .n) (r .l) (askedIn (allOf (r .n)) here) (here .place) (here .left - 1) a (t .precisions) ∙ o .precisions;
-              marks = onward-length (allOf (r .n)) (allOf (r .n)) here a (o .marks);
+              values = heard-length (askedIn (allOf (r .n)) here) (here .place) (here .left - 1) a (t .values) ∙ w .valuesSize;
+              precisions = noted-length (r .n) (r .l) (askedIn (allOf (r .n)) here) (here .place) (here .left - 1) a (t .precisions) ∙ w .precisionsSize;
+              marks = onward-length (allOf (r .n)) (allOf (r .n)) here a (w .marksSize);
             })
 
     back-keeps : r .used ≤ most → Keeps (r .n) most (hence .answer) (hence .dial) (hence .held)
@@ -301,11 +301,11 @@ module _ (r : Record) (range : inRange r ≡ true) (most : ℕ) where
         on true =
             moved-keeps (r .used - 1) s (unheard (askedIn (allOf (r .n)) s) (s .place) (s .left) (t .values)) (noted (r .n) (r .l) (askedIn (allOf (r .n)) s) (s .place) (s .left) a (t .precisions))
             (omega (arith, few))
-            (stood-back r range (standIn r) (t .marks) (t .values) (o .marks) (stood-first r range))
+            (stood-back r (w .range) (standIn r) (t .marks) (t .values) (w .marksSize) (stood-first r (w .range)))
             (record {
-              values = unheard-length (askedIn (allOf (r .n)) s) (s .place) (s .left) (t .values) ∙ o .values;
-              precisions = noted-length (r .n) (r .l) (askedIn (allOf (r .n)) s) (s .place) (s .left) a (t .precisions) ∙ o .precisions;
-              marks = back-length (allOf (r .n)) (allOf (r .n)) (coarsestOf (r .n) (r .l)) (r .p) (bigIn (t .values)) here (o .marks);
+              values = unheard-length (askedIn (allOf (r .n)) s) (s .place) (s .left) (t .values) ∙ w .valuesSize;
+              precisions = noted-length (r .n) (r .l) (askedIn (allOf (r .n)) s) (s .place) (s .left) a (t .precisions) ∙ w .precisionsSize;
+              marks = back-length (allOf (r .n)) (allOf (r .n)) (coarsestOf (r .n) (r .l)) (r .p) (bigIn (t .values)) here (w .marksSize);
             })
 
 -- ---- many steps, over the first I entries
@@ -322,17 +322,8 @@ module _ (N most : ℕ) (r : Record) (held : Tables) (h : Checked N most r held)
   ready : CallReady r most (length (held .values)) (length (held .precisions)) (length (held .marks))
   ready = call-ready r most (length (held .values)) (length (held .precisions)) (length (held .marks)) (h .done)
 
-  as-long : Own (allOf N) own
-  as-long =
-      let e : allOf (r .n) ≡ allOf N = ap allOf (h .side) in
-      record {
-        values = length-take-le (allOf N) (held .values) (omega (arith, e, ready .valuesRoom));
-        precisions = length-take-le (allOf N) (held .precisions) (omega (arith, e, ready .precisionsRoom));
-        marks = length-take-le (allOf N) (held .marks) (omega (arith, e, ready .marksRoom));
-      }
-
-  as-long-here : Own (allOf (r .n)) own
-  as-long-here = subst (λ (n : ℕ). Own (allOf n) own) (sym (h .side)) as-long
+  as-long : Ready r (length (own .values)) (length (own .precisions)) (length (own .marks))
+  as-long = own-ready r most held ready (allOf N) (ap allOf (sym (h .side)))
 
   checked-on : (x : Step) → Keeps (r .n) most (x .answer) (x .dial) (x .held) → (d : ReadTo) → x .answer ≡ decode.Done d
       → Own (allOf N) (x .held) × Checked N most (x .dial) (over (allOf N) (x .held) held)
@@ -351,35 +342,39 @@ module _ (N most : ℕ) (r : Record) (held : Tables) (h : Checked N most r held)
         },
       )
 
-module _ (usable : ℕ) (body : List ℕ) (most : ℕ) (em : most ≡ usableBits usable body) (N : ℕ) where
-  forward-each : (r : Record) (held : Tables) → Checked N most r held → within (allOf N) held (forwardIn most body r (ownOf (allOf N) held)) ≡ forwardOf usable body r held
-  forward-each r held h =
-      let x : Step = forwardIn most body r (ownOf (allOf N) held) in
-      forward-moved usable body r held most em (h .done) (allOf N) (ap allOf (sym (h .side))) (x .answer) (x .dial) (x .held) refl
-
+module _ (body : List ℕ) (most N : ℕ) where
   forward-on : (r : Record) (held : Tables) → Checked N most r held → (d : ReadTo) → let x = forwardIn most body r (ownOf (allOf N) held) in x .answer ≡ decode.Done d
       → Own (allOf N) (x .held) × Checked N most (x .dial) (over (allOf N) (x .held) held)
   forward-on r held h d e =
       checked-on N most r held h (forwardIn most body r (ownOf (allOf N) held))
-      (forward-keeps r (ready N most r held h .range) most body (ownOf (allOf N) held) (as-long-here N most r held h)) d e
-
-  back-each : (r : Record) (held : Tables) → Checked N most r held → within (allOf N) held (backIn body r (ownOf (allOf N) held)) ≡ backOf usable body r held
-  back-each r held h =
-      let x : Step = backIn body r (ownOf (allOf N) held) in
-      back-moved usable body r held most em (h .done) (allOf N) (ap allOf (sym (h .side))) (x .answer) (x .dial) (x .held) refl
+      (forward-keeps r most (ownOf (allOf N) held) (as-long N most r held h) body) d e
 
   back-on : (r : Record) (held : Tables) → Checked N most r held → (d : ReadTo) → let x = backIn body r (ownOf (allOf N) held) in x .answer ≡ decode.Done d
       → Own (allOf N) (x .held) × Checked N most (x .dial) (over (allOf N) (x .held) held)
   back-on r held h d e =
       checked-on N most r held h (backIn body r (ownOf (allOf N) held))
-      (back-keeps r (ready N most r held h .range) most body (ownOf (allOf N) held) (as-long-here N most r held h) (ready N most r held h .few)) d e
+      (back-keeps r most (ownOf (allOf N) held) (as-long N most r held h) body (ready N most r held h .few)) d e
 
-  module _ (k : ℕ) (a : ReadAnswer) (r : Record) (held : Tables) (h : Checked N most r held) where
-    forward-all : within (allOf N) held (stepsOf (forwardIn most body) k (step a r (ownOf (allOf N) held))) ≡ stepsOf (forwardOf usable body) k (step a r held)
-    forward-all = steps-within (allOf N) (forwardOf usable body) (forwardIn most body) (Checked N most) forward-each forward-on k a r held h
+module _ (usable : ℕ) (body : List ℕ) (r : Record) (held : Tables) (most : ℕ) (em : most ≡ usableBits usable body) (is : outcome.Done ≡ outcomeFor r held most) (k : ℕ) where
+  forward-all : ownSteps (forwardIn most body) k r held ≡ stepsOf (forwardOf usable body) k (step (positionOf r) r held)
+  forward-all =
+      steps-within (allOf (r .n)) (forwardOf usable body) (forwardIn most body) (Checked (r .n) most)
+      (λ s t h. forward-once usable body s t most em (h .done) (allOf (r .n)) (ap allOf (sym (h .side)))) (forward-on body most (r .n))
+      k (positionOf r) r held (record { side = refl; done = is })
 
-    back-all : within (allOf N) held (stepsOf (backIn body) k (step a r (ownOf (allOf N) held))) ≡ stepsOf (backOf usable body) k (step a r held)
-    back-all = steps-within (allOf N) (backOf usable body) (backIn body) (Checked N most) back-each back-on k a r held h
+  back-all : ownSteps (backIn body) k r held ≡ stepsOf (backOf usable body) k (step (positionOf r) r held)
+  back-all =
+      steps-within (allOf (r .n)) (backOf usable body) (backIn body) (Checked (r .n) most)
+      (λ s t h. back-once usable body s t most em (h .done) (allOf (r .n)) (ap allOf (sym (h .side)))) (back-on body most (r .n))
+      k (positionOf r) r held (record { side = refl; done = is })
+
+  -- only one
+  module _ (one : k ≡ 1) (x : Step) where
+    pub forward-moved : x ≡ ownSteps (forwardIn most body) k r held → x ≡ forwardOf usable body r held
+    forward-moved e = e ∙ forward-all ∙ steps-one (forwardOf usable body) k (step (positionOf r) r held) one
+
+    pub back-moved : x ≡ ownSteps (backIn body) k r held → x ≡ backOf usable body r held
+    back-moved e = e ∙ back-all ∙ steps-one (backOf usable body) k (step (positionOf r) r held) one
 
 -- ---- a turn
 
@@ -390,32 +385,21 @@ module _ (usable to : ℕ) (body : List ℕ) (r : Record) (held : Tables) (most 
   pub turn-refused : (why : Refusal) → outcome.Refused why ≡ outcomeFor r held most → stays why r held ≡ turnOf usable to body r held
   turn-refused why is = by-checks (outcome.Refused why) is
 
-  module _ (is : outcome.Done ≡ outcomeFor r held most) (all : ℕ) (ea : all ≡ allOf (r .n)) (x : Step) where
+  module _ (is : outcome.Done ≡ outcomeFor r held most) (x : Step) where
     abbrev down : Step
     down = stepsOf (backOf usable body) (r .used - to) (step (positionOf r) r held)
 
     abbrev up : Step
     up = stepsOf (forwardOf usable body) (to - r .used) (step (positionOf r) r held)
 
-    well : Checked (r .n) most r held
-    well = record { side = refl; done = is }
-
     by-test : (b : Bool) → leb to (r .used) ≡ b → cond b down up ≡ turnOf usable to body r held
     by-test b e = ap (λ (t : Bool). cond t down up) (sym e) ∙ by-checks outcome.Done is
 
-    pub turn-down : to ≤ r .used → x ≡ stepsOf (backIn body) (r .used - to) (step (positionOf r) r (ownOf all held)) → within all held x ≡ turnOf usable to body r held
-    turn-down h e =
-        ap (λ (s : Step). within all held s) e
-        ∙ ap (λ (n : ℕ). within n held (stepsOf (backIn body) (r .used - to) (step (positionOf r) r (ownOf n held)))) ea
-        ∙ back-all usable body most em (r .n) (r .used - to) (positionOf r) r held well
-        ∙ by-test true (le-leb to (r .used) h)
+    pub turn-down : to ≤ r .used → x ≡ ownSteps (backIn body) (r .used - to) r held → x ≡ turnOf usable to body r held
+    turn-down h e = e ∙ back-all usable body r held most em is (r .used - to) ∙ by-test true (le-leb to (r .used) h)
 
-    pub turn-up : r .used < to → x ≡ stepsOf (forwardIn most body) (to - r .used) (step (positionOf r) r (ownOf all held)) → within all held x ≡ turnOf usable to body r held
-    turn-up h e =
-        ap (λ (s : Step). within all held s) e
-        ∙ ap (λ (n : ℕ). within n held (stepsOf (forwardIn most body) (to - r .used) (step (positionOf r) r (ownOf n held)))) ea
-        ∙ forward-all usable body most em (r .n) (to - r .used) (positionOf r) r held well
-        ∙ by-test false (lt-leb to (r .used) h)
+    pub turn-up : r .used < to → x ≡ ownSteps (forwardIn most body) (to - r .used) r held → x ≡ turnOf usable to body r held
+    turn-up h e = e ∙ forward-all usable body r held most em is (to - r .used) ∙ by-test false (lt-leb to (r .used) h)
 
 -- ---- the start
 

@@ -17,7 +17,8 @@ use Rattle.moves.specs.Stands.{stateOf, standOf}
 use Rattle.moves.specs.Moves.{onward, standFits}
 use Rattle.moves.specs.declared.Stand.{Stand}
 use Rattle.moves.proofs.Laws.{state-stand}
-use Rattle.decoder.specs.{Body.Tables, Body.tables, Reading.barsZero, declared.body.ReadAnswer.ReadAnswer}
+use Rattle.reading.specs.Reading.{barsZero}
+use Rattle.decoder.specs.{Body.Tables, Body.tables, declared.body.ReadAnswer.ReadAnswer}
 use Rattle.steps.specs.declared.{Record.Record, Asked.Asked}
 use Rattle.steps.specs.Records.{recordAt, recordOf, inRange, standIn, stateIn}
 use Rattle.steps.specs.Moved.{askedIn, noted, heard, Step, step, stays, reached, movedTo, raisedTo, barred}

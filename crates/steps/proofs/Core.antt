@@ -33,7 +33,7 @@ use Rattle.nls.proofs.Precision.ValueSteps.{adds, bit-other, Refined, midpoint-
 use Rattle.moves.specs.{Moves.onward, Stands.passNumber}
 use Rattle.moves.proofs.Laws.{told-next}
 use Rattle.undo.proofs.ByValues.{back-by-values}
-use Rattle.decoder.specs.{Body.Tables, Body.tables, Body.readAnswer, Body.ownTables, Reading.joinedOr0}
+use Rattle.decoder.specs.{Body.Tables, Body.tables, Body.readAnswer, Body.ownTables, Finishing.joinedOr0}
 use Rattle.steps.specs.Records.{recordAt, recordOf, recordAfter}
 use Rattle.steps.specs.declared.Record.{Record}
 use Rattle.steps.specs.Moved.{kindOf, askedIn, noted, foundIn, finer, coarser, heard, unheard, step, reached, raisedTo, loweredTo, lowered}

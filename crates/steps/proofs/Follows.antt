@@ -28,12 +28,12 @@ module _ (usable : ℕ) (body : List ℕ) (r : Record) (held : Tables) (s : Step
 
 -- ---- the contracts, from what a call leaves
 
-module _ (usable : ℕ) (body : List ℕ) (r : Record) (held : Tables) (answer : ReadAnswer) (dial : Record) (left : Tables) where
+module _ {usable : ℕ} {body : List ℕ} {r : Record} {held : Tables} {answer : ReadAnswer} {dial : Record} {left : Tables} where
   pub forwards : step answer dial left ≡ forwardOf usable body r held → Forwards usable body r held answer dial left
   forwards e = record { follows = forward-follows usable body r held (step answer dial left) e; decided = e }
 
   pub backs : step answer dial left ≡ backOf usable body r held → Backs usable body r held answer dial left
   backs e = record { follows = back-follows usable body r held (step answer dial left) e; decided = e }
 
-  pub turns : (to : ℕ) → step answer dial left ≡ turnOf usable to body r held → Turns usable to body r held answer dial left
-  turns to e = record { follows = turn-follows usable body r held (step answer dial left) to e; decided = e }
+  pub turns : {to : ℕ} → step answer dial left ≡ turnOf usable to body r held → Turns usable to body r held answer dial left
+  turns {to = to} e = record { follows = turn-follows usable body r held (step answer dial left) to e; decided = e }

@@ -23,11 +23,11 @@ use Rattle.nls.specs.Judging.{Begins, Fits, Verdict, taken, contradiction, beyo
 use Rattle.nls.proofs.Verdicts.{fits-fewer}
 use Rattle.room.specs.Room.{bodyBits}
 use Rattle.decoder.specs.Body.{readAnswer, Tables, ownTables, over}
-use Rattle.decoder.specs.Reading.{barsZero}
+use Rattle.reading.specs.Reading.{barsZero}
 use Rattle.decoder.specs.declared.body.ReadAnswer.{ReadAnswer}
 use Rattle.decoder.proofs.Decided.{reads-one}
-use Rattle.decoder.proofs.NextBit.{barsNext, next-beyond, next-taken, next-barred}
-use Rattle.decoder.proofs.Received.{bits-more}
+use Rattle.reading.proofs.NextBit.{barsNext, next-beyond, next-taken, next-barred}
+use Rattle.reading.proofs.Received.{bits-more}
 use Rattle.steps.specs.Records.{recordAfter, stateIn}
 use Rattle.steps.specs.Moved.{Step, step, stays, barred, raisedTo, raised, lowered}
 use Rattle.steps.specs.Steps.{usableBits, recordChecks, forwardChecks, backChecks, ownOf, within, forwardTo, forwardOf, backTo, backOf, FollowsTo, Follows}

@@ -20,7 +20,7 @@ use Rattle.nls.proofs.Machine.Start as table
 use Rattle.moves.specs.Stands.{stand, stateOf}
 use Rattle.moves.specs.declared.Stand.{Stand}
 use Rattle.moves.proofs.Passes.{pass-back}
-use Rattle.decoder.proofs.ValueLaws.{as-digit}
+use Rattle.reading.proofs.ValueLaws.{as-digit}
 use Rattle.steps.specs.Records.{recordAt, recordOf, isEnd, isWithin, inRange}
 use Rattle.steps.specs.declared.Record.{Record}
 
@@ -39,7 +39,10 @@ range-sizes r e =
     let all = all-four (sideFits (r .n)) (levelsFit (r .n) (r .l)) (leb (r .p) mostPlanes) (isEnd r || isWithin r) e in
     (all .0, all .1, leb-true (r .p) mostPlanes (all .2))
 
--- the coarsest band, as code has it
+-- I and the coarsest band, as code has them
+pub range-all : (r : Record) → inRange r ≡ true → (I : ℕ) → I ≡ cond (sideFits (r .n)) (allOf (r .n)) 0 → I ≡ allOf (r .n)
+range-all r range I e = e ∙ rw (range-sizes r range .0)
+
 pub range-coarsest : (r : Record) → inRange r ≡ true → (d : ℕ) → d ≡ cond (sideFits (r .n) && levelsFit (r .n) (r .l)) (coarsestOf (r .n) (r .l)) 0 → d ≡ coarsestOf (r .n) (r .l)
 range-coarsest r range d e = e ∙ rw (range-sizes r range .0, range-sizes r range .1)
 

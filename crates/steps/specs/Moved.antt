@@ -11,7 +11,8 @@ use Rattle.tree.specs.Tree.{desc, grand}
 use Rattle.nls.specs.{Scan.Question, Scan.bitOf, Scan.signOf, Scan.inDesc, Scan.inGrand, Scan.Pass, Scan.pixels, Scan.sets, Scan.refining, Scan.State, Scan.ask, Reading.setEach}
 use Rattle.moves.specs.Moves.{onward}
 use Rattle.undo.specs.Back.{bigIn, back}
-use Rattle.decoder.specs.{Body.Tables, Body.tables, Reading.joinedOr0, Reading.barsZero, declared.body.ReadAnswer.ReadAnswer}
+use Rattle.reading.specs.Reading.{barsZero}
+use Rattle.decoder.specs.{Body.Tables, Body.tables, Finishing.joinedOr0, declared.body.ReadAnswer.ReadAnswer}
 use Rattle.decoder.specs.declared.body.ReadAnswer.the-variants as decode
 use Rattle.steps.specs.{Records.recordOf, declared.Record.Record, declared.Asked.Asked}
 use Rattle.steps.specs.declared.Asked.the-variants as asked

@@ -7,7 +7,7 @@ use Rattle.sizes.specs.Sizes.{allOf}
 use Rattle.bits.specs.Bits.{bitAt}
 use Rattle.moves.specs.{Stands.stand, declared.Stand.Stand}
 use Rattle.decoder.specs.Body.{Tables}
-use Rattle.steps.specs.{Records.inRange, Records.stateIn, Moved.Step, Moved.stays, Moved.raised, Moved.lowered, declared.Record.Record}
+use Rattle.steps.specs.{Records.inRange, Records.stateIn, Moved.Step, Moved.step, Moved.stays, Moved.raised, Moved.lowered, Steps.ownOf, Steps.within, Steps.stepsOf, Steps.positionOf, declared.Record.Record}
 
 -- a record in range, and tables of I entries, by their lengths
 pub record Ready (r : Record) (values precisions marks : ℕ) : Type 0 where
@@ -15,6 +15,14 @@ pub record Ready (r : Record) (values precisions marks : ℕ) : Type 0 where
   pub valuesSize : values ≡ allOf (r .n)
   pub precisionsSize : precisions ≡ allOf (r .n)
   pub marksSize : marks ≡ allOf (r .n)
+
+-- what the checks of a step say where all hold: a record in range, no more bits used than usable, and room for I entries
+pub record CallReady (r : Record) (most values precisions marks : ℕ) : Type 0 where
+  pub range : inRange r ≡ true
+  pub few : r .used ≤ most
+  pub valuesRoom : allOf (r .n) ≤ values
+  pub precisionsRoom : allOf (r .n) ≤ precisions
+  pub marksRoom : allOf (r .n) ≤ marks
 
 -- the scan can stand there: at the end, or in one of P planes, at one of I places
 pub record Stood (r : Record) (at : Stand) : Type 0 where
@@ -29,3 +37,7 @@ forwardIn most body r t = cond (ltb (r .used) most) (raised r (stateIn r (t .mar
 
 abbrev pub backIn : List ℕ → Record → Tables → Step
 backIn body r t = cond (ltb 0 (r .used)) (lowered r (stateIn r (t .marks)) (bitAt body (r .used - 1)) t) (stays First r t)
+
+-- k such steps from where a record stands, over the first I entries of the tables
+abbrev pub ownSteps : (Record → Tables → Step) → ℕ → Record → Tables → Step
+ownSteps f k r held = within (allOf (r .n)) held (stepsOf f k (step (positionOf r) r (ownOf (allOf (r .n)) held)))

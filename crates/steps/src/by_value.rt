@@ -4,8 +4,63 @@ use crate::Stepped;
 use decoder::ReadAnswer;
 use refusals::Outcome;
 use refusals::Refusal;
+ghost use mathlib.Core.Path.{_≡_};
+ghost use Prim.Native.Nat.{_*_, _-_, _≤_};
+ghost use lib.ListN.{length};
 ghost use Rattle.decoder.specs.Body.{tables};
+ghost use Rattle.steps.specs.Moved.{step};
 ghost use Rattle.steps.specs.Steps.{Starts, Forwards, Backs, Turns};
+ghost use Rattle.steps.specs.Ready.{CallReady, forwardIn, backIn, ownSteps};
+
+// Steps forward over the own entries of the tables.
+fn climb_own(
+    dial: Record,
+    body: &[u8],
+    most: u32,
+    to: u32,
+    values: &mut [i32],
+    precisions: &mut [u8],
+    marks: &mut [u8],
+) -> Stepped
+    requires { ⌜ CallReady dial most (length (now values)) (length (now precisions)) (length (now marks)) × (most ≤ 8 * length (now body)) ⌝ }
+    ensures { λ z. ⌜ step (z .answer) (z .dial) (tables (now (values .exit)) (now (precisions .exit)) (now (marks .exit))) ≡ ownSteps (forwardIn most (now (body .entry))) (to - dial .used) dial (tables (now (values .entry)) (now (precisions .entry)) (now (marks .entry))) ⌝ }
+{
+    let all = sizes::all_of(dial.n);
+    crate::moving::climb(
+        dial,
+        body,
+        most,
+        to,
+        &mut values[..all],
+        &mut precisions[..all],
+        &mut marks[..all],
+    )
+}
+
+// Steps back over them.
+fn descend_own(
+    dial: Record,
+    body: &[u8],
+    most: u32,
+    to: u32,
+    values: &mut [i32],
+    precisions: &mut [u8],
+    marks: &mut [u8],
+) -> Stepped
+    requires { ⌜ CallReady dial most (length (now values)) (length (now precisions)) (length (now marks)) × (most ≤ 8 * length (now body)) ⌝ }
+    ensures { λ z. ⌜ step (z .answer) (z .dial) (tables (now (values .exit)) (now (precisions .exit)) (now (marks .exit))) ≡ ownSteps (backIn (now (body .entry))) (dial .used - to) dial (tables (now (values .entry)) (now (precisions .entry)) (now (marks .entry))) ⌝ }
+{
+    let all = sizes::all_of(dial.n);
+    crate::moving::descend(
+        dial,
+        body,
+        most,
+        to,
+        &mut values[..all],
+        &mut precisions[..all],
+        &mut marks[..all],
+    )
+}
 
 // The record and the tables before the first bit.
 pub fn take_start(
@@ -52,16 +107,7 @@ pub fn take_forward(
                     answer: ReadAnswer::Refused(Refusal::Spent),
                 };
             }
-            let all = sizes::all_of(dial.n);
-            crate::moving::climb(
-                dial,
-                body,
-                most,
-                dial.used + 1,
-                &mut values[..all],
-                &mut precisions[..all],
-                &mut marks[..all],
-            )
+            climb_own(dial, body, most, dial.used + 1, values, precisions, marks)
         }
         Outcome::Refused(why) => Stepped {
             dial,
@@ -90,16 +136,7 @@ pub fn take_back(
                     answer: ReadAnswer::Refused(Refusal::First),
                 };
             }
-            let all = sizes::all_of(dial.n);
-            crate::moving::descend(
-                dial,
-                body,
-                most,
-                dial.used - 1,
-                &mut values[..all],
-                &mut precisions[..all],
-                &mut marks[..all],
-            )
+            descend_own(dial, body, most, dial.used - 1, values, precisions, marks)
         }
         Outcome::Refused(why) => Stepped {
             dial,
@@ -123,27 +160,10 @@ pub fn take_turn(
     let most = room::usable_of(usable, body.len());
     match crate::records::check(dial, most, values.len(), precisions.len(), marks.len()) {
         Outcome::Done => {
-            let all = sizes::all_of(dial.n);
             if to <= dial.used {
-                return crate::moving::descend(
-                    dial,
-                    body,
-                    most,
-                    to,
-                    &mut values[..all],
-                    &mut precisions[..all],
-                    &mut marks[..all],
-                );
+                return descend_own(dial, body, most, to, values, precisions, marks);
             }
-            crate::moving::climb(
-                dial,
-                body,
-                most,
-                to,
-                &mut values[..all],
-                &mut precisions[..all],
-                &mut marks[..all],
-            )
+            climb_own(dial, body, most, to, values, precisions, marks)
         }
         Outcome::Refused(why) => Stepped {
             dial,

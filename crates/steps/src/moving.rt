@@ -15,7 +15,7 @@ ghost use Rattle.sizes.specs.Sizes.{allOf, coarsestOf};
 ghost use Rattle.moves.specs.Moves.{onward};
 ghost use Rattle.moves.specs.Stands.{stateOf, standOf};
 ghost use Rattle.decoder.specs.Body.{Tables, tables};
-ghost use Rattle.decoder.specs.Reading.{barsZero};
+ghost use Rattle.reading.specs.Reading.{barsZero};
 ghost use Rattle.steps.specs.Records.{recordOf, inRange};
 ghost use Rattle.steps.specs.Moved.{askedIn, heard, unheard, noted, step, stays, movedTo};
 ghost use Rattle.steps.specs.Steps.{stepsOf, positionOf};
@@ -54,7 +54,7 @@ fn bars(dial: Record, used: u32, at: Stand, bit: bool, marks: &[u8]) -> bool
     if at.pending {
         return false;
     }
-    decoder::bars_zero(
+    reading::bars_zero(
         marks,
         sizes::coarsest_of(dial.n, dial.l),
         dial.p,

@@ -1,5 +1,6 @@
 use mathlib.Core.Path.{_≡_, refl, sym, subst, _∙_}
 use mathlib.Core.List.{_++_}
+use Prim.Native.Nat.{_*_, min}
 use native.Mathlib.Omega.{arith}
 use borrow.Author.Needs.{needs}
 use lib.ListN.{length, drop}
@@ -32,43 +33,38 @@ enum-told c = search needs
 all-of-requires : tie.Need-all-of-requires
 all-of-requires c κs = search needs
 
-usable-of-requires : tie.Need-usable-of-requires
-usable-of-requires c κs = search needs
-
 slice-relend-prefix-read : tie.Need-slice-relend-prefix-read
-slice-relend-prefix-read c = omega (arith, all-so (c .before), ready (c .before) .valuesRoom)
+slice-relend-prefix-read c = omega (arith, all-so c, ready c .valuesRoom)
 
 slice-aggregate-read : tie.Need-slice-aggregate-read
-slice-aggregate-read c = sym (length-take-le _ (c .before .before .before .before .before .before .before .before .before .args .values .now) (omega (arith, all-so (c .before .before), ready (c .before .before) .valuesRoom)))
+slice-aggregate-read c = sym (length-take-le _ (c .before .before .before .before .before .before .before .before .args .values .now) (omega (arith, all-so (c .before), ready (c .before) .valuesRoom)))
 
 slice-relend-prefix-read-2 : tie.Need-slice-relend-prefix-read-2
-slice-relend-prefix-read-2 c = omega (arith, all-so (c .before .before), ready (c .before .before) .precisionsRoom)
+slice-relend-prefix-read-2 c = omega (arith, all-so (c .before), ready (c .before) .precisionsRoom)
 
 slice-aggregate-read-2 : tie.Need-slice-aggregate-read-2
-slice-aggregate-read-2 c = sym (length-take-le _ (c .before .before .before .before .before .before .before .before .before .before .args .precisions .now) (omega (arith, all-so (c .before .before .before), ready (c .before .before .before) .precisionsRoom)))
+slice-aggregate-read-2 c = sym (length-take-le _ (c .before .before .before .before .before .before .before .before .before .args .precisions .now) (omega (arith, all-so (c .before .before), ready (c .before .before) .precisionsRoom)))
 
 slice-relend-prefix-read-3 : tie.Need-slice-relend-prefix-read-3
-slice-relend-prefix-read-3 c = omega (arith, all-so (c .before .before .before), ready (c .before .before .before) .marksRoom)
+slice-relend-prefix-read-3 c = omega (arith, all-so (c .before .before), ready (c .before .before) .marksRoom)
 
 slice-aggregate-read-3 : tie.Need-slice-aggregate-read-3
-slice-aggregate-read-3 c = sym (length-take-le _ (c .before .before .before .before .before .before .before .before .before .before .before .args .marks .now) (omega (arith, all-so (c .before .before .before .before), ready (c .before .before .before .before) .marksRoom)))
+slice-aggregate-read-3 c = sym (length-take-le _ (c .before .before .before .before .before .before .before .before .before .before .args .marks .now) (omega (arith, all-so (c .before .before .before), ready (c .before .before .before) .marksRoom)))
 
 read-requires : tie.Need-read-requires
 read-requires c κs =
-    let a = c .before .before .before .before .before .before .before .before .before .before .before .args in
-    let all = c .before .before .before .before .all-of .result in
-    let e = all-so (c .before .before .before .before) in
-    let r = ready (c .before .before .before .before) in (
-      record {
-        side = r .side;
-        levels = r .levels;
-        planes = r .planes;
-        valuesSize = length-take-le all (a .values .now) (omega (arith, e, r .valuesRoom)) ∙ e;
-        precisionsSize = length-take-le all (a .precisions .now) (omega (arith, e, r .precisionsRoom)) ∙ e;
-        marksSize = length-take-le all (a .marks .now) (omega (arith, e, r .marksRoom)) ∙ e;
-      },
-      omega (arith, c .before .before .before .usable-of .ensures),
-    )
+    let a = c .before .before .before .before .before .before .before .before .before .before .args in
+    let all = c .before .before .before .all-of .result in
+    let e = all-so (c .before .before .before) in
+    let r = ready (c .before .before .before) in
+    record {
+      side = r .side;
+      levels = r .levels;
+      planes = r .planes;
+      valuesSize = length-take-le all (a .values .now) (omega (arith, e, r .valuesRoom)) ∙ e;
+      precisionsSize = length-take-le all (a .precisions .now) (omega (arith, e, r .precisionsRoom)) ∙ e;
+      marksSize = length-take-le all (a .marks .now) (omega (arith, e, r .marksRoom)) ∙ e;
+    }
 
 enum-known-why : tie.Need-enum-known-why
 enum-known-why c = search needs
@@ -84,18 +80,18 @@ same-length-3 c = search needs
 
 returns : tie.Need-returns
 returns c =
-    let a = c .before .before .before .before .before .before .before .before .before .before .before .before .before .before .before .before .before .args in
-    let e = all-so (c .before .before .before .before .before .before .before .before .before .before) in
-    let r = ready (c .before .before .before .before .before .before .before .before .before .before) in
+    let a = c .before .before .before .before .before .before .before .before .before .before .before .before .before .before .before .before .args in
+    let e = all-so (c .before .before .before .before .before .before .before .before .before) in
+    let r = ready (c .before .before .before .before .before .before .before .before .before) in
     let k = c .before .before .before .before .before .read in
-    let all = c .before .before .before .before .before .before .before .before .before .before .all-of .result in
+    let all = c .before .before .before .before .before .before .before .before .before .all-of .result in
     let v = k .last .1 .1 .1 .1 .1 .0 in
     let q = k .last .1 .1 .1 .1 .1 .1 .0 in
     let m = k .last .1 .1 .1 .1 .1 .1 .1 .0 in
     subst (λ (x : Outcome). ReadsTo x (a .n) (a .l) (a .p) (bodyBits (a .usable) (a .body .now)) (tables (a .values .now) (a .precisions .now) (a .marks .now)) (k .result) (tables (v ++ drop all (a .values .now)) (q ++ drop all (a .precisions .now)) (m ++ drop all (a .marks .now))))
-    (sym (c .before .before .before .before .before .before .before .before .before .before .before .enum-told .given .1) ∙ c .before .before .before .before .before .before .before .before .before .before .before .before .before .check-decode .ensures)
-    (decoded-back (a .n) (a .l) (a .p) (c .before .before .before .before .before .before .before .before .before .usable-of .result) (a .usable) all (a .body .now) (a .values .now) (a .precisions .now) (a .marks .now) (k .result) v q m
-    (c .before .before .before .before .before .before .before .before .before .usable-of .ensures) e (omega (arith, e, r .valuesRoom)) (omega (arith, e, r .precisionsRoom)) (omega (arith, e, r .marksRoom)) (k .ensures))
+    (sym (c .before .before .before .before .before .before .before .before .before .before .enum-told .given .1) ∙ c .before .before .before .before .before .before .before .before .before .before .before .before .check-decode .ensures)
+    (decoded-back (a .n) (a .l) (a .p) (min (a .usable) (8 * length (a .body .now))) (a .usable) all (a .body .now) (a .values .now) (a .precisions .now) (a .marks .now) (k .result) v q m
+    refl e (omega (arith, e, r .valuesRoom)) (omega (arith, e, r .precisionsRoom)) (omega (arith, e, r .marksRoom)) (k .ensures))
 
 returns-2 : tie.Need-returns-2
 returns-2 c =
@@ -111,7 +107,6 @@ decode-spec =
     check-decode-requires
     enum-told
     all-of-requires
-    usable-of-requires
     slice-relend-prefix-read
     slice-aggregate-read
     slice-relend-prefix-read-2

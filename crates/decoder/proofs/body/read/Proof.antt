@@ -1,29 +1,24 @@
-use mathlib.Core.Path.{_≡_, sym, ap, _∙_}
-use Prim.Native.Nat.{ℕ}
+use mathlib.Core.Path.{_≡_, refl, sym, ap, _∙_}
+use Prim.Native.Nat.{ℕ, _*_, _%_, _≤_, min}
 use native.Mathlib.Omega.{arith}
 use borrow.Author.Needs.{needs}
 use lib.IntN.{pos}
 use lib.ListN.{length, replicate}
-use Rattle.sizes.specs.Sizes.{allOf, coarsestOf}
+use Rattle.sizes.specs.Sizes.{mostN, allOf, coarsestOf}
 use Rattle.bits.specs.Bits.{bitsOf}
 use Rattle.nls.specs.Marks.{startMarks}
 use Rattle.nls.specs.Judging.{taken, Judged}
 use Rattle.nls.proofs.Verdicts.{verdict}
 use Rattle.marking.proofs.Laws.{start-so}
 use Rattle.room.proofs.Laws.{sizes-near}
+use Rattle.reading.proofs.ScanLaws.{scanned-so}
 use Rattle.decoder.specs.Body.{tables}
 use Rattle.decoder.proofs.DecodeLaws.{Took, Ends, ends, bits-most, judged-taken, refused-12, refused-13, left-in, stood, power-one, accepted}
 use Rattle.decoder.proofs.body.read.Statement.{statement}
 use Rattle.decoder.proofs.body.read.Tie as tie
 
-all-so : (c : tie.After-all-of) → c .all-of .result ≡ allOf (c .before .before .before .before .args .n)
-all-so c = c .all-of .ensures ∙ rw (c .before .before .before .before .pre .0 .side)
-
-coarsest-so : (c : tie.After-coarsest-of) → c .coarsest-of .result ≡ coarsestOf (c .before .before .before .before .before .args .n) (c .before .before .before .before .before .args .l)
-coarsest-so c = c .coarsest-of .ensures ∙ rw (c .before .before .before .before .before .pre .0 .side, c .before .before .before .before .before .pre .0 .levels)
-
-all-of-requires : tie.Need-all-of-requires
-all-of-requires c κs = search needs
+coarsest-so : (c : tie.After-coarsest-of) → c .coarsest-of .result ≡ coarsestOf (c .before .before .before .before .args .n) (c .before .before .before .before .args .l)
+coarsest-so c = c .coarsest-of .ensures ∙ rw (c .before .before .before .before .pre .side, c .before .before .before .before .pre .levels)
 
 coarsest-of-requires : tie.Need-coarsest-of-requires
 coarsest-of-requires c κs = search needs
@@ -31,55 +26,60 @@ coarsest-of-requires c κs = search needs
 start-requires : tie.Need-start-requires
 start-requires c κs = search needs
 
+-- the table of marks keeps its size, and the sizes are in range
+all-so : (c : tie.After-start) → length (c .start .last .0) ≡ allOf (c .before .before .before .before .before .before .args .n)
+all-so c = c .start .kept .0 ∙ c .before .before .before .before .before .before .pre .marksSize
+
+sizes-so : (c : tie.After-start) → let all = length (c .start .last .0) in
+    let coarsest = c .before .before .coarsest-of .result in
+    (all ≤ allOf mostN) × (4 ≤ coarsest) × (4 * coarsest ≤ all) × (coarsest % 4 ≡ 0)
+sizes-so c = let start = c .before .before .before .before .before .before in sizes-near (start .args .n) (start .args .l) (length (c .start .last .0)) (c .before .before .coarsest-of .result) (all-so c) (coarsest-so (c .before .before)) (start .pre .side) (start .pre .levels)
+
 -- the table before the first bit
-begun : (c : tie.After-start) → c .start .last .0 ≡ startMarks (c .before .before .before .all-of .result) (c .before .before .coarsest-of .result)
-begun c =
-    let start = c .before .before .before .before .before .before .before in
-    let e = all-so (c .before .before .before) in
-    let s = sizes-near (start .args .n) (start .args .l) (c .before .before .before .all-of .result) (c .before .before .coarsest-of .result) e (coarsest-so (c .before .before)) (start .pre .0 .side) (start .pre .0 .levels) in
-    start-so _ _ (start .args .marks .now) _ (c .start .ensures) (start .pre .0 .marksSize ∙ sym e) (s .0) (s .1) (s .2) (s .3)
+begun : (c : tie.After-start) → c .start .last .0 ≡ startMarks (length (c .start .last .0)) (c .before .before .coarsest-of .result)
+begun c = let s = sizes-so c in start-so _ _ (c .before .before .before .before .before .before .args .marks .now) _ (c .start .ensures) (sym (c .start .kept .0)) (s .0) (s .1) (s .2) (s .3)
 
 clear-requires : tie.Need-clear-requires
 clear-requires c κs = search needs
 
 scan-requires : tie.Need-scan-requires
-scan-requires c κs =
-    let start = c .before .before .before .before .before .before .before .before .before .before .before .before .before .before in
-    let e = all-so (c .before .before .before .before .before .before .before .before .before .before) in
-    let s = sizes-near (start .args .n) (start .args .l) (c .before .before .before .before .before .before .before .before .before .before .all-of .result) (c .before .before .before .before .before .before .before .before .before .coarsest-of .result) e (coarsest-so (c .before .before .before .before .before .before .before .before .before)) (start .pre .0 .side) (start .pre .0 .levels) in (
-      c .before .before .before .before .before .before .before .start .kept .0 ∙ start .pre .0 .marksSize ∙ sym e,
-      c .before .before .before .clear .kept .0 ∙ start .pre .0 .valuesSize ∙ sym e,
-      start .pre .1,
-      record { near = s .0; wide = s .1; room = s .2; tops = omega (arith, start .pre .0 .planes) },
-    )
+scan-requires c κs = search needs
 
 -- where the scan ended, by the verdict
 ended : (c : tie.After-scan)
-    → let start = c .before .before .before .before .before .before .before .before .before .before .before .before .before .before .before in
+    → let start = c .before .before .before .before .before .before .before .before .before .before .before .before .before .before in
     let a = start .args in
     let s = c .scan in
-    Ends (a .n) (a .l) (a .p) (length (a .values .now)) (length (a .precisions .now)) (length (a .marks .now)) (start .pre .0) (a .body .now) (a .usable) (s .result .bits) (s .result .left) (s .result .stop) (s .result .bad) (s .last .1 .0) (s .last .1 .1 .0) (verdict (a .n) (a .l) (a .p) (bitsOf (a .usable) (a .body .now)))
+    Ends (a .n) (a .l) (a .p) (length (a .values .now)) (length (a .precisions .now)) (length (a .marks .now)) (start .pre) (a .body .now) (min (a .usable) (8 * length (a .body .now))) (s .result .bits) (s .result .left) (s .result .stop) (s .result .bad) (s .last .1 .0) (s .last .1 .1 .0) (verdict (a .n) (a .l) (a .p) (bitsOf (min (a .usable) (8 * length (a .body .now))) (a .body .now)))
 ended c =
-    let start = c .before .before .before .before .before .before .before .before .before .before .before .before .before .before .before in
+    let start = c .before .before .before .before .before .before .before .before .before .before .before .before .before .before in
     let a = start .args in
     let s = c .scan in
-    ends (a .n) (a .l) (a .p) (length (a .values .now)) (length (a .precisions .now)) (length (a .marks .now)) (start .pre .0) (a .body .now) (a .usable) (s .result .bits) (s .result .left) (s .result .stop) (s .result .bad) (s .last .1 .0) (s .last .1 .1 .0)
-    (c .before .before .before .before .before .before .before .before .start .last .0) (c .before .before .before .before .clear .last .0) (c .before .before .before .before .before .before .before .before .before .before .before .all-of .result) (c .before .before .before .before .before .before .before .before .before .before .coarsest-of .result)
-    (all-so (c .before .before .before .before .before .before .before .before .before .before .before)) (coarsest-so (c .before .before .before .before .before .before .before .before .before .before)) (begun (c .before .before .before .before .before .before .before .before)) (c .before .before .before .before .clear .ensures ∙ ap (λ (k : ℕ). replicate k (pos 0)) (start .pre .0 .valuesSize)) (s .ensures)
+    let clear = c .before .before .before .before .clear in
+    let begin = c .before .before .before .before .before .before .before .before in
+    let f = sizes-so begin in
+    ends (a .n) (a .l) (a .p) (length (a .values .now)) (length (a .precisions .now)) (length (a .marks .now)) (start .pre) (a .body .now) (min (a .usable) (8 * length (a .body .now))) (s .result .bits) (s .result .left) (s .result .stop) (s .result .bad) (s .last .1 .0) (s .last .1 .1 .0)
+    (begin .start .last .0) (clear .last .0) (length (begin .start .last .0)) (c .before .before .before .before .before .before .before .before .before .before .coarsest-of .result)
+    (all-so begin) (coarsest-so (c .before .before .before .before .before .before .before .before .before .before)) (begun begin) (clear .ensures ∙ ap (λ (k : ℕ). replicate k (pos 0)) (start .pre .valuesSize))
+    (scanned-so (a .body .now) (min (a .usable) (8 * length (a .body .now))) (c .before .before .before .before .before .before .before .before .before .before .coarsest-of .result) (a .p) (begin .start .last .0) (clear .last .0) (s .result) (s .last .1 .0) (s .last .1 .1 .0) (a .usable) refl
+    (clear .kept .0 ∙ start .pre .valuesSize ∙ sym (all-so begin)) (record { near = f .0; wide = f .1; room = f .2; tops = start .pre .planes }) (s .ensures))
 
 -- the tables keep their sizes
-values-so : (c : tie.After-scan) → length (c .scan .last .1 .1 .0) ≡ allOf (c .before .before .before .before .before .before .before .before .before .before .before .before .before .before .before .args .n)
-values-so c = c .scan .kept .1 .1 .0 ∙ c .before .before .before .before .clear .kept .0 ∙ c .before .before .before .before .before .before .before .before .before .before .before .before .before .before .before .pre .0 .valuesSize
+values-so : (c : tie.After-scan) → length (c .scan .last .1 .1 .0) ≡ allOf (c .before .before .before .before .before .before .before .before .before .before .before .before .before .before .args .n)
+values-so c = c .scan .kept .1 .1 .0 ∙ c .before .before .before .before .clear .kept .0 ∙ c .before .before .before .before .before .before .before .before .before .before .before .before .before .before .pre .valuesSize
 
-marks-so : (c : tie.After-scan) → length (c .scan .last .1 .0) ≡ allOf (c .before .before .before .before .before .before .before .before .before .before .before .before .before .before .before .args .n)
-marks-so c = c .scan .kept .1 .0 ∙ c .before .before .before .before .before .before .before .before .start .kept .0 ∙ c .before .before .before .before .before .before .before .before .before .before .before .before .before .before .before .pre .0 .marksSize
+marks-so : (c : tie.After-scan) → length (c .scan .last .1 .0) ≡ allOf (c .before .before .before .before .before .before .before .before .before .before .before .before .before .before .args .n)
+marks-so c = c .scan .kept .1 .0 ∙ c .before .before .before .before .before .before .before .before .start .kept .0 ∙ c .before .before .before .before .before .before .before .before .before .before .before .before .before .before .pre .marksSize
+
+usable-of-requires : tie.Need-usable-of-requires
+usable-of-requires c κs = search needs
 
 cast-bits : tie.Need-cast-bits
 cast-bits c =
     let start = c .before .before .before .before .before .before .before .before .before .before .before .before .before .before .before .before .before .before .before in
     let a = start .args in
-    let s = c .before .before .before .before .scan in
-    record { fits = omega (arith, bits-most (a .n) (a .l) (a .p) (length (a .values .now)) (length (a .precisions .now)) (length (a .marks .now)) (start .pre .0) (a .body .now) (a .usable) (s .result .bits) (s .result .left) (s .result .stop) (s .result .bad) (s .last .1 .0) (s .last .1 .1 .0) (ended (c .before .before .before .before)), start .fits .usable .fits) }
+    let s = c .before .before .before .before .before .scan in
+    record { fits = omega (arith, bits-most (a .n) (a .l) (a .p) (length (a .values .now)) (length (a .precisions .now)) (length (a .marks .now)) (start .pre) (a .body .now) (min (a .usable) (8 * length (a .body .now))) (s .result .bits) (s .result .left) (s .result .stop) (s .result .bad) (s .last .1 .0) (s .last .1 .1 .0) (ended (c .before .before .before .before .before)), start .fits .usable .fits) }
 
 clear-requires-2 : tie.Need-clear-requires-2
 clear-requires-2 c κs = search needs
@@ -97,13 +97,13 @@ returns : tie.Need-returns
 returns c =
     let start = c .before .before .before .before .before .before .before .before .before .before .before .before .before .before .before .before .before .before .before .before .before .before .before .before .before .before .before .before .before in
     let a = start .args in
-    let s = c .before .before .before .before .before .before .before .before .before .before .before .before .before .before .scan in
+    let s = c .before .before .before .before .before .before .before .before .before .before .before .before .before .before .before .scan in
     let k = c .before .before .before .before .before .clear2 in
-    refused-12 (a .n) (a .l) (a .p) (length (a .values .now)) (length (a .precisions .now)) (length (a .marks .now)) (start .pre .0) (a .body .now) (a .usable) (s .result .bits) (s .result .left) (s .result .stop) (s .result .bad) (s .last .1 .0) (s .last .1 .1 .0) (ended (c .before .before .before .before .before .before .before .before .before .before .before .before .before .before)) (tables (a .values .now) (a .precisions .now) (a .marks .now)) (start .pre .0 .valuesSize) (start .pre .0 .precisionsSize) (start .pre .0 .marksSize)
+    refused-12 (a .n) (a .l) (a .p) (length (a .values .now)) (length (a .precisions .now)) (length (a .marks .now)) (start .pre) (a .body .now) (min (a .usable) (8 * length (a .body .now))) (s .result .bits) (s .result .left) (s .result .stop) (s .result .bad) (s .last .1 .0) (s .last .1 .1 .0) (ended (c .before .before .before .before .before .before .before .before .before .before .before .before .before .before .before)) (tables (a .values .now) (a .precisions .now) (a .marks .now)) (start .pre .valuesSize) (start .pre .precisionsSize) (start .pre .marksSize)
     (k .last .0) (k .last .1 .0) (k .last .1 .1 .0)
-    (k .ensures .0 ∙ ap (λ (x : ℕ). replicate x (pos 0)) (values-so (c .before .before .before .before .before .before .before .before .before .before .before .before .before .before)))
-    (k .ensures .1 .0 ∙ ap (λ (x : ℕ). replicate x 0) (start .pre .0 .precisionsSize))
-    (k .ensures .1 .1 ∙ ap (λ (x : ℕ). replicate x 0) (marks-so (c .before .before .before .before .before .before .before .before .before .before .before .before .before .before)))
+    (k .ensures .0 ∙ ap (λ (x : ℕ). replicate x (pos 0)) (values-so (c .before .before .before .before .before .before .before .before .before .before .before .before .before .before .before)))
+    (k .ensures .1 .0 ∙ ap (λ (x : ℕ). replicate x 0) (start .pre .precisionsSize))
+    (k .ensures .1 .1 ∙ ap (λ (x : ℕ). replicate x 0) (marks-so (c .before .before .before .before .before .before .before .before .before .before .before .before .before .before .before)))
     (c .before .before .before .before .before .before .before .before .before .if1 .taken)
 
 clear-requires-3 : tie.Need-clear-requires-3
@@ -122,54 +122,58 @@ returns-2 : tie.Need-returns-2
 returns-2 c =
     let start = c .before .before .before .before .before .before .before .before .before .before .before .before .before .before .before .before .before .before .before .before .before .before .before .before .before .before .before .before .before .before in
     let a = start .args in
-    let s = c .before .before .before .before .before .before .before .before .before .before .before .before .before .before .before .scan in
+    let s = c .before .before .before .before .before .before .before .before .before .before .before .before .before .before .before .before .scan in
     let k = c .before .before .before .before .before .clear3 in
-    refused-13 (a .n) (a .l) (a .p) (length (a .values .now)) (length (a .precisions .now)) (length (a .marks .now)) (start .pre .0) (a .body .now) (a .usable) (s .result .bits) (s .result .left) (s .result .stop) (s .result .bad) (s .last .1 .0) (s .last .1 .1 .0) (ended (c .before .before .before .before .before .before .before .before .before .before .before .before .before .before .before)) (tables (a .values .now) (a .precisions .now) (a .marks .now)) (start .pre .0 .valuesSize) (start .pre .0 .precisionsSize) (start .pre .0 .marksSize)
+    refused-13 (a .n) (a .l) (a .p) (length (a .values .now)) (length (a .precisions .now)) (length (a .marks .now)) (start .pre) (a .body .now) (min (a .usable) (8 * length (a .body .now))) (s .result .bits) (s .result .left) (s .result .stop) (s .result .bad) (s .last .1 .0) (s .last .1 .1 .0) (ended (c .before .before .before .before .before .before .before .before .before .before .before .before .before .before .before .before)) (tables (a .values .now) (a .precisions .now) (a .marks .now)) (start .pre .valuesSize) (start .pre .precisionsSize) (start .pre .marksSize)
     (k .last .0) (k .last .1 .0) (k .last .1 .1 .0)
-    (k .ensures .0 ∙ ap (λ (x : ℕ). replicate x (pos 0)) (values-so (c .before .before .before .before .before .before .before .before .before .before .before .before .before .before .before)))
-    (k .ensures .1 .0 ∙ ap (λ (x : ℕ). replicate x 0) (start .pre .0 .precisionsSize))
-    (k .ensures .1 .1 ∙ ap (λ (x : ℕ). replicate x 0) (marks-so (c .before .before .before .before .before .before .before .before .before .before .before .before .before .before .before)))
-    (c .before .before .before .before .before .before .before .before .before .before .if1 .left) (c .before .before .before .before .before .before .before .before .before .if2 .taken)
+    (k .ensures .0 ∙ ap (λ (x : ℕ). replicate x (pos 0)) (values-so (c .before .before .before .before .before .before .before .before .before .before .before .before .before .before .before .before)))
+    (k .ensures .1 .0 ∙ ap (λ (x : ℕ). replicate x 0) (start .pre .precisionsSize))
+    (k .ensures .1 .1 ∙ ap (λ (x : ℕ). replicate x 0) (marks-so (c .before .before .before .before .before .before .before .before .before .before .before .before .before .before .before .before)))
+    (c .before .before .before .before .before .before .before .before .before .before .if1 .left) (omega (arith, c .before .before .before .before .before .before .before .before .before .if2 .taken, c .before .before .before .before .before .before .before .before .before .before .before .before .usable-of .ensures))
 
 -- all bits were used
 took : (c : tie.Else2)
     → let start = c .before .before .before .before .before .before .before .before .before .before .before .before .before .before .before .before .before .before .before .before .before in
     let a = start .args in
-    let s = c .before .before .before .before .before .before .scan in
-    Judged (a .n) (a .l) (a .p) (bitsOf (a .usable) (a .body .now)) taken × Took (a .n) (a .l) (a .p) (length (a .values .now)) (length (a .precisions .now)) (length (a .marks .now)) (start .pre .0) (a .body .now) (a .usable) (s .result .bits) (s .result .left) (s .result .stop) (s .result .bad) (s .last .1 .0) (s .last .1 .1 .0)
+    let s = c .before .before .before .before .before .before .before .scan in
+    Judged (a .n) (a .l) (a .p) (bitsOf (min (a .usable) (8 * length (a .body .now))) (a .body .now)) taken × Took (a .n) (a .l) (a .p) (length (a .values .now)) (length (a .precisions .now)) (length (a .marks .now)) (start .pre) (a .body .now) (min (a .usable) (8 * length (a .body .now))) (s .result .bits) (s .result .left) (s .result .stop) (s .result .bad) (s .last .1 .0) (s .last .1 .1 .0)
 took c =
     let start = c .before .before .before .before .before .before .before .before .before .before .before .before .before .before .before .before .before .before .before .before .before in
     let a = start .args in
-    let s = c .before .before .before .before .before .before .scan in
-    judged-taken (a .n) (a .l) (a .p) (length (a .values .now)) (length (a .precisions .now)) (length (a .marks .now)) (start .pre .0) (a .body .now) (a .usable) (s .result .bits) (s .result .left) (s .result .stop) (s .result .bad) (s .last .1 .0) (s .last .1 .1 .0) (ended (c .before .before .before .before .before .before)) (c .before .if1 .left) (c .if2 .left)
+    let s = c .before .before .before .before .before .before .before .scan in
+    judged-taken (a .n) (a .l) (a .p) (length (a .values .now)) (length (a .precisions .now)) (length (a .marks .now)) (start .pre) (a .body .now) (min (a .usable) (8 * length (a .body .now))) (s .result .bits) (s .result .left) (s .result .stop) (s .result .bad) (s .last .1 .0) (s .last .1 .1 .0) (ended (c .before .before .before .before .before .before .before)) (c .before .if1 .left) (omega (arith, c .if2 .left, c .before .before .before .usable-of .ensures))
 
 finish-requires : tie.Need-finish-requires
 finish-requires c κs =
     let start = c .before .before .before .before .before .before .before .before .before .before .before .before .before .before .before .before .before .before .before .before .before .before .before .before in
     let a = start .args in
-    let s = c .before .before .before .before .before .before .before .before .before .scan in
+    let s = c .before .before .before .before .before .before .before .before .before .before .scan in
     let t = took (c .before .before .before) in (
-      values-so (c .before .before .before .before .before .before .before .before .before) ∙ sym (marks-so (c .before .before .before .before .before .before .before .before .before)),
-      start .pre .0 .precisionsSize ∙ sym (marks-so (c .before .before .before .before .before .before .before .before .before)),
-      (stood (a .n) (a .l) (a .p) (length (a .values .now)) (length (a .precisions .now)) (length (a .marks .now)) (start .pre .0) (a .body .now) (a .usable) (s .result .bits) (s .result .left) (s .result .stop) (s .result .bad) (s .last .1 .0) (s .last .1 .1 .0) (t .1) (t .0), t .1 .valued),
+      values-so (c .before .before .before .before .before .before .before .before .before .before) ∙ sym (marks-so (c .before .before .before .before .before .before .before .before .before .before)),
+      start .pre .precisionsSize ∙ sym (marks-so (c .before .before .before .before .before .before .before .before .before .before)),
+      (stood (a .n) (a .l) (a .p) (length (a .values .now)) (length (a .precisions .now)) (length (a .marks .now)) (start .pre) (a .body .now) (min (a .usable) (8 * length (a .body .now))) (s .result .bits) (s .result .left) (s .result .stop) (s .result .bad) (s .last .1 .0) (s .last .1 .1 .0) (t .1) (t .0), t .1 .valued),
     )
 
 sub-t47 : tie.Need-sub-t47
 sub-t47 c =
     let start = c .before .before .before .before .before .before .before .before .before .before .before .before .before .before .before .before .before .before .before .before .before .before .before .before .before .before .before .before in
     let a = start .args in
-    let s = c .before .before .before .before .before .before .before .before .before .before .before .before .before .scan in
-    left-in (a .n) (a .l) (a .p) (length (a .values .now)) (length (a .precisions .now)) (length (a .marks .now)) (start .pre .0) (a .body .now) (a .usable) (s .result .bits) (s .result .left) (s .result .stop) (s .result .bad) (s .last .1 .0) (s .last .1 .1 .0) (took (c .before .before .before .before .before .before .before) .1)
+    let s = c .before .before .before .before .before .before .before .before .before .before .before .before .before .before .scan in
+    left-in (a .n) (a .l) (a .p) (length (a .values .now)) (length (a .precisions .now)) (length (a .marks .now)) (start .pre) (a .body .now) (min (a .usable) (8 * length (a .body .now))) (s .result .bits) (s .result .left) (s .result .stop) (s .result .bad) (s .last .1 .0) (s .last .1 .1 .0) (took (c .before .before .before .before .before .before .before) .1)
 
 shl-t48 : tie.Need-shl-t48
-shl-t48 c = search needs
+shl-t48 c =
+    let start = c .before .before .before .before .before .before .before .before .before .before .before .before .before .before .before .before .before .before .before .before .before .before .before .before .before .before .before .before in
+    let a = start .args in
+    let s = c .before .before .before .before .before .before .before .before .before .before .before .before .before .before .scan in
+    omega (arith, left-in (a .n) (a .l) (a .p) (length (a .values .now)) (length (a .precisions .now)) (length (a .marks .now)) (start .pre) (a .body .now) (min (a .usable) (8 * length (a .body .now))) (s .result .bits) (s .result .left) (s .result .stop) (s .result .bad) (s .last .1 .0) (s .last .1 .1 .0) (took (c .before .before .before .before .before .before .before) .1), start .pre .planes)
 
 sub-t49 : tie.Need-sub-t49
 sub-t49 c =
     let start = c .before .before .before .before .before .before .before .before .before .before .before .before .before .before .before .before .before .before .before .before .before .before .before .before .before .before .before .before in
     let a = start .args in
-    let s = c .before .before .before .before .before .before .before .before .before .before .before .before .before .scan in
-    power-one (a .n) (a .l) (a .p) (length (a .values .now)) (length (a .precisions .now)) (length (a .marks .now)) (start .pre .0) (a .body .now) (a .usable) (s .result .bits) (s .result .left) (s .result .stop) (s .result .bad) (s .last .1 .0) (s .last .1 .1 .0) (took (c .before .before .before .before .before .before .before) .1)
+    let s = c .before .before .before .before .before .before .before .before .before .before .before .before .before .before .scan in
+    power-one (a .n) (a .l) (a .p) (length (a .values .now)) (length (a .precisions .now)) (length (a .marks .now)) (start .pre) (a .body .now) (min (a .usable) (8 * length (a .body .now))) (s .result .bits) (s .result .left) (s .result .stop) (s .result .bad) (s .last .1 .0) (s .last .1 .1 .0) (took (c .before .before .before .before .before .before .before) .1)
 
 same-length-7 : tie.Need-same-length-7
 same-length-7 c = search needs
@@ -184,21 +188,21 @@ returns-3 : tie.Need-returns-3
 returns-3 c =
     let start = c .before .before .before .before .before .before .before .before .before .before .before .before .before .before .before .before .before .before .before .before .before .before .before .before .before .before .before .before in
     let a = start .args in
-    let s = c .before .before .before .before .before .before .before .before .before .before .before .before .before .scan in
+    let s = c .before .before .before .before .before .before .before .before .before .before .before .before .before .before .scan in
     let t = took (c .before .before .before .before .before .before .before) in
     let f = c .before .before .before .finish in
-    accepted (a .n) (a .l) (a .p) (length (a .values .now)) (length (a .precisions .now)) (length (a .marks .now)) (start .pre .0) (a .body .now) (a .usable) (s .result .bits) (s .result .left) (s .result .stop) (s .result .bad) (s .last .1 .0) (s .last .1 .1 .0) (t .1) (t .0) (tables (a .values .now) (a .precisions .now) (a .marks .now)) (start .pre .0 .valuesSize) (start .pre .0 .precisionsSize) (start .pre .0 .marksSize)
-    (f .last .0) (f .last .1 .0) (length (s .last .1 .0)) (marks-so (c .before .before .before .before .before .before .before .before .before .before .before .before .before)) (f .ensures .0) (f .ensures .1)
+    accepted (a .n) (a .l) (a .p) (length (a .values .now)) (length (a .precisions .now)) (length (a .marks .now)) (start .pre) (a .body .now) (min (a .usable) (8 * length (a .body .now))) (s .result .bits) (s .result .left) (s .result .stop) (s .result .bad) (s .last .1 .0) (s .last .1 .1 .0) (t .1) (t .0) (tables (a .values .now) (a .precisions .now) (a .marks .now)) (start .pre .valuesSize) (start .pre .precisionsSize) (start .pre .marksSize)
+    (f .last .0) (f .last .1 .0) (length (s .last .1 .0)) (marks-so (c .before .before .before .before .before .before .before .before .before .before .before .before .before .before)) (f .ensures .0) (f .ensures .1)
 
 pub read-spec : {M : Type 1} → statement M
 read-spec =
     tie.close
     (tie.spec
-    all-of-requires
     coarsest-of-requires
     start-requires
     clear-requires
     scan-requires
+    usable-of-requires
     cast-bits
     clear-requires-2
     same-length

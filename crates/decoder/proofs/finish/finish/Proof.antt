@@ -9,7 +9,7 @@ use Rattle.sizes.proofs.Tables.{table-at, table-ext}
 use Rattle.coef.specs.Coef.{at}
 use Rattle.nls.specs.Reading.{midpoint, valueBy}
 use Rattle.nls.specs.Turns.{precisionBy}
-use Rattle.decoder.specs.Reading.{plainOf, Uncodes}
+use Rattle.decoder.specs.Finishing.{plainOf, Uncodes}
 use Rattle.decoder.proofs.StoodLaws.{undone}
 use Rattle.decoder.proofs.finish.finish.Statement.{statement}
 use Rattle.decoder.proofs.finish.finish.Tie as tie

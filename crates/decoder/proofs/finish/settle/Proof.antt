@@ -16,7 +16,7 @@ use Rattle.nls.specs.Marks.{skip}
 use Rattle.nls.proofs.Machine.Run.{skip-pos}
 use Rattle.nls.specs.Turns.{downTo, precisionBy}
 use Rattle.marking.proofs.Laws.{skip-is}
-use Rattle.decoder.specs.Reading.{Stood}
+use Rattle.decoder.specs.Finishing.{Stood}
 use Rattle.decoder.proofs.FinishLaws.{fill-row, whole}
 use Rattle.decoder.proofs.StoodLaws.{Walked, short, left-fits, mark-fits, walked-first, walked-one, walked-row, by-new, by-old, by-head, by-parent, by-row}
 use Rattle.decoder.proofs.finish.settle.Statement.{statement}

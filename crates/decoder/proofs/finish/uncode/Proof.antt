@@ -14,7 +14,7 @@ use Rattle.sizes.proofs.Tables.{fill-step}
 use Rattle.coef.specs.Coef.{at, negative}
 use Rattle.coef.proofs.Held.{pos-cast}
 use Rattle.nls.specs.Reading.{midpoint, valueBy}
-use Rattle.decoder.specs.Reading.{plainOf}
+use Rattle.decoder.specs.Finishing.{plainOf}
 use Rattle.decoder.proofs.FinishLaws.{not-yet, whole}
 use Rattle.decoder.proofs.finish.uncode.Statement.{statement}
 use Rattle.decoder.proofs.finish.uncode.Tie as tie

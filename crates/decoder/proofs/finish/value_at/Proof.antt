@@ -6,7 +6,7 @@ use mir.Syntax.{w32}
 use mir.Val.{SFits}
 use Prim.Native.Nat.{ℕ, _%_, _<_, _^_}
 use lib.Dec.{eqb}
-use Rattle.decoder.specs.Reading.{joinedOr0}
+use Rattle.decoder.specs.Finishing.{joinedOr0}
 use Rattle.decoder.proofs.FinishLaws.{size-in, value-is}
 use borrow.Author.Needs.{needs}
 use Rattle.decoder.proofs.finish.value_at.Statement.{statement}

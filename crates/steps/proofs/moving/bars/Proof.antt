@@ -5,7 +5,7 @@ use Rattle.steps.proofs.moving.bars.Statement.{statement}
 use Rattle.steps.proofs.moving.bars.Tie as tie
 use Rattle.steps.proofs.moving.bars.Reads as reads
 use Rattle.steps.proofs.moving.bars.Lts as lts
-use Rattle.decoder.proofs.bars_zero.Reads as bars-zero-reads
+use Rattle.reading.proofs.bars_zero.Reads as bars-zero-reads
 use Rattle.sizes.proofs.coarsest_of.Reads as coarsest-of-reads
 
 returns : tie.Need-returns

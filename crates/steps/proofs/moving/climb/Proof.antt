@@ -7,7 +7,7 @@ use Rattle.refusals.specs.declared.Refusal.the-variants.{Contradiction, Beyond,
 use Rattle.moves.specs.Stands.{stateOf}
 use Rattle.moves.specs.declared.Stand.{Stand}
 use Rattle.decoder.specs.Body.{tables}
-use Rattle.decoder.proofs.ReadLaws.{told-bit, told-none}
+use Rattle.reading.proofs.ReadLaws.{told-bit, told-none}
 use Rattle.steps.specs.Records.{recordOf}
 use Rattle.steps.specs.Moved.{step, reached}
 use Rattle.steps.specs.Steps.{stepsOf, positionOf}

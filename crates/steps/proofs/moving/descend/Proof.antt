@@ -7,7 +7,7 @@ use Rattle.decoder.specs.Body.{tables}
 use Rattle.steps.specs.Moved.{step}
 use Rattle.steps.specs.Steps.{stepsOf, positionOf}
 use Rattle.steps.specs.Ready.{backIn}
-use Rattle.decoder.proofs.ReadLaws.{told-bit, told-none}
+use Rattle.reading.proofs.ReadLaws.{told-bit, told-none}
 use Rattle.steps.proofs.RecordLaws.{range-coarsest}
 use Rattle.steps.proofs.DescendLaws.{Descending, from-stood, descending-first, descending-last, descending-on}
 use Rattle.steps.proofs.moving.descend.Statement.{statement}

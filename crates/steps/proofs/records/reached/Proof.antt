@@ -1,7 +1,7 @@
 use native.Mathlib.Nat.{one-le-pow}
 use native.Mathlib.Omega.{arith}
 use borrow.Author.Needs.{needs}
-use Rattle.decoder.proofs.ValueLaws.{level-one}
+use Rattle.reading.proofs.ValueLaws.{level-one}
 use Rattle.steps.proofs.records.reached.Statement.{statement}
 use Rattle.steps.proofs.records.reached.Tie as tie
 
