@@ -4,20 +4,13 @@ use crate::stepping;
 // The result where a letter is not known: no refusal's number.
 pub const UNKNOWN: u32 = 99;
 
-// A case: its letter, the numbers that go in, the lengths of the arrays that go in and of the tables lent, and the place in the line behind them.
+// A case: its letter, the numbers that go in, and the place in the line behind the numbers that are expected.
 pub struct Case {
     pub letter: u8,
     pub a: u32,
     pub b: u32,
     pub c: u32,
     pub d: u32,
-    pub ints: usize,
-    pub file: usize,
-    pub desc: usize,
-    pub grand: usize,
-    pub marks: usize,
-    pub bytes: usize,
-    pub values: usize,
     pub at: usize,
 }
 
@@ -61,23 +54,16 @@ fn join(negative: u32, magnitude: u32, to: &mut [i32], answer: &mut [u32; 15]) -
     result
 }
 
-// The calls that are lent nothing but the answer.
-fn number(case: Case, ints: &[i32], file: &[u8], answer: &mut [u32; 15]) -> u32 {
+// The calls on numbers, which are lent nothing but the answer.
+fn number(case: Case, answer: &mut [u32; 15]) -> u32 {
     let a = case.a;
     let b = case.b;
-    let c = case.c;
     let letter = case.letter;
     match letter {
-        b'W' => ctxp::txp_worst_body(a, b, c, answer),
+        b'W' => ctxp::txp_worst_body(a, b, case.c, answer),
         b'I' => ctxp::txp_linear_place(a, b, answer),
         b'R' => ctxp::txp_raster_place(a, b, answer),
-        b'P' => ctxp::txp_planes(ints, answer),
-        b'N' => ctxp::txp_is_negative(first(ints), answer),
-        b'M' => ctxp::txp_magnitude(first(ints), answer),
-        b'T' => ctxp::txp_part(first(ints), answer),
         b'X' => ctxp::txp_bit(a, b, answer),
-        b'V' => ctxp::txp_read_bit(file, wide(a), wide(b), answer),
-        b'H' => ctxp::txp_header(file, answer),
         b'K' => ctxp::txp_side_fits(a, answer),
         b'L' => ctxp::txp_levels_fit(a, b, answer),
         b'A' => ctxp::txp_all(a, answer),
@@ -86,7 +72,43 @@ fn number(case: Case, ints: &[i32], file: &[u8], answer: &mut [u32; 15]) -> u32 
     }
 }
 
-// The calls on whole arrays and on bits, which are lent no marks.
+// The calls that look at an array, and are lent nothing but the answer.
+fn look(case: Case, ints: &[i32], file: &[u8], answer: &mut [u32; 15]) -> u32 {
+    let letter = case.letter;
+    match letter {
+        b'P' => ctxp::txp_planes(ints, answer),
+        b'N' => ctxp::txp_is_negative(first(ints), answer),
+        b'M' => ctxp::txp_magnitude(first(ints), answer),
+        b'T' => ctxp::txp_part(first(ints), answer),
+        b'V' => ctxp::txp_read_bit(file, wide(case.a), wide(case.b), answer),
+        b'H' => ctxp::txp_header(file, answer),
+        _ => number(case, answer),
+    }
+}
+
+// The calls that are lent summaries.
+fn sums(
+    case: Case,
+    ints: &[i32],
+    desc: &mut [u32],
+    grand: &mut [u32],
+    answer: &mut [u32; 15],
+) -> u32 {
+    if case.letter == b'S' {
+        return ctxp::txp_summaries(case.a, case.b, ints, desc, grand, answer);
+    }
+    ctxp::txp_figures(case.a, case.b, ints, case.c, desc, grand, answer)
+}
+
+// The calls that change the order of an array.
+fn order(case: Case, ints: &[i32], values: &mut [i32], answer: &mut [u32; 15]) -> u32 {
+    if case.letter == b'O' {
+        return ctxp::txp_to_linear(case.a, ints, values, answer);
+    }
+    ctxp::txp_to_raster(case.a, ints, values, answer)
+}
+
+// The calls that are lent no marks.
 fn array(
     case: Case,
     ints: &[i32],
@@ -97,20 +119,70 @@ fn array(
     values: &mut [i32],
     answer: &mut [u32; 15],
 ) -> u32 {
+    let letter = case.letter;
+    match letter {
+        b'S' | b'G' => sums(case, ints, desc, grand, answer),
+        b'O' | b'Q' => order(case, ints, values, answer),
+        b'J' => join(case.a, case.b, values, answer),
+        b'F' => float(first(ints), desc, answer),
+        b'U' => ctxp::txp_put_bit(bytes, wide(case.a), case.b, answer),
+        _ => look(case, ints, file, answer),
+    }
+}
+
+// The calls that encode.
+fn encode(
+    case: Case,
+    ints: &[i32],
+    desc: &mut [u32],
+    grand: &mut [u32],
+    marks: &mut [u8],
+    bytes: &mut [u8],
+    answer: &mut [u32; 15],
+) -> u32 {
     let a = case.a;
     let b = case.b;
     let c = case.c;
-    let letter = case.letter;
-    match letter {
-        b'S' => ctxp::txp_summaries(a, b, ints, desc, grand, answer),
-        b'G' => ctxp::txp_figures(a, b, ints, c, desc, grand, answer),
-        b'O' => ctxp::txp_to_linear(a, ints, values, answer),
-        b'Q' => ctxp::txp_to_raster(a, ints, values, answer),
-        b'J' => join(a, b, values, answer),
-        b'F' => float(first(ints), desc, answer),
-        b'U' => ctxp::txp_put_bit(bytes, wide(a), b, answer),
-        _ => number(case, ints, file, answer),
+    if case.letter == b'E' {
+        return ctxp::txp_encode(a, b, ints, desc, grand, marks, bytes, c, answer);
     }
+    ctxp::txp_encode_body(
+        a,
+        b,
+        ints,
+        desc,
+        grand,
+        marks,
+        bytes,
+        wide(c),
+        case.d,
+        answer,
+    )
+}
+
+// The calls that decode.
+fn decode(
+    case: Case,
+    file: &[u8],
+    marks: &mut [u8],
+    bytes: &mut [u8],
+    values: &mut [i32],
+    answer: &mut [u32; 15],
+) -> u32 {
+    if case.letter == b'D' {
+        return ctxp::txp_decode(file, values, bytes, marks, answer);
+    }
+    ctxp::txp_decode_body(
+        case.a,
+        case.b,
+        case.c,
+        file,
+        case.d,
+        values,
+        bytes,
+        marks,
+        answer,
+    )
 }
 
 // The call of a case, on arrays and tables of its lengths.
@@ -125,20 +197,20 @@ pub fn call(
     values: &mut [i32],
     answer: &mut [u32; 15],
 ) -> u32 {
-    let a = case.a;
-    let b = case.b;
-    let c = case.c;
-    let d = case.d;
     let letter = case.letter;
     match letter {
-        b'E' => ctxp::txp_encode(a, b, ints, desc, grand, marks, bytes, c, answer),
-        b'B' => ctxp::txp_encode_body(a, b, ints, desc, grand, marks, bytes, wide(c), d, answer),
-        b'D' => ctxp::txp_decode(file, values, bytes, marks, answer),
-        b'C' => ctxp::txp_decode_body(a, b, c, file, d, values, bytes, marks, answer),
-        b'Y' => stepping::dial(case, ints, file, desc, values, bytes, marks, answer),
-        b'f' => stepping::given(case, ints, file, desc, values, bytes, marks, answer),
-        b'b' => stepping::given(case, ints, file, desc, values, bytes, marks, answer),
-        b't' => stepping::given(case, ints, file, desc, values, bytes, marks, answer),
+        b'E' | b'B' => encode(case, ints, desc, grand, marks, bytes, answer),
+        b'D' | b'C' => decode(case, file, marks, bytes, values, answer),
+        b'Y' | b'f' | b'b' | b't' => stepping::call(
+            case,
+            ints,
+            file,
+            desc,
+            values,
+            bytes,
+            marks,
+            answer,
+        ),
         _ => array(case, ints, file, desc, grand, bytes, values, answer),
     }
 }

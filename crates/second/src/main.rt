@@ -9,7 +9,7 @@ use libc::STDIN_FILENO;
 use libc::STDOUT_FILENO;
 ghost use Prim.Native.Nat.{_≤_};
 
-// More lines than are read, and more parts of the text.
+// More lines than are read.
 const MANY: usize = 1000000;
 
 // How many entries can be lent: those of N = 9; how many past the lent end are compared too; the entries of a table.
@@ -22,17 +22,35 @@ const ALL: usize = 262208;
 // The entries of the tables of DESC and GRAND, which have no more than a fourth as many; and the bytes of the text that are held at a time.
 const FEW: usize = 65600;
 
-// What became of a line.
+// What became of a line, and the letter of its case.
 enum Verdict {
-    Agrees,
-    Differs,
+    Remark,
     Malformed,
+    Differs(u8),
+    Agrees(u8),
 }
 
-// The lines of a text that were judged: the place behind them, and their number.
-struct Lines {
+// The lengths lent of a case's tables, and the place in the line behind them.
+struct Loan {
+    desc: usize,
+    grand: usize,
+    marks: usize,
+    bytes: usize,
+    values: usize,
     at: usize,
-    number: usize,
+}
+
+// The lengths of a case's arrays, and the place in the line behind them.
+struct Given {
+    ints: usize,
+    file: usize,
+    at: usize,
+}
+
+// The result of a call, and whether it and the answer are as expected.
+struct Made {
+    result: u32,
+    agrees: bool,
 }
 
 // How far a line was compared, and whether all was as expected.
@@ -41,12 +59,26 @@ struct Step {
     agrees: bool,
 }
 
+// A line in the window: its place, its end, which is that of all that is held where it has no newline, and how much is held.
+struct Line {
+    at: usize,
+    end: usize,
+    held: usize,
+}
+
 fn say(text: &[u8]) {
     io::write_all(STDOUT_FILENO, text);
 }
 
 fn say_number(x: usize) {
     io::print_decimal(STDOUT_FILENO, x as u64);
+}
+
+// A line that ends with a number, or the end of one.
+fn tell(what: &[u8], number: usize) {
+    say(what);
+    say_number(number);
+    say(b"\n");
 }
 
 // A length within a room.
@@ -69,67 +101,66 @@ fn past(lent: usize) -> usize {
     least(lent, MOST) + PAST
 }
 
-fn both(a: bool, b: bool) -> bool {
-    if a {
-        return b;
-    }
-    false
-}
-
-// Reads a case but for the tables afterwards: the numbers that go in, those expected, the lengths lent, the arrays that go in.
-fn read(
-    line: &[u8],
-    expected: &mut [u32],
-    list: &mut [u32],
-    ints: &mut [i32],
-    file: &mut [u8],
-) -> Case {
+// Reads a case: the numbers that go in, and those expected.
+fn read(line: &[u8], expected: &mut [u32; 16]) -> Case {
     let mut numbers = [0u32; 4];
-    let mut lengths = [0u32; 5];
     let first = text::list(line, 1, &mut numbers);
     let second = text::list(line, first.at, expected);
-    let third = text::list(line, second.at, &mut lengths);
-    let fourth = text::list(line, third.at, list);
-    tables::fill_ints(ints, fourth.count, list, fourth.count);
-    let fifth = text::list(line, fourth.at, list);
-    tables::fill_bytes(file, fifth.count, list, fifth.count);
     Case {
         letter: text::byte_at(line, 0),
         a: numbers[0],
         b: numbers[1],
         c: numbers[2],
         d: numbers[3],
-        ints: fourth.count,
-        file: fifth.count,
+        at: second.at,
+    }
+}
+
+// Reads the lengths that are lent.
+fn lengths(line: &[u8], at: usize) -> Loan {
+    let mut lengths = [0u32; 5];
+    let next = text::list(line, at, &mut lengths);
+    Loan {
         desc: lent(lengths[0]),
         grand: lent(lengths[1]),
         marks: lent(lengths[2]),
         bytes: lent(lengths[3]),
         values: lent(lengths[4]),
-        at: fifth.at,
+        at: next.at,
     }
 }
 
-// Gives the tables of a case what they hold before a call, past their lent ends too.
-fn prepare(
-    case: Case,
-    list: &[u32],
-    desc: &mut [u32],
-    grand: &mut [u32],
-    marks: &mut [u8],
-    bytes: &mut [u8],
-    values: &mut [i32],
-) {
-    tables::fill_words(desc, past(case.desc), list, 0);
-    tables::fill_words(grand, past(case.grand), list, 0);
-    tables::fill_bytes(marks, past(case.marks), list, 0);
-    tables::fill_bytes(bytes, past(case.bytes), list, 0);
-    tables::fill_ints(values, past(case.values), list, 0);
+// Reads the arrays that go in.
+fn arrays(
+    line: &[u8],
+    at: usize,
+    list: &mut [u32; ALL],
+    coefs: &mut [i32; ALL],
+    file: &mut [u8; ALL],
+) -> Given {
+    let first = text::list(line, at, list);
+    tables::fill_ints(coefs, first.count, list, first.count);
+    let second = text::list(line, first.at, list);
+    tables::fill_bytes(file, second.count, list, second.count);
+    Given {
+        ints: first.count,
+        file: second.count,
+        at: second.at,
+    }
+}
+
+// Whether the result of a call and its answer are the numbers that are expected.
+fn answers(result: u32, answer: &mut [u32; 15], expected: &[u32; 16]) -> bool {
+    let numbers = &expected[..];
+    tables::words_held(answer, 15, &numbers[1..], 15, result == expected[0])
 }
 
 // Makes the call of a case, with as much of each array and table as it says.
 fn make(
     case: Case,
+    given: Given,
+    lent: Loan,
+    expected: &[u32; 16],
     ints: &[i32],
     file: &[u8],
     desc: &mut [u32],
@@ -137,16 +168,17 @@ fn make(
     marks: &mut [u8],
     bytes: &mut [u8],
     values: &mut [i32],
-    answer: &mut [u32; 15],
-) -> u32 {
-    let a = least(case.ints, ints.len());
-    let b = least(case.file, file.len());
-    let c = least(case.desc, desc.len());
-    let d = least(case.grand, grand.len());
-    let e = least(case.marks, marks.len());
-    let f = least(case.bytes, bytes.len());
-    let g = least(case.values, values.len());
-    calls::call(
+) -> Made {
+    let mut answer = [0u32; 15];
+    tables::fill_words(&mut answer, 15, expected, 0);
+    let a = least(given.ints, ints.len());
+    let b = least(given.file, file.len());
+    let c = least(lent.desc, desc.len());
+    let d = least(lent.grand, grand.len());
+    let e = least(lent.marks, marks.len());
+    let f = least(lent.bytes, bytes.len());
+    let g = least(lent.values, values.len());
+    let result = calls::call(
         case,
         &ints[..a],
         &file[..b],
@@ -155,74 +187,64 @@ fn make(
         &mut marks[..e],
         &mut bytes[..f],
         &mut values[..g],
-        answer,
-    )
+        &mut answer,
+    );
+    Made {
+        result,
+        agrees: answers(result, &mut answer, expected),
+    }
 }
 
-// Whether the result of a call and its answer are the numbers that are expected.
-fn answers(result: u32, answer: &[u32; 15], expected: &[u32; 16]) -> bool {
-    if result != expected[0] {
-        return false;
-    }
-    let mut i = 0;
-    while i < 15 {
-        if answer[i] != expected[i + 1] {
-            return false;
-        }
-        i += 1;
-    }
-    true
-}
-
-// One more list, against a table that was lent.
-fn words(line: &[u8], from: Step, table: &[u32], lent: usize, list: &mut [u32]) -> Step {
+// One more list, against a table that was lent, which then holds what it held before the call.
+fn words(line: &[u8], from: Step, table: &mut [u32], lent: usize, list: &mut [u32]) -> Step {
     let next = text::list(line, from.at, list);
-    let holds = tables::words_hold(table, past(lent), list, next.count);
     Step {
         at: next.at,
-        agrees: both(from.agrees, holds),
+        agrees: tables::words_held(table, past(lent), list, next.count, from.agrees),
     }
 }
 
-fn bytes(line: &[u8], from: Step, table: &[u8], lent: usize, list: &mut [u32]) -> Step {
+fn bytes(line: &[u8], from: Step, table: &mut [u8], lent: usize, list: &mut [u32]) -> Step {
     let next = text::list(line, from.at, list);
-    let holds = tables::bytes_hold(table, past(lent), list, next.count);
     Step {
         at: next.at,
-        agrees: both(from.agrees, holds),
+        agrees: tables::bytes_held(table, past(lent), list, next.count, from.agrees),
     }
 }
 
-fn ints(line: &[u8], from: Step, table: &[i32], lent: usize, list: &mut [u32]) -> Step {
+fn ints(line: &[u8], from: Step, table: &mut [i32], lent: usize, list: &mut [u32]) -> Step {
     let next = text::list(line, from.at, list);
-    let holds = tables::ints_hold(table, past(lent), list, next.count);
     Step {
         at: next.at,
-        agrees: both(from.agrees, holds),
+        agrees: tables::ints_held(table, past(lent), list, next.count, from.agrees),
     }
 }
 
-// Every list that is left of a line, against the tables after the call.
+// Every list that is left of a line, against the tables after the call, which are then as before it.
 fn compare(
     line: &[u8],
-    case: Case,
+    lent: Loan,
     from: Step,
-    list: &mut [u32],
-    desc: &[u32],
-    grand: &[u32],
-    marks: &[u8],
-    places: &[u8],
-    values: &[i32],
+    list: &mut [u32; ALL],
+    desc: &mut [u32; FEW],
+    grand: &mut [u32; FEW],
+    marks: &mut [u8; ALL],
+    places: &mut [u8; ALL],
+    values: &mut [i32; ALL],
 ) -> Step {
-    let first = words(line, from, desc, case.desc, list);
-    let second = words(line, first, grand, case.grand, list);
-    let third = bytes(line, second, marks, case.marks, list);
-    let fourth = bytes(line, third, places, case.bytes, list);
-    ints(line, fourth, values, case.values, list)
+    let first = words(line, from, desc, lent.desc, list);
+    let second = words(line, first, grand, lent.grand, list);
+    let third = bytes(line, second, marks, lent.marks, list);
+    let fourth = bytes(line, third, places, lent.bytes, list);
+    ints(line, fourth, values, lent.values, list)
 }
 
-// What became of a case that was compared up to some place.
+// What became of a line that was compared up to some place.
 fn judged(line: &[u8], result: u32, last: Step) -> Verdict {
+    let letter = text::byte_at(line, 0);
+    if letter == b'#' {
+        return Verdict::Remark;
+    }
     if last.at != line.len() {
         return Verdict::Malformed;
     }
@@ -230,9 +252,9 @@ fn judged(line: &[u8], result: u32, last: Step) -> Verdict {
         return Verdict::Malformed;
     }
     if last.agrees {
-        return Verdict::Agrees;
+        return Verdict::Agrees(letter);
     }
-    Verdict::Differs
+    Verdict::Differs(letter)
 }
 
 // One more.
@@ -245,58 +267,46 @@ fn count(counts: &mut [usize; 512], k: usize) {
     }
 }
 
-// Tells of a line.
-fn tell(what: &[u8], number: usize) {
-    say(what);
-    say(b" line ");
-    say_number(number);
-    say(b"\n");
-}
-
 // Counts a line: the cases of each letter, behind them those that agree, and malformed lines at 0.
-fn tally(counts: &mut [usize; 512], letter: u8, became: Verdict, number: usize) {
-    let k = letter as usize;
+fn tally(counts: &mut [usize; 512], became: Verdict, number: usize) {
     match became {
-        Verdict::Agrees => {
-            count(counts, k);
-            count(counts, 256 + k);
-        }
-        Verdict::Differs => {
-            count(counts, k);
-            tell(b"differs", number);
-        }
+        Verdict::Remark => {}
         Verdict::Malformed => {
             count(counts, 0);
-            tell(b"malformed", number);
+            tell(b"malformed line ", number);
+        }
+        Verdict::Differs(letter) => {
+            count(counts, letter as usize);
+            tell(b"differs line ", number);
+        }
+        Verdict::Agrees(letter) => {
+            count(counts, letter as usize);
+            count(counts, 256 + letter as usize);
         }
     }
 }
 
-// One line.
+// One line. A remark's letter has no call, so it changes nothing. Before the line and after it the tables hold what they hold before a call.
 fn one(
     line: &[u8],
-    number: usize,
-    counts: &mut [usize; 512],
-    list: &mut [u32],
-    coefs: &mut [i32],
-    file: &mut [u8],
-    desc: &mut [u32],
-    grand: &mut [u32],
-    marks: &mut [u8],
-    places: &mut [u8],
-    values: &mut [i32],
-) {
-    let letter = text::byte_at(line, 0);
-    if letter == b'#' {
-        return;
-    }
+    list: &mut [u32; ALL],
+    coefs: &mut [i32; ALL],
+    file: &mut [u8; ALL],
+    desc: &mut [u32; FEW],
+    grand: &mut [u32; FEW],
+    marks: &mut [u8; ALL],
+    places: &mut [u8; ALL],
+    values: &mut [i32; ALL],
+) -> Verdict {
     let mut expected = [0u32; 16];
-    let mut answer = [0u32; 15];
-    let case = read(line, &mut expected, list, coefs, file);
-    tables::fill_words(&mut answer, 15, list, 0);
-    prepare(case, list, desc, grand, marks, places, values);
-    let result = make(
+    let case = read(line, &mut expected);
+    let lent = lengths(line, case.at);
+    let given = arrays(line, lent.at, list, coefs, file);
+    let made = make(
         case,
+        given,
+        lent,
+        &expected,
         coefs,
         file,
         desc,
@@ -304,58 +314,13 @@ fn one(
         marks,
         places,
         values,
-        &mut answer,
     );
     let from = Step {
-        at: case.at,
-        agrees: answers(result, &answer, &expected),
+        at: given.at,
+        agrees: made.agrees,
     };
-    let last = compare(line, case, from, list, desc, grand, marks, places, values);
-    tally(counts, letter, judged(line, result, last), number);
-}
-
-// Every line of a text that has its newline; lines are numbered from 1, and some stood before.
-fn lines_of(
-    text: &[u8],
-    before: usize,
-    counts: &mut [usize; 512],
-    list: &mut [u32],
-    coefs: &mut [i32],
-    file: &mut [u8],
-    desc: &mut [u32],
-    grand: &mut [u32],
-    marks: &mut [u8],
-    places: &mut [u8],
-    values: &mut [i32],
-) -> Lines {
-    let mut at = 0;
-    let mut number = before;
-    while at < text.len() {
-        let end = text::line_end(text, at);
-        if end == text.len() {
-            return Lines { at, number };
-        }
-        if MANY <= number {
-            return Lines { at, number };
-        }
-        let next = end + 1;
-        number += 1;
-        one(
-            &text[at..end],
-            number,
-            counts,
-            list,
-            coefs,
-            file,
-            desc,
-            grand,
-            marks,
-            places,
-            values,
-        );
-        at = next;
-    }
-    Lines { at, number }
+    let last = compare(line, lent, from, list, desc, grand, marks, places, values);
+    judged(line, made.result, last)
 }
 
 // Drops what stands before a place of the text held, and reads on behind the rest. The answer is what is held then.
@@ -385,30 +350,47 @@ fn shift(window: &mut [u8], from: usize) {
     }
 }
 
-// Every line that is read, a window of the text at a time.
+// The next line, from a place on. Where no newline stands there, more is read first.
+fn next(window: &mut [u8], at: usize, held: usize) -> Line {
+    let end = text::line_end(window, at, held);
+    if end < held {
+        return Line { at, end, held };
+    }
+    let more = refill(window, at, held);
+    Line {
+        at: 0,
+        end: text::line_end(window, 0, more),
+        held: more,
+    }
+}
+
+// Every line that is read. Lines are numbered from 1.
 fn run(
     window: &mut [u8],
     counts: &mut [usize; 512],
-    list: &mut [u32],
-    coefs: &mut [i32],
-    file: &mut [u8],
-    desc: &mut [u32],
-    grand: &mut [u32],
-    marks: &mut [u8],
-    places: &mut [u8],
-    values: &mut [i32],
+    list: &mut [u32; ALL],
+    coefs: &mut [i32; ALL],
+    file: &mut [u8; ALL],
+    desc: &mut [u32; FEW],
+    grand: &mut [u32; FEW],
+    marks: &mut [u8; ALL],
+    places: &mut [u8; ALL],
+    values: &mut [i32; ALL],
 ) {
     let mut at = 0;
     let mut held = 0;
     let mut number = 0;
-    let mut turns = 0;
-    while turns < MANY {
-        turns += 1;
-        held = least(refill(window, at, held), window.len());
-        let done = lines_of(
-            &window[..held],
-            number,
-            counts,
+    while number < MANY {
+        number += 1;
+        let line = next(window, at, held);
+        held = line.held;
+        let end = least(line.end, window.len());
+        if end == held {
+            return;
+        }
+        let start = least(line.at, end);
+        let became = one(
+            &window[start..end],
             list,
             coefs,
             file,
@@ -418,11 +400,8 @@ fn run(
             places,
             values,
         );
-        at = done.at;
-        if at == 0 {
-            return;
-        }
-        number = done.number;
+        tally(counts, became, number);
+        at = end + 1;
     }
 }
 
@@ -436,9 +415,7 @@ fn say_kind(letter: u8, counts: &[usize; 512]) {
     say(&name);
     say(b" ");
     say_number(counts[k]);
-    say(b" agree ");
-    say_number(counts[256 + k]);
-    say(b"\n");
+    tell(b" agree ", counts[256 + k]);
 }
 
 fn say_counts(counts: &[usize; 512]) {
@@ -447,9 +424,7 @@ fn say_counts(counts: &[usize; 512]) {
         say_kind(letter, counts);
         letter += 1;
     }
-    say(b"malformed ");
-    say_number(counts[0]);
-    say(b"\n");
+    tell(b"malformed ", counts[0]);
 }
 
 fn main() {
@@ -463,6 +438,28 @@ fn main() {
     let mut marks = [0u8; ALL];
     let mut places = [0u8; ALL];
     let mut values = [0i32; ALL];
+    // As after a case that was lent all: each table is given what it holds before a call.
+    compare(
+        b"",
+        Loan {
+            desc: MOST,
+            grand: MOST,
+            marks: MOST,
+            bytes: MOST,
+            values: MOST,
+            at: 0,
+        },
+        Step {
+            at: 0,
+            agrees: false,
+        },
+        &mut list,
+        &mut desc,
+        &mut grand,
+        &mut marks,
+        &mut places,
+        &mut values,
+    );
     run(
         &mut window,
         &mut counts,

@@ -1,4 +1,4 @@
-// The calls of the stepped decoder. Each is made on a record that is taken from the table of DESC and put there again.
+// The calls of the stepped decoder.
 use crate::calls::Case;
 use crate::tables;
 
@@ -13,8 +13,9 @@ const EVERY: usize = 18446744073709551615;
 // The result where a step has an answer that it may not have: no refusal's number.
 const BROKEN: u32 = 98;
 
-// One command of a dial: a step forward, a step back, or a turn.
-fn command(
+// A call by its letter: a step forward, a step back, or a turn.
+fn step(
+    letter: u8,
     to: u32,
     record: &mut [u32; 8],
     body: &[u8],
@@ -24,17 +25,24 @@ fn command(
     marks: &mut [u8],
     answer: &mut [u32; 15],
 ) -> u32 {
-    if to == FORWARD {
-        return ctxp::txp_forward(record, body, usable, values, precisions, marks, answer);
+    match letter {
+        b'f' => ctxp::txp_forward(record, body, usable, values, precisions, marks, answer),
+        b'b' => ctxp::txp_back(record, body, usable, values, precisions, marks, answer),
+        _ => ctxp::txp_turn(record, body, usable, to, values, precisions, marks, answer),
     }
-    if to == BACK {
-        return ctxp::txp_back(record, body, usable, values, precisions, marks, answer);
-    }
-    ctxp::txp_turn(record, body, usable, to, values, precisions, marks, answer)
 }
 
-// A start, and then each command. The answer is that of the last call.
-fn walk(
+// The letter of a dial's command.
+fn letter_of(to: u32) -> u8 {
+    match to {
+        FORWARD => b'f',
+        BACK => b'b',
+        _ => b't',
+    }
+}
+
+// A dial: a start, and then each command. The answer is that of the last call.
+fn dial(
     case: Case,
     commands: &[i32],
     record: &mut [u32; 8],
@@ -59,42 +67,32 @@ fn walk(
     while i < commands.len() {
         let to = tables::word(commands[i]);
         i += 1;
-        result = command(to, record, body, usable, values, precisions, marks, answer);
+        result = step(
+            letter_of(to),
+            to,
+            record,
+            body,
+            usable,
+            values,
+            precisions,
+            marks,
+            answer,
+        );
     }
     result
 }
 
-// A dial: a start, and then each command.
-pub fn dial(
-    case: Case,
-    commands: &[i32],
-    body: &[u8],
-    desc: &mut [u32],
-    values: &mut [i32],
-    precisions: &mut [u8],
-    marks: &mut [u8],
-    answer: &mut [u32; 15],
-) -> u32 {
-    let mut record = [0u32; 8];
-    let held = desc.len();
-    tables::fill_words(&mut record, 8, desc, held);
-    let result = walk(
-        case,
-        commands,
-        &mut record,
-        body,
-        values,
-        precisions,
-        marks,
-        answer,
-    );
-    tables::put_record(desc, &record);
-    result
+// The first number of the record that is given with the first n entries of each table: with every entry the whole record is, with none nothing of it, and else all but its sizes.
+fn first_given(n: usize) -> usize {
+    match n {
+        EVERY => 0,
+        0 => 8,
+        _ => 3,
+    }
 }
 
-// Gives a record, from one of its numbers on, and the first n entries of each table what stands for them: the record, and then all that is lent of values, precisions and marks.
+// Gives a record and the first n entries of each table what stands for them: the record, and then all that is lent of values, precisions and marks.
 fn give(
-    from: usize,
     n: usize,
     ints: &[i32],
     record: &mut [u32; 8],
@@ -102,30 +100,13 @@ fn give(
     precisions: &mut [u8],
     marks: &mut [u8],
 ) {
-    tables::give_record(record, from, ints);
-    let second = tables::give_ints(values, n, ints, 8);
-    let third = tables::give_bytes(precisions, n, ints, second);
-    tables::give_bytes(marks, n, ints, third);
-}
-
-// The call of a letter.
-fn step(
-    case: Case,
-    record: &mut [u32; 8],
-    body: &[u8],
-    values: &mut [i32],
-    precisions: &mut [u8],
-    marks: &mut [u8],
-    answer: &mut [u32; 15],
-) -> u32 {
-    let usable = case.a;
-    let to = case.b;
-    let letter = case.letter;
-    match letter {
-        b'f' => ctxp::txp_forward(record, body, usable, values, precisions, marks, answer),
-        b'b' => ctxp::txp_back(record, body, usable, values, precisions, marks, answer),
-        _ => ctxp::txp_turn(record, body, usable, to, values, precisions, marks, answer),
-    }
+    tables::give_record(record, first_given(n), ints);
+    let second = tables::behind(ints, 8);
+    tables::give_ints(values, n, second);
+    let third = tables::behind(second, values.len());
+    tables::give_bytes(precisions, n, third);
+    let fourth = tables::behind(third, precisions.len());
+    tables::give_bytes(marks, n, fourth);
 }
 
 // Whether a call may have changed its tables: a step that is done, and any turn.
@@ -136,22 +117,12 @@ fn moved(letter: u8, result: u32) -> bool {
     letter == b't'
 }
 
-// Gives again what a call may have changed, where no prefix leaves the tables of its case.
-fn give_again(
-    case: Case,
-    result: u32,
-    ints: &[i32],
-    record: &mut [u32; 8],
-    values: &mut [i32],
-    precisions: &mut [u8],
-    marks: &mut [u8],
-) {
-    if case.c == 0 {
-        return;
-    }
+// How many entries a call may have changed and are given again: none where a prefix leaves the tables of its case.
+fn given_again(case: Case, result: u32) -> usize {
     if moved(case.letter, result) {
-        give(3, case.c as usize, ints, record, values, precisions, marks);
+        return case.c as usize;
     }
+    0
 }
 
 // Whether a step on a record in range, and on tables that are long enough, may have this result.
@@ -181,7 +152,58 @@ fn compared(own: u32, result: u32, answer: &mut [u32; 15]) -> u32 {
 }
 
 // A step or a turn on a record and tables that are given.
-pub fn given(
+fn given(
+    case: Case,
+    ints: &[i32],
+    record: &mut [u32; 8],
+    body: &[u8],
+    values: &mut [i32],
+    precisions: &mut [u8],
+    marks: &mut [u8],
+    answer: &mut [u32; 15],
+) -> u32 {
+    give(EVERY, ints, record, values, precisions, marks);
+    let result = step(
+        case.letter,
+        case.b,
+        record,
+        body,
+        case.a,
+        values,
+        precisions,
+        marks,
+        answer,
+    );
+    give(
+        given_again(case, result),
+        ints,
+        record,
+        values,
+        precisions,
+        marks,
+    );
+    compared(case.c, result, answer)
+}
+
+// The calls of a case on a record.
+fn calls(
+    case: Case,
+    ints: &[i32],
+    record: &mut [u32; 8],
+    body: &[u8],
+    values: &mut [i32],
+    precisions: &mut [u8],
+    marks: &mut [u8],
+    answer: &mut [u32; 15],
+) -> u32 {
+    if case.letter == b'Y' {
+        return dial(case, ints, record, body, values, precisions, marks, answer);
+    }
+    given(case, ints, record, body, values, precisions, marks, answer)
+}
+
+// The calls of a case. The record is taken from the table of DESC, and put there again.
+pub fn call(
     case: Case,
     ints: &[i32],
     body: &[u8],
@@ -194,9 +216,16 @@ pub fn given(
     let mut record = [0u32; 8];
     let held = desc.len();
     tables::fill_words(&mut record, 8, desc, held);
-    give(0, EVERY, ints, &mut record, values, precisions, marks);
-    let result = step(case, &mut record, body, values, precisions, marks, answer);
-    give_again(case, result, ints, &mut record, values, precisions, marks);
+    let result = calls(
+        case,
+        ints,
+        &mut record,
+        body,
+        values,
+        precisions,
+        marks,
+        answer,
+    );
     tables::put_record(desc, &record);
-    compared(case.c, result, answer)
+    result
 }

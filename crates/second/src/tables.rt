@@ -15,6 +15,13 @@ fn wanted(list: &[u32], count: usize, i: usize) -> u32 {
     before(i)
 }
 
+fn both(a: bool, b: bool) -> bool {
+    if a {
+        return b;
+    }
+    false
+}
+
 fn byte(x: u32) -> u8 {
     (x % 256) as u8
 }
@@ -87,60 +94,45 @@ pub fn fill_ints(table: &mut [i32], n: usize, list: &[u32], count: usize) {
     }
 }
 
-// Whether the first n entries of a table hold a list's numbers, and those past the list what stood there before the call.
-pub fn bytes_hold(table: &[u8], n: usize, list: &[u32], count: usize) -> bool {
+// Whether all held so far, and the first n entries of a table hold a list's numbers, and those past the list what stood there before the call. They are given that again.
+pub fn bytes_held(table: &mut [u8], n: usize, list: &[u32], count: usize, so_far: bool) -> bool {
+    let mut held = so_far;
     let mut i = 0;
     while i < table.len() {
         if n <= i {
-            return true;
+            return held;
         }
-        if table[i] != byte(wanted(list, count, i)) {
-            return false;
-        }
+        held = both(held, table[i] == byte(wanted(list, count, i)));
+        table[i] = byte(before(i));
         i += 1;
-    }
-    true
-}
-
-pub fn words_hold(table: &[u32], n: usize, list: &[u32], count: usize) -> bool {
-    let mut i = 0;
-    while i < table.len() {
-        if n <= i {
-            return true;
-        }
-        if table[i] != wanted(list, count, i) {
-            return false;
-        }
-        i += 1;
-    }
-    true
-}
-
-pub fn ints_hold(table: &[i32], n: usize, list: &[u32], count: usize) -> bool {
-    let mut i = 0;
-    while i < table.len() {
-        if n <= i {
-            return true;
-        }
-        if table[i] != signed(wanted(list, count, i)) {
-            return false;
-        }
-        i += 1;
-    }
-    true
-}
-
-// A number for the entries below n, and for the others the one that they hold.
-fn byte_below(n: usize, i: usize, x: u8, held: u8) -> u8 {
-    if i < n {
-        return x;
     }
     held
 }
 
-fn int_below(n: usize, i: usize, x: i32, held: i32) -> i32 {
-    if i < n {
-        return x;
+pub fn words_held(table: &mut [u32], n: usize, list: &[u32], count: usize, so_far: bool) -> bool {
+    let mut held = so_far;
+    let mut i = 0;
+    while i < table.len() {
+        if n <= i {
+            return held;
+        }
+        held = both(held, table[i] == wanted(list, count, i));
+        table[i] = before(i);
+        i += 1;
+    }
+    held
+}
+
+pub fn ints_held(table: &mut [i32], n: usize, list: &[u32], count: usize, so_far: bool) -> bool {
+    let mut held = so_far;
+    let mut i = 0;
+    while i < table.len() {
+        if n <= i {
+            return held;
+        }
+        held = both(held, table[i] == signed(wanted(list, count, i)));
+        table[i] = signed(before(i));
+        i += 1;
     }
     held
 }
@@ -159,41 +151,42 @@ pub fn give_record(record: &mut [u32; 8], from: usize, ints: &[i32]) {
 
 // Puts a record into the first entries of a table.
 pub fn put_record(table: &mut [u32], record: &[u32; 8]) {
+    fill_words(table, 8, record, 8);
+}
+
+// What stands behind the first n numbers.
+pub fn behind(ints: &[i32], n: usize) -> &[i32] {
+    if n <= ints.len() {
+        return &ints[n..];
+    }
+    &ints[..0]
+}
+
+// Gives the first n entries of a table the numbers that stand at the same places.
+pub fn give_ints(table: &mut [i32], n: usize, ints: &[i32]) {
     let mut i = 0;
-    while i < 8 {
-        if table.len() <= i {
+    while i < table.len() {
+        if n <= i {
             return;
         }
-        table[i] = record[i];
+        if ints.len() <= i {
+            return;
+        }
+        table[i] = ints[i];
         i += 1;
     }
 }
 
-// Gives the first n entries of a table the numbers from a place on. The answer is the place behind those for all of its entries.
-pub fn give_ints(table: &mut [i32], n: usize, ints: &[i32], from: usize) -> usize {
+pub fn give_bytes(table: &mut [u8], n: usize, ints: &[i32]) {
     let mut i = 0;
-    let mut at = from;
     while i < table.len() {
-        if ints.len() <= at {
-            return at;
+        if n <= i {
+            return;
         }
-        table[i] = int_below(n, i, ints[at], table[i]);
-        i += 1;
-        at += 1;
-    }
-    at
-}
-
-pub fn give_bytes(table: &mut [u8], n: usize, ints: &[i32], from: usize) -> usize {
-    let mut i = 0;
-    let mut at = from;
-    while i < table.len() {
-        if ints.len() <= at {
-            return at;
+        if ints.len() <= i {
+            return;
         }
-        table[i] = byte_below(n, i, byte(word(ints[at])), table[i]);
+        table[i] = byte(word(ints[i]));
         i += 1;
-        at += 1;
     }
-    at
 }

@@ -1,6 +1,5 @@
 // The text of a line: the lists of a case. A place is where a byte stands in the line.
 ghost use Prim.Native.Nat.{_≤_};
-ghost use lib.ListN.{length};
 
 // A place in no line. What is read there is found nowhere, and so is all that follows.
 pub const NOWHERE: usize = 18446744073709551615;
@@ -232,17 +231,17 @@ pub fn list(line: &[u8], at: usize, table: &mut [u32]) -> Listed {
     Listed { count, at: i }
 }
 
-// The place of the first newline from a place on, or the end.
-pub(crate) fn line_end(text: &[u8], at: usize) -> usize
-    requires { ⌜ at ≤ length (now text) ⌝ }
-    ensures { λ r. ⌜ (at ≤ r) × (r ≤ length (now (text .entry))) ⌝ }
-{
+// The place of the first newline from a place on, or the end of what is held.
+pub fn line_end(text: &[u8], at: usize, held: usize) -> usize {
     let mut i = at;
     while i < text.len() {
+        if held <= i {
+            return held;
+        }
         if text[i] == 10 {
             return i;
         }
         i += 1;
     }
-    i
+    held
 }

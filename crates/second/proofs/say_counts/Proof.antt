@@ -4,10 +4,10 @@ use Rattle.second.proofs.say_counts.Statement.{statement}
 use Rattle.second.proofs.say_counts.Tie as tie
 
 abbrev Inv-loop : tie.InvT-loop
-Inv-loop counts letter₀ t3 t4 letter = letter ≤ 123
+Inv-loop counts letter₀ t3 letter = letter ≤ 123
 
 abbrev μ-loop : tie.MeasureT-loop
-μ-loop counts letter₀ t3 t4 letter = 123 - letter
+μ-loop counts letter₀ t3 letter = 123 - letter
 
 loop-holds : tie.Need-loop-holds Inv-loop μ-loop
 loop-holds c = search needs
@@ -24,23 +24,14 @@ loop-less c = search needs
 loop-again : tie.Need-loop-again Inv-loop μ-loop
 loop-again c = search needs
 
-slice-aggregate-say : tie.Need-slice-aggregate-say Inv-loop μ-loop
-slice-aggregate-say c = search needs
+slice-aggregate-tell : tie.Need-slice-aggregate-tell Inv-loop μ-loop
+slice-aggregate-tell c = search needs
 
-say-requires : tie.Need-say-requires Inv-loop μ-loop
-say-requires c κs = search needs
+element-copy-out-tell : tie.Need-element-copy-out-tell Inv-loop μ-loop
+element-copy-out-tell c = search needs
 
-element-copy-out-say-number : tie.Need-element-copy-out-say-number Inv-loop μ-loop
-element-copy-out-say-number c = search needs
-
-say-number-requires : tie.Need-say-number-requires Inv-loop μ-loop
-say-number-requires c κs = search needs
-
-slice-aggregate-say-2 : tie.Need-slice-aggregate-say-2 Inv-loop μ-loop
-slice-aggregate-say-2 c = search needs
-
-say-requires-2 : tie.Need-say-requires-2 Inv-loop μ-loop
-say-requires-2 c κs = search needs
+tell-requires : tie.Need-tell-requires Inv-loop μ-loop
+tell-requires c κs = search needs
 
 returns : tie.Need-returns Inv-loop μ-loop
 returns c = search needs
@@ -56,10 +47,7 @@ say-counts-spec =
     add-letter
     loop-less
     loop-again
-    slice-aggregate-say
-    say-requires
-    element-copy-out-say-number
-    say-number-requires
-    slice-aggregate-say-2
-    say-requires-2
+    slice-aggregate-tell
+    element-copy-out-tell
+    tell-requires
     returns)

@@ -7,10 +7,10 @@ use Rattle.second.proofs.tables.give_bytes.Statement.{statement}
 use Rattle.second.proofs.tables.give_bytes.Tie as tie
 
 abbrev Inv-loop : tie.InvT-loop
-Inv-loop table₀ n ints from i₀ at₀ table i at = (i ≤ length table₀) × (length table ≡ length table₀)
+Inv-loop table₀ n ints i₀ table i = (i ≤ length table₀) × (length table ≡ length table₀)
 
 abbrev μ-loop : tie.MeasureT-loop
-μ-loop table₀ n ints from i₀ at₀ table i at = length table₀ - i
+μ-loop table₀ n ints i₀ table i = length table₀ - i
 
 loop-holds : tie.Need-loop-holds Inv-loop μ-loop
 loop-holds c = search needs
@@ -20,6 +20,12 @@ same-length c = search needs
 
 returns : tie.Need-returns Inv-loop μ-loop
 returns c = search needs
+
+same-length-2 : tie.Need-same-length-2 Inv-loop μ-loop
+same-length-2 c = search needs
+
+returns-2 : tie.Need-returns-2 Inv-loop μ-loop
+returns-2 c = search needs
 
 mul-word : tie.Need-mul-word Inv-loop μ-loop
 mul-word c = search needs
@@ -33,20 +39,11 @@ word-requires c κs = search needs
 byte-requires : tie.Need-byte-requires Inv-loop μ-loop
 byte-requires c κs = search needs
 
-slice-read-byte-below : tie.Need-slice-read-byte-below Inv-loop μ-loop
-slice-read-byte-below c = search needs
-
-byte-below-requires : tie.Need-byte-below-requires Inv-loop μ-loop
-byte-below-requires c κs = search needs
-
 slice-write-table : tie.Need-slice-write-table Inv-loop μ-loop
 slice-write-table c = search needs
 
 add-i : tie.Need-add-i Inv-loop μ-loop
 add-i c = search needs
-
-add-at : tie.Need-add-at Inv-loop μ-loop
-add-at c = search needs
 
 loop-less : tie.Need-loop-less Inv-loop μ-loop
 loop-less c = omega arith
@@ -54,11 +51,11 @@ loop-less c = omega arith
 loop-again : tie.Need-loop-again Inv-loop μ-loop
 loop-again c = (omega arith, simp length-set (omega arith))
 
-same-length-2 : tie.Need-same-length-2 Inv-loop μ-loop
-same-length-2 c = search needs
+same-length-3 : tie.Need-same-length-3 Inv-loop μ-loop
+same-length-3 c = search needs
 
-returns-2 : tie.Need-returns-2 Inv-loop μ-loop
-returns-2 c = search needs
+returns-3 : tie.Need-returns-3 Inv-loop μ-loop
+returns-3 c = search needs
 
 pub give-bytes-spec : {M : Type 1} → statement M
 give-bytes-spec =
@@ -69,16 +66,15 @@ give-bytes-spec =
     loop-holds
     same-length
     returns
+    same-length-2
+    returns-2
     mul-word
     shared-slice-copy-out-word
     word-requires
     byte-requires
-    slice-read-byte-below
-    byte-below-requires
     slice-write-table
     add-i
-    add-at
     loop-less
     loop-again
-    same-length-2
-    returns-2)
+    same-length-3
+    returns-3)

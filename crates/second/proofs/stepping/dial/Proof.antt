@@ -2,8 +2,8 @@ use Prim.Native.Nat.{_-_, _≤_}
 use mathlib.Core.Path.{_≡_}
 use lib.ListN.{length}
 use borrow.Author.Needs.{needs}
-use Rattle.second.proofs.stepping.walk.Statement.{statement}
-use Rattle.second.proofs.stepping.walk.Tie as tie
+use Rattle.second.proofs.stepping.dial.Statement.{statement}
+use Rattle.second.proofs.stepping.dial.Tie as tie
 
 abbrev Inv-loop : tie.InvT-loop
 Inv-loop commands record₀ body values₀ precisions₀ marks₀ answer₀ usable result₀ i₀ «record» values precisions marks answer result i = (i ≤ length commands) × ((length values ≡ length values₀) × ((length precisions ≡ length precisions₀) × (length marks ≡ length marks₀)))
@@ -29,8 +29,11 @@ word-requires c κs = search needs
 add-i : tie.Need-add-i Inv-loop μ-loop
 add-i c = search needs
 
-command-requires : tie.Need-command-requires Inv-loop μ-loop
-command-requires c κs = search needs
+letter-of-requires : tie.Need-letter-of-requires Inv-loop μ-loop
+letter-of-requires c κs = search needs
+
+step-requires : tie.Need-step-requires Inv-loop μ-loop
+step-requires c κs = search needs
 
 loop-less : tie.Need-loop-less Inv-loop μ-loop
 loop-less c = search needs
@@ -50,8 +53,8 @@ same-length-3 c = search needs
 returns : tie.Need-returns Inv-loop μ-loop
 returns c = search needs
 
-pub walk-spec : {M : Type 1} → statement M
-walk-spec =
+pub dial-spec : {M : Type 1} → statement M
+dial-spec =
     tie.close
     (tie.spec
     Inv-loop
@@ -62,7 +65,8 @@ walk-spec =
     shared-slice-copy-out-word
     word-requires
     add-i
-    command-requires
+    letter-of-requires
+    step-requires
     loop-less
     loop-again
     same-length
