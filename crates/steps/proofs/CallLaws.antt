@@ -32,8 +32,8 @@ use Rattle.moves.specs.Stands.{standOf}
 use Rattle.moves.specs.Moves.{onward}
 use Rattle.moves.proofs.Laws.{state-stand}
 use Rattle.undo.specs.Back.{bigIn, back}
-use Rattle.steps.specs.Records.{recordOf, recordAfter, inRange, standIn, stateIn}
-use Rattle.steps.specs.Moved.{Step, step, stays, askedIn, heard, unheard, noted, movedTo, barred, raised, raisedTo, lowered, loweredTo}
+use Rattle.steps.specs.Records.{recordOf, recordAfter, inRange, standIn, stateIn, Step, step, stays}
+use Rattle.steps.specs.Moved.{askedIn, heard, unheard, noted, movedTo, barred, raised, raisedTo, lowered, loweredTo}
 use Rattle.steps.specs.Ready.{Ready, CallReady, Stood, forwardIn, backIn, ownSteps}
 use Rattle.steps.specs.Steps.{usableBits, recordChecks, ownOf, within, forwardTo, forwardOf, backTo, backOf, stepsOf, positionOf, turnTo, turnOf, Starts}
 use Rattle.steps.specs.declared.Record.{Record}

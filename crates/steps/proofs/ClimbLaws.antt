@@ -20,8 +20,8 @@ use Rattle.moves.proofs.Laws.{state-stand}
 use Rattle.reading.specs.Reading.{barsZero}
 use Rattle.decoder.specs.{Body.Tables, Body.tables, declared.body.ReadAnswer.ReadAnswer}
 use Rattle.steps.specs.declared.{Record.Record, Asked.Asked}
-use Rattle.steps.specs.Records.{recordAt, recordOf, inRange, standIn, stateIn}
-use Rattle.steps.specs.Moved.{askedIn, noted, heard, Step, step, stays, reached, movedTo, raisedTo, barred}
+use Rattle.steps.specs.Records.{recordAt, recordOf, inRange, standIn, stateIn, Step, step, stays}
+use Rattle.steps.specs.Moved.{askedIn, noted, heard, reached, movedTo, raisedTo, barred}
 use Rattle.steps.specs.Ready.{Stood, forwardIn}
 use Rattle.steps.specs.Steps.{stepsOf, positionOf}
 use Rattle.steps.proofs.RecordLaws.{range-sizes}

@@ -34,9 +34,9 @@ use Rattle.moves.specs.{Moves.onward, Stands.passNumber}
 use Rattle.moves.proofs.Laws.{told-next}
 use Rattle.undo.proofs.ByValues.{back-by-values}
 use Rattle.decoder.specs.{Body.Tables, Body.tables, Body.readAnswer, Body.ownTables, Finishing.joinedOr0}
-use Rattle.steps.specs.Records.{recordAt, recordOf, recordAfter}
+use Rattle.steps.specs.Records.{recordAt, recordOf, recordAfter, step}
 use Rattle.steps.specs.declared.Record.{Record}
-use Rattle.steps.specs.Moved.{kindOf, askedIn, noted, foundIn, finer, coarser, heard, unheard, step, reached, raisedTo, loweredTo, lowered}
+use Rattle.steps.specs.Moved.{kindOf, askedIn, noted, foundIn, finer, coarser, heard, unheard, reached, raisedTo, loweredTo, lowered}
 
 -- ---- one value
 

@@ -15,7 +15,7 @@ use Rattle.decoder.specs.Body.{readAnswer, Tables, ownTables, over, Reads}
 use Rattle.decoder.specs.declared.body.ReadAnswer.{ReadAnswer}
 use Rattle.decoder.specs.declared.body.ReadAnswer.the-variants as decode
 use Rattle.decoder.specs.declared.body.ReadTo.{ReadTo}
-use Rattle.steps.specs.Moved.{Step, step}
+use Rattle.steps.specs.Records.{Step, step}
 use Rattle.steps.specs.Steps.{usableBits, forwardOf, backOf, turnOf, Reached, Follows, TurnsTo, Starts}
 use Rattle.steps.specs.declared.Record.{Record}
 use Rattle.steps.proofs.Good.{Good, body-bits, good-of, good-reached, good-at, start-good}

@@ -21,8 +21,8 @@ use Rattle.undo.specs.Back.{bigIn, back}
 use Rattle.undo.specs.Undoing.{tableFits, standFits, backFits}
 use Rattle.decoder.specs.Body.{tables}
 use Rattle.steps.specs.declared.Record.{Record}
-use Rattle.steps.specs.Records.{recordAt, recordOf, inRange, standIn}
-use Rattle.steps.specs.Moved.{Step, askedIn, noted, unheard, step, stays, movedTo, lowered}
+use Rattle.steps.specs.Records.{recordAt, recordOf, inRange, standIn, Step, step, stays}
+use Rattle.steps.specs.Moved.{askedIn, noted, unheard, movedTo, lowered}
 use Rattle.steps.specs.Steps.{stepsOf, positionOf}
 use Rattle.steps.specs.Ready.{Stood, backIn}
 use Rattle.steps.proofs.RecordLaws.{range-sizes}

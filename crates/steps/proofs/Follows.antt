@@ -5,7 +5,7 @@ use mathlib.Core.List.{List}
 use native.Mathlib.Omega.{arith}
 use Rattle.decoder.specs.Body.{Tables, Reads}
 use Rattle.decoder.specs.declared.body.ReadAnswer.{ReadAnswer}
-use Rattle.steps.specs.Moved.{Step, step}
+use Rattle.steps.specs.Records.{Step, step}
 use Rattle.steps.specs.Steps.{usableBits, forwardOf, backOf, turnOf, Reached, Follows, TurnsTo, Forwards, Backs, Turns}
 use Rattle.steps.specs.declared.Record.{Record}
 use Rattle.steps.proofs.Good.{good-of}

@@ -11,8 +11,7 @@ use Rattle.decoder.specs.Body.{Tables, ReadsTo, Reads}
 use Rattle.decoder.specs.declared.body.ReadAnswer.{ReadAnswer}
 use Rattle.decoder.specs.declared.body.ReadAnswer.the-variants as decode
 use Rattle.decoder.proofs.Decided.{reads-one}
-use Rattle.steps.specs.Records.{recordAfter}
-use Rattle.steps.specs.Moved.{Step, step}
+use Rattle.steps.specs.Records.{recordAfter, Step, step}
 use Rattle.steps.specs.Steps.{Starts, Forwards, Backs, Turns}
 use Rattle.steps.specs.declared.Record.{Record}
 

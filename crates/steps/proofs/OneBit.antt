@@ -28,8 +28,8 @@ use Rattle.decoder.specs.declared.body.ReadAnswer.{ReadAnswer}
 use Rattle.decoder.proofs.Decided.{reads-one}
 use Rattle.reading.proofs.NextBit.{barsNext, next-beyond, next-taken, next-barred}
 use Rattle.reading.proofs.Received.{bits-more}
-use Rattle.steps.specs.Records.{recordAfter, stateIn}
-use Rattle.steps.specs.Moved.{Step, step, stays, barred, raisedTo, raised, lowered}
+use Rattle.steps.specs.Records.{recordAfter, stateIn, Step, step, stays}
+use Rattle.steps.specs.Moved.{barred, raisedTo, raised, lowered}
 use Rattle.steps.specs.Steps.{usableBits, recordChecks, forwardChecks, backChecks, ownOf, within, forwardTo, forwardOf, backTo, backOf, FollowsTo, Follows}
 use Rattle.steps.specs.declared.Record.{Record}
 use Rattle.steps.proofs.CallLaws.{checks-done, forward-at-end}

@@ -25,8 +25,8 @@ use Rattle.decoder.specs.declared.body.ReadAnswer.{ReadAnswer}
 use Rattle.decoder.specs.declared.body.ReadAnswer.the-variants as decode
 use Rattle.decoder.specs.declared.body.ReadTo.{ReadTo}
 use Rattle.decoder.proofs.Decided.{reads-one}
-use Rattle.steps.specs.Records.{recordAfter, standIn}
-use Rattle.steps.specs.Moved.{Step, step, reached}
+use Rattle.steps.specs.Records.{recordAfter, standIn, Step, step}
+use Rattle.steps.specs.Moved.{reached}
 use Rattle.steps.specs.Steps.{usableBits, forwardOf, backOf, stepsOf, positionOf, turnTo, turnOf, TurnsTo}
 use Rattle.steps.specs.declared.Record.{Record}
 use Rattle.steps.proofs.Good.{Good, body-bits, reads-judged, good-planes, good-used, good-state, good-at}

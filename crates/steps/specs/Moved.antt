@@ -1,10 +1,10 @@
--- What a step leaves, in any tables: words of the contracts of steps. Of these the promise in the words of decoding uses `Step`, `step` and
--- `stays` alone. That the others are what decoding one bit more or one bit fewer leaves is `forward-follows` and `back-follows` of
+-- What a step leaves, in any tables: words of inner contracts, and of the field `decided` of a step's contract, which the promise in the
+-- words of decoding does not use. That they are what decoding one bit more or one bit fewer leaves is `forward-follows` and `back-follows` of
 -- proofs/Demands.antt.
 use Prim.Native.Nat.{ℕ, _+_, _-_, _*_, _/_, _^_}
 use mathlib.Core.{Bool.Bool, Bool.not, Bool._&&_, Bool.cond, Option.Option, Option.none, Option.some, List.List}
 use lib.{Dec.eqb, IntN.ℤ, IntN.pos, ListN.set}
-use Rattle.refusals.specs.declared.Refusal.{Refusal, the-variants.Contradiction, the-variants.Beyond}
+use Rattle.refusals.specs.declared.Refusal.the-variants.{Contradiction, Beyond}
 use Rattle.sizes.specs.Sizes.{allOf, coarsestOf}
 use Rattle.coef.specs.Coef.{at, magnitude, negative}
 use Rattle.tree.specs.Tree.{desc, grand}
@@ -14,7 +14,7 @@ use Rattle.undo.specs.Back.{bigIn, back}
 use Rattle.reading.specs.Reading.{barsZero}
 use Rattle.decoder.specs.{Body.Tables, Body.tables, Finishing.joinedOr0, declared.body.ReadAnswer.ReadAnswer}
 use Rattle.decoder.specs.declared.body.ReadAnswer.the-variants as decode
-use Rattle.steps.specs.{Records.recordOf, declared.Record.Record, declared.Asked.Asked}
+use Rattle.steps.specs.{Records.recordOf, Records.Step, Records.step, Records.stays, declared.Record.Record, declared.Asked.Asked}
 use Rattle.steps.specs.declared.Asked.the-variants as asked
 
 -- What is asked in a state: nothing, a sign, the bit of a coefficient that is not found, a refinement bit, a DESC or a GRAND.
@@ -66,19 +66,6 @@ unheard asked.More i l v = set v i (coarser l (at v i))
 unheard asked.Bit i l v = v
 unheard asked.Desc i l v = v
 unheard asked.Grand i l v = v
-
--- what a step leaves: its answer, the record and the tables
-pub record Step : Type 0 where
-  pub answer : ReadAnswer
-  pub dial : Record
-  pub held : Tables
-
-abbrev pub step : ReadAnswer → Record → Tables → Step
-step answer dial held = record { answer = answer; dial = dial; held = held }
-
--- a refusal, which changes nothing
-abbrev pub stays : Refusal → Record → Tables → Step
-stays why dial held = step (decode.Refused why) dial held
 
 -- "planes finished and the worst error", where `left` planes are not finished
 abbrev pub reached : ℕ → ℕ → ℕ → ReadAnswer

@@ -7,7 +7,7 @@ use Rattle.sizes.specs.Sizes.{allOf}
 use Rattle.bits.specs.Bits.{bitAt}
 use Rattle.moves.specs.{Stands.stand, declared.Stand.Stand}
 use Rattle.decoder.specs.Body.{Tables}
-use Rattle.steps.specs.{Records.inRange, Records.stateIn, Moved.Step, Moved.step, Moved.stays, Moved.raised, Moved.lowered, Steps.ownOf, Steps.within, Steps.stepsOf, Steps.positionOf, declared.Record.Record}
+use Rattle.steps.specs.{Records.inRange, Records.stateIn, Records.Step, Records.step, Records.stays, Moved.raised, Moved.lowered, Steps.ownOf, Steps.within, Steps.stepsOf, Steps.positionOf, declared.Record.Record}
 
 -- a record in range, and tables of I entries, by their lengths
 pub record Ready (r : Record) (values precisions marks : ℕ) : Type 0 where

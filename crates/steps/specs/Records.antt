@@ -2,10 +2,13 @@
 use Prim.Native.Nat.{ℕ, _+_, _-_}
 use mathlib.Core.{Bool.Bool, Bool.false, Bool.cond, Bool._&&_, Bool._||_, List.List}
 use lib.{Dec.ltb, Dec.leb, Dec.eqb, ListN.length}
+use Rattle.refusals.specs.declared.Refusal.{Refusal}
 use Rattle.sizes.specs.Sizes.{allOf, sideFits, levelsFit, mostPlanes}
 use Rattle.bits.specs.Bits.{digit}
 use Rattle.nls.specs.{Scan.State, Stream.after}
 use Rattle.moves.specs.{Stands.passNumber, Stands.stand, Stands.stateOf, declared.Stand.Stand}
+use Rattle.decoder.specs.{Body.Tables, declared.body.ReadAnswer.ReadAnswer}
+use Rattle.decoder.specs.declared.body.ReadAnswer.the-variants as decode
 use Rattle.steps.specs.declared.Record.{Record}
 
 -- "a small scan record (N, L, P, plane, pass, place, bits used, a pending sign)"; the passes are 0, 1 and 2
@@ -39,3 +42,16 @@ standIn r = cond (isEnd r) (stand 0 0 0 false) (stand (r .plane + 1) (r .pass) (
 
 abbrev pub stateIn : Record → List ℕ → State
 stateIn r m = stateOf (standIn r) m
+
+-- what a step leaves: its answer, the record and the tables
+pub record Step : Type 0 where
+  pub answer : ReadAnswer
+  pub dial : Record
+  pub held : Tables
+
+abbrev pub step : ReadAnswer → Record → Tables → Step
+step answer dial held = record { answer = answer; dial = dial; held = held }
+
+-- a refusal, which changes nothing
+abbrev pub stays : Refusal → Record → Tables → Step
+stays why dial held = step (decode.Refused why) dial held

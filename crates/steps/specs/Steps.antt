@@ -11,7 +11,7 @@ use Rattle.room.specs.Room.{tableChecks, readChecks, bodyBits}
 use Rattle.nls.specs.Judging.{taken}
 use Rattle.decoder.specs.{Body.readAnswer, Body.Tables, Body.tables, Body.over, Body.ReadsTo, Body.Reads, declared.body.ReadAnswer.ReadAnswer}
 use Rattle.decoder.specs.declared.body.ReadAnswer.the-variants as decode
-use Rattle.steps.specs.{Records.recordAfter, Records.inRange, Records.standIn, Records.stateIn, Moved.Step, Moved.step, Moved.stays, Moved.reached, Moved.raised, Moved.lowered, declared.Record.Record}
+use Rattle.steps.specs.{Records.recordAfter, Records.inRange, Records.standIn, Records.stateIn, Records.Step, Records.step, Records.stays, Moved.reached, Moved.raised, Moved.lowered, declared.Record.Record}
 
 -- "usable bits are the smaller of declared and 8 times the bytes present"
 abbrev pub usableBits : ℕ → List ℕ → ℕ

@@ -8,7 +8,7 @@ ghost use mathlib.Core.Path.{_≡_};
 ghost use Prim.Native.Nat.{_*_, _-_, _≤_};
 ghost use lib.ListN.{length};
 ghost use Rattle.decoder.specs.Body.{tables};
-ghost use Rattle.steps.specs.Moved.{step};
+ghost use Rattle.steps.specs.Records.{step};
 ghost use Rattle.steps.specs.Steps.{Starts, Forwards, Backs, Turns};
 ghost use Rattle.steps.specs.Ready.{CallReady, forwardIn, backIn, ownSteps};
 

@@ -16,8 +16,8 @@ ghost use Rattle.moves.specs.Moves.{onward};
 ghost use Rattle.moves.specs.Stands.{stateOf, standOf};
 ghost use Rattle.decoder.specs.Body.{Tables, tables};
 ghost use Rattle.reading.specs.Reading.{barsZero};
-ghost use Rattle.steps.specs.Records.{recordOf, inRange};
-ghost use Rattle.steps.specs.Moved.{askedIn, heard, unheard, noted, step, stays, movedTo};
+ghost use Rattle.steps.specs.Records.{recordOf, inRange, step, stays};
+ghost use Rattle.steps.specs.Moved.{askedIn, heard, unheard, noted, movedTo};
 ghost use Rattle.steps.specs.Steps.{stepsOf, positionOf};
 ghost use Rattle.steps.specs.Ready.{Ready, Stood, forwardIn, backIn};
 

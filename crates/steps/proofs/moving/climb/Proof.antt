@@ -8,8 +8,8 @@ use Rattle.moves.specs.Stands.{stateOf}
 use Rattle.moves.specs.declared.Stand.{Stand}
 use Rattle.decoder.specs.Body.{tables}
 use Rattle.reading.proofs.ReadLaws.{told-bit, told-none}
-use Rattle.steps.specs.Records.{recordOf}
-use Rattle.steps.specs.Moved.{step, reached}
+use Rattle.steps.specs.Records.{recordOf, step}
+use Rattle.steps.specs.Moved.{reached}
 use Rattle.steps.specs.Steps.{stepsOf, positionOf}
 use Rattle.steps.specs.Ready.{Ready, Stood, forwardIn}
 use Rattle.steps.proofs.Standing.{stood-first, stood-onward}

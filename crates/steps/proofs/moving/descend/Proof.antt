@@ -4,7 +4,7 @@ use native.Mathlib.Omega.{arith}
 use borrow.Author.Needs.{needs}
 use lib.ListN.{length}
 use Rattle.decoder.specs.Body.{tables}
-use Rattle.steps.specs.Moved.{step}
+use Rattle.steps.specs.Records.{step}
 use Rattle.steps.specs.Steps.{stepsOf, positionOf}
 use Rattle.steps.specs.Ready.{backIn}
 use Rattle.reading.proofs.ReadLaws.{told-bit, told-none}

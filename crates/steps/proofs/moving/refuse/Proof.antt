@@ -1,5 +1,5 @@
 use mathlib.Core.Path.{ap}
-use Rattle.steps.specs.Moved.{stays}
+use Rattle.steps.specs.Records.{stays}
 use Rattle.steps.specs.declared.Record.{Record}
 use Rattle.steps.proofs.RecordLaws.{range-sizes}
 use Rattle.steps.proofs.ClimbLaws.{stood-place}
