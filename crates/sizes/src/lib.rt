@@ -1,8 +1,12 @@
-// The sizes of document 01, and the checks behind refusals 1 and 2.
+// The sizes of document 01, and the checks behind refusals 1 to 3.
+use refusals::Outcome;
+use refusals::Refusal;
 ghost use mathlib.Core.Path.{_≡_};
 ghost use mathlib.Core.Bool.{_&&_, cond};
 ghost use Prim.Native.Nat.{_^_, _≤_, min};
+ghost use Rattle.refusals.specs.Checks.{firstOf};
 ghost use Rattle.sizes.specs.Sizes.{sideFits, levelsFit, allOf, coarsestOf, mostN};
+ghost use Rattle.sizes.specs.Checks.{sizeChecks};
 
 // The least and the largest N.
 pub const LEAST_N: u32 = 2;
@@ -73,4 +77,20 @@ pub fn coarsest_of(n: u32, l: u32) -> usize
         }
     }
     0
+}
+
+// The refusal of sizes out of range, or of an array that has not an entry for each place.
+pub fn check_sizes(n: u32, l: u32, count: usize) -> Outcome
+    ensures { λ r. ⌜ r ≡ firstOf (sizeChecks n l count) ⌝ }
+{
+    if !side_fits(n) {
+        return Outcome::Refused(Refusal::Side);
+    }
+    if !levels_fit(n, l) {
+        return Outcome::Refused(Refusal::Levels);
+    }
+    if count != all_of(n) {
+        return Outcome::Refused(Refusal::Length);
+    }
+    Outcome::Done
 }

@@ -2,9 +2,9 @@
 -- and the checks of the call that fills them ("Summaries: 1 to 5").
 use Prim.Native.Nat.{ℕ, _/_}
 use mathlib.Core.{Bool._&&_, List.List, List.[], List._∷_, List._++_, List.map}
-use lib.{Dec.leb, Dec.eqb, IntN.ℤ, ListN.length}
-use Rattle.refusals.specs.{declared.Refusal.the-variants.Side, declared.Refusal.the-variants.Levels, declared.Refusal.the-variants.Length, declared.Refusal.the-variants.Lent, Checks.Check, Checks.need}
-use Rattle.sizes.specs.{Sizes.allOf, Sizes.sideFits, Sizes.levelsFit, Tables.table}
+use lib.{Dec.leb, IntN.ℤ, ListN.length}
+use Rattle.refusals.specs.{declared.Refusal.the-variants.Lent, Checks.Check, Checks.need}
+use Rattle.sizes.specs.{Sizes.allOf, Checks.sizeChecks, Tables.table}
 use Rattle.bits.specs.Bits.{orAll}
 use Rattle.coef.specs.Coef.{magAt, coefficientCheck}
 use Rattle.tree.specs.Tree.{desc, grand}
@@ -22,10 +22,6 @@ descTable N L A = table (allOf N / 4) (λ i. descOr N L A i)
 
 abbrev pub grandTable : ℕ → ℕ → List ℤ → List ℕ
 grandTable N L A = table (allOf N / 16) (λ i. grandOr N L A i)
-
--- numbers 1 to 3: sizes in range, and a coefficient for each place
-abbrev pub sizeChecks : ℕ → ℕ → ℕ → List Check
-sizeChecks N L count = need (sideFits N) Side ∷ need (levelsFit N L) Levels ∷ need (eqb count (allOf N)) Length ∷ []
 
 -- number 5: the lengths of the two lent tables, for `all` coefficients
 abbrev pub lentChecks : ℕ → ℕ → ℕ → List Check

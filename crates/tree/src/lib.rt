@@ -9,7 +9,7 @@ ghost use Rattle.refusals.specs.Checks.{firstOf, lentAfter};
 ghost use Rattle.sizes.specs.Sizes.{allOf, coarsestOf};
 ghost use Rattle.sizes.specs.Tables.{table};
 ghost use Rattle.coef.specs.Coef.{magAt};
-ghost use Rattle.tree.specs.Summaries.{descTable, grandTable, sizeChecks, lentChecks, summaryChecks, fillChecks};
+ghost use Rattle.tree.specs.Summaries.{descTable, grandTable, lentChecks, summaryChecks, fillChecks};
 ghost use Rattle.tree.specs.Filling.{childrenOr, childrenTable, entriesOr, filledFrom, Ready};
 
 // The magnitude of the coefficient at place j.
@@ -101,22 +101,6 @@ fn fill_both(n: u32, l: u32, coefs: &[i32], desc: &mut [u32], grand: &mut [u32])
     clear(grand, low);
 }
 
-// The refusal of sizes out of range, or of coefficients that are not one for each place.
-fn check_sizes(n: u32, l: u32, count: usize) -> Outcome
-    ensures { λ r. ⌜ r ≡ firstOf (sizeChecks n l count) ⌝ }
-{
-    if !sizes::side_fits(n) {
-        return Outcome::Refused(Refusal::Side);
-    }
-    if !sizes::levels_fit(n, l) {
-        return Outcome::Refused(Refusal::Levels);
-    }
-    if count != sizes::all_of(n) {
-        return Outcome::Refused(Refusal::Length);
-    }
-    Outcome::Done
-}
-
 // The refusal of tables that are too short for this many coefficients.
 fn check_lent(all: usize, descs: usize, grands: usize) -> Outcome
     ensures { λ r. ⌜ r ≡ firstOf (lentChecks all descs grands) ⌝ }
@@ -134,7 +118,7 @@ fn check_lent(all: usize, descs: usize, grands: usize) -> Outcome
 pub fn check(n: u32, l: u32, coefs: &[i32], descs: usize, grands: usize) -> Outcome
     ensures { λ r. ⌜ r ≡ firstOf (summaryChecks n l (now (coefs .entry)) descs grands) ⌝ }
 {
-    let sized = check_sizes(n, l, coefs.len());
+    let sized = sizes::check_sizes(n, l, coefs.len());
     if let Outcome::Refused(why) = sized {
         return Outcome::Refused(why);
     }
@@ -149,7 +133,7 @@ pub fn check(n: u32, l: u32, coefs: &[i32], descs: usize, grands: usize) -> Outc
 fn check_fill(n: u32, l: u32, count: usize, descs: usize, grands: usize) -> Outcome
     ensures { λ r. ⌜ r ≡ firstOf (fillChecks n l count descs grands) ⌝ }
 {
-    let sized = check_sizes(n, l, count);
+    let sized = sizes::check_sizes(n, l, count);
     match sized {
         Outcome::Done => check_lent(count, descs, grands),
         Outcome::Refused(why) => Outcome::Refused(why),

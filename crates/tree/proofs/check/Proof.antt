@@ -7,8 +7,9 @@ use Rattle.refusals.specs.declared.Refusal.the-variants.{Coefficient}
 use Rattle.refusals.specs.declared.Outcome.the-variants.{Refused}
 use Rattle.refusals.proofs.Laws.{refused-first}
 use Rattle.sizes.proofs.Laws.{side-most, all-most}
-use Rattle.tree.specs.Summaries.{sizeChecks}
-use Rattle.tree.proofs.Checks.{sizes-met, no-coefficient, within-limit}
+use Rattle.sizes.specs.Checks.{sizeChecks}
+use Rattle.sizes.proofs.Checks.{sizes-met}
+use Rattle.tree.proofs.Checks.{no-coefficient, within-limit}
 use Rattle.tree.proofs.check.Statement.{statement}
 use Rattle.tree.proofs.check.Tie as tie
 

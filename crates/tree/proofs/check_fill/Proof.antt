@@ -3,8 +3,9 @@ use Prim.Native.Nat.{ℕ}
 use borrow.Author.Needs.{needs}
 use Rattle.refusals.specs.Checks.{firstOf}
 use Rattle.refusals.proofs.Laws.{refused-first, then-more}
-use Rattle.tree.specs.Summaries.{sizeChecks, lentChecks}
-use Rattle.tree.proofs.Checks.{sizes-met}
+use Rattle.sizes.specs.Checks.{sizeChecks}
+use Rattle.sizes.proofs.Checks.{sizes-met}
+use Rattle.tree.specs.Summaries.{lentChecks}
 use Rattle.tree.proofs.check_fill.Statement.{statement}
 use Rattle.tree.proofs.check_fill.Tie as tie
 

@@ -3,10 +3,10 @@ use mathlib.Core.Bool.{true}
 use native.Mathlib.Omega.{arith}
 use borrow.Author.Tests.{not-true, not-false}
 use borrow.Author.Needs.{needs}
 use Rattle.sizes.specs.Sizes.{sideFits, levelsFit, allOf}
-use Rattle.tree.proofs.Checks.{no-side, no-levels, no-length, sizes-well}
-use Rattle.tree.proofs.check_sizes.Statement.{statement}
-use Rattle.tree.proofs.check_sizes.Tie as tie
+use Rattle.sizes.proofs.Checks.{no-side, no-levels, no-length, sizes-well}
+use Rattle.sizes.proofs.check_sizes.Statement.{statement}
+use Rattle.sizes.proofs.check_sizes.Tie as tie
 
 -- what each check that holds says
 side-so : (c : tie.Else1) → sideFits (c .before .before .args .n) ≡ true
