@@ -35,6 +35,10 @@ pub enum Refusal {
     Spent,
     // 16: a scan record out of range, or whose bits used pass the usable ones
     Record,
+    // 17: a sample out of range; the first such raster place
+    Sample(u32),
+    // 18: a restored sample out of range
+    Restored,
 }
 
 // The answer of a call that gives back nothing else: done, or refused.
@@ -64,6 +68,8 @@ pub fn number(why: Refusal) -> u32
         Refusal::First => 14,
         Refusal::Spent => 15,
         Refusal::Record => 16,
+        Refusal::Sample(_) => 17,
+        Refusal::Restored => 18,
     }
 }
 
@@ -88,5 +94,7 @@ pub fn place(why: Refusal) -> u32
         Refusal::First => 0,
         Refusal::Spent => 0,
         Refusal::Record => 0,
+        Refusal::Sample(place) => place,
+        Refusal::Restored => 0,
     }
 }
