@@ -1,0 +1,15 @@
+pub mod Pairs
+pub mod Levels
+pub mod Range
+pub mod Held
+pub mod Arrays
+pub mod Cleared
+pub mod Outside
+pub mod Runs
+pub mod Same
+pub mod Checks
+pub mod Ends
+pub mod Demands
+pub mod Decided
+pub mod Orders
+pub mod Sample
