@@ -1,0 +1,1 @@
+// The transform and the file together: theorems, no code.
