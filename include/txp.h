@@ -15,7 +15,7 @@
  * - Calls on different buffers may run at the same time.
  *
  * Arrays are square, of side 2^N, and hold I = 4^N coefficients in linear order: row and column bits interleaved, the row bit
- * above. txp_to_linear and txp_to_raster change the order. L is the number of levels.
+ * above. Samples are in raster order, row after row. txp_to_linear and txp_to_raster change the order. L is the number of levels.
  *
  * The functions are those of crates/ctxp, where their contracts stand. tests/header.py compares this file with that source.
  */
@@ -32,19 +32,21 @@ extern "C" {
 /* The version of this library's interface, and that of the files that it writes and reads. A change of the first number may break
  * a caller, a change of the second only adds. */
 #define TXP_VERSION_MAJOR 2
-#define TXP_VERSION_MINOR 3
+#define TXP_VERSION_MINOR 4
 #define TXP_FILE_VERSION 1
 
 /* Limits. */
 #define TXP_LEAST_N 2           /* N is 2 to 10 */
 #define TXP_MOST_N 10
 #define TXP_LIMIT 16777215      /* the largest magnitude of a coefficient */
+#define TXP_LEAST_SAMPLE (-32768) /* a sample is -32,768 to 32,767 */
+#define TXP_MOST_SAMPLE 32767
 #define TXP_MOST_PLANES 24      /* P is 0 to 24 */
 #define TXP_HEADER_SIZE 12      /* bytes of a file before its body */
 #define TXP_NO_BUDGET 4294967295 /* a budget that cuts nothing: more bits than any body has */
 
 /* What to lend for an array of side 2^N, N from 2 to 10: numbers of entries. */
-#define TXP_ENTRIES(n) ((size_t)1 << (2 * (n)))      /* I: coefficients, values, precisions, marks */
+#define TXP_ENTRIES(n) ((size_t)1 << (2 * (n)))      /* I: coefficients, values, precisions, marks, samples, work */
 #define TXP_DESC(n) ((size_t)1 << (2 * (n) - 2))     /* I/4 */
 #define TXP_GRAND(n) ((size_t)1 << (2 * (n) - 4))    /* I/16 */
 #define TXP_ALL_FIGURES (4 * TXP_MOST_PLANES)        /* the numbers of txp_figures_all */
@@ -71,7 +73,9 @@ enum txp_refusal {
     TXP_REFUSED_BEYOND = 13,             /* usable bits left after the last plane; place: the first of them */
     TXP_REFUSED_FIRST = 14,              /* a step back before the first bit */
     TXP_REFUSED_SPENT = 15,              /* a step forward with no usable bit left */
-    TXP_REFUSED_RECORD = 16              /* a record out of range, or with more bits used than are usable */
+    TXP_REFUSED_RECORD = 16,             /* a record out of range, or with more bits used than are usable */
+    TXP_REFUSED_SAMPLE = 17,             /* a sample out of range; place: the first such raster place */
+    TXP_REFUSED_RESTORED = 18            /* a restored sample out of range */
 };
 
 /* A short text for a refusal's number, to be shown; "unknown refusal" for a number that is none. */
@@ -95,6 +99,8 @@ static inline const char *txp_refusal_text(uint32_t refusal)
         "no bit before this one",
         "no usable bit is left",
         "the record is out of range",
+        "a sample is out of range",
+        "a restored sample is out of range",
     };
     return refusal < sizeof texts / sizeof texts[0] ? texts[refusal] : "unknown refusal";
 }
@@ -208,6 +214,26 @@ uint32_t txp_back(txp_record *dial, const uint8_t *body, size_t body_len, uint32
 uint32_t txp_turn(txp_record *dial, const uint8_t *body, size_t body_len, uint32_t usable, uint32_t to, int32_t *values,
                   size_t values_len, uint8_t *precisions, size_t precisions_len, uint8_t *marks, size_t marks_len,
                   txp_answer *answer);
+
+/* ---- the transform: samples to coefficients and back
+ *
+ * The reversible integer S transform: L levels, rows then columns at each. Samples are -32,768 to 32,767, in raster order;
+ * coefficients are in linear order, as txp_encode takes them. Restoring what txp_transform gave, with its N and L, returns the
+ * samples exactly, and so do the values of its whole file. Those of a cut one may restore out of range (18). */
+
+/* The coefficients of a square of samples. samples: I samples. coefs, work: TXP_ENTRIES(n) or more each.
+ * Refusals 1, 2, 3, 5, 17 (place: the first raster place out of range): nothing that is lent is touched.
+ * Done: coefs hold the coefficients, and the first I entries of work are 0. No magnitude is over 131,070, so that txp_encode never
+ * refuses them by 4, and P is at most 17. Answer: nothing. */
+uint32_t txp_transform(uint32_t n, uint32_t l, const int32_t *samples, size_t samples_len, int32_t *coefs, size_t coefs_len,
+                       int32_t *work, size_t work_len, txp_answer *answer);
+
+/* The samples that these coefficients are of. coefs: I coefficients. samples, work: TXP_ENTRIES(n) or more each.
+ * Refusals 1, 2, 3, 4 (place: the first coefficient over the limit), 5: nothing that is lent is touched.
+ * Refusal 18 (place: 0): the first I entries of samples and of work are 0.
+ * Done: samples hold the samples, and the first I entries of work are 0. Answer: nothing. */
+uint32_t txp_restore(uint32_t n, uint32_t l, const int32_t *coefs, size_t coefs_len, int32_t *samples, size_t samples_len,
+                     int32_t *work, size_t work_len, txp_answer *answer);
 
 /* ---- summaries and figures */
 

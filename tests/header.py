@@ -147,6 +147,9 @@ def sizes(header):
     limits = {n: int(k) for n, k in re.findall(r"pub const (\w+): \w+ = (\d+);", source("crates", "sizes", "src", "lib.rt") + source("crates", "txp", "src", "lib.rt"))}
     for name in ("LEAST_N", "MOST_N", "LIMIT", "MOST_PLANES", "HEADER_SIZE"):
         same(f"TXP_{name}", macro(header, f"TXP_{name}"), limits.get(name))
+    samples = {n: int(k) for n, k in re.findall(r"^const (\w+_SAMPLE): \w+ = (-?\d+);", source("crates", "transform", "src", "lib.rt"), re.M)}
+    for name in ("LEAST_SAMPLE", "MOST_SAMPLE"):
+        same(f"TXP_{name}", macro(header, f"TXP_{name}"), samples.get(name))
     same("TXP_NO_BUDGET", macro(header, "TXP_NO_BUDGET"), 2**32 - 1)
     same("TXP_FILE_VERSION", macro(header, "TXP_FILE_VERSION"), int(re.search(r"^version = (\d+)$", read("crates", "txp", "specs", "Header.antt"), re.M)[1]))
     for n in range(limits["LEAST_N"], limits["MOST_N"] + 1):

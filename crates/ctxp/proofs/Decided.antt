@@ -8,6 +8,8 @@ use lib.Ieee.{Float}
 use lib.ListN.{getD}
 use denote.Ref.{now}
 use Rattle.refusals.proofs.Decided.{OneOutcome}
+use Rattle.transform.specs.Transform.{coefficientsOf}
+use Rattle.transform.specs.Answers.{allZero}
 use Rattle.encoder.specs.Body.{Loan, loan}
 use Rattle.decoder.specs.Body.{Tables, tables}
 use Rattle.decoder.specs.declared.body.ReadAnswer.{ReadAnswer}
@@ -15,8 +17,9 @@ use Rattle.decoder.proofs.Decided.{reads-one}
 use Rattle.steps.specs.declared.Record.{Record}
 use Rattle.steps.proofs.One.{starts-one, forwards-one, backs-one, turns-one}
 use Rattle.txp.proofs.Decided.{decodes-one}
-use Rattle.ctxp.specs.Answers.{Answers, ofEncoded, ofDecoded, ofWritten, ofRead}
+use Rattle.ctxp.specs.Answers.{Answers, ofOutcome, ofEncoded, ofDecoded, ofWritten, ofRead}
 use Rattle.ctxp.specs.Lent.{FileDecoded, BodyDecoded, dialOf, numbersOf}
+use Rattle.ctxp.proofs.Laws.{lent-by}
 use Rattle.ctxp.proofs.txp_decode.Reads as decode
 use Rattle.ctxp.proofs.txp_decode_body.Reads as decode-body
 use Rattle.ctxp.proofs.txp_start.Reads as start
@@ -27,6 +30,8 @@ use Rattle.ctxp.proofs.txp_encode.Reads as encode
 use Rattle.ctxp.proofs.txp_header.Reads as header
 use Rattle.ctxp.proofs.txp_worst_body.Reads as worst-body
 use Rattle.ctxp.proofs.txp_encode_body.Reads as encode-body
+use Rattle.ctxp.proofs.txp_transform.Reads as transform
+use Rattle.ctxp.proofs.txp_restore.Reads as restore
 use Rattle.ctxp.proofs.txp_summaries.Reads as summaries
 use Rattle.ctxp.proofs.txp_figures.Reads as figures
 use Rattle.ctxp.proofs.txp_figures_all.Reads as figures-all
@@ -70,6 +75,24 @@ pub encode-body-decided : OneOutcome {Lent = List ℕ × Loan} encode-body.Learn
 encode-body-decided k args r r' s s' p q =
     let one = one-answer (ap ofWritten (p .encodes .answered ∙ sym (q .encodes .answered))) (p .answers) (q .answers) in
     (one .0, λ i. (one .1 i, (p .encodes .filled ∙ sym (q .encodes .filled)) i))
+
+-- the transform and its inverse: the output and the work table are the fourth and the fifth parameter
+pub transform-decided : OneOutcome {Lent = List ℕ × List ℤ × List ℤ} transform.Learnt
+    (λ k s. (now (s .1 .1 .1 .1 .1 .0), now (s .1 .1 .1 .0), now (s .1 .1 .1 .1 .0)))
+transform-decided k args r r' s s' p q =
+    let same = p .transforms .answered ∙ sym (q .transforms .answered) in
+    let one = one-answer (ap ofOutcome same) (p .answers) (q .answers) in
+    let lent1 : now (s .1 .1 .1 .0) ≡ now (s' .1 .1 .1 .0) = lent-by (p .said) (q .said) (coefficientsOf (args .0) (args .1 .0) (now (args .1 .1 .0))) (now (args .1 .1 .1 .0)) same (p .transforms .filled) ∙ sym (q .transforms .filled) in
+    let lent2 : now (s .1 .1 .1 .1 .0) ≡ now (s' .1 .1 .1 .1 .0) = lent-by (p .said) (q .said) (allZero (args .0)) (now (args .1 .1 .1 .1 .0)) same (p .transforms .cleared) ∙ sym (q .transforms .cleared) in
+    (one .0, λ i. (one .1 i, lent1 i, lent2 i))
+
+pub restore-decided : OneOutcome {Lent = List ℕ × List ℤ × List ℤ} restore.Learnt
+    (λ k s. (now (s .1 .1 .1 .1 .1 .0), now (s .1 .1 .1 .0), now (s .1 .1 .1 .1 .0)))
+restore-decided k args r r' s s' p q =
+    let one = one-answer (ap ofOutcome (p .restores .answered ∙ sym (q .restores .answered))) (p .answers) (q .answers) in
+    let lent1 : now (s .1 .1 .1 .0) ≡ now (s' .1 .1 .1 .0) = p .restores .filled ∙ sym (q .restores .filled) in
+    let lent2 : now (s .1 .1 .1 .1 .0) ≡ now (s' .1 .1 .1 .1 .0) = p .restores .cleared ∙ sym (q .restores .cleared) in
+    (one .0, λ i. (one .1 i, lent1 i, lent2 i))
 
 pub summaries-decided : OneOutcome {Lent = List ℕ × List ℕ × List ℕ} summaries.Learnt
     (λ k s. (now (s .1 .1 .1 .1 .1 .0), now (s .1 .1 .1 .0), now (s .1 .1 .1 .1 .0)))

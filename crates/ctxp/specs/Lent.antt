@@ -1,16 +1,18 @@
--- What else a call from C is lent: numbers that stand for a truth, a coefficient, a float, the coders' tables, and the numbers of a scan record.
+-- What else a call from C is lent: numbers that stand for a truth, a coefficient, a float, the coders' tables, the numbers of a scan record, and the transform's arrays.
 use Prim.Native.Nat.{ℕ}
 use mathlib.Core.{Path._≡_, Bool.Bool, Bool.not, List.List, List.[], List._∷_}
 use lib.{Dec.eqb, IntN.ℤ, ListN.getD}
 use lib.Ieee as ieee
+use Rattle.refusals.specs.declared.Outcome.{Outcome}
 use Rattle.coef.specs.declared.{Signed.Signed, Joined.Joined, Float.Float}
 use Rattle.coef.specs.declared.Joined.the-variants as joineds
 use Rattle.coef.specs.declared.Float.the-variants as floats
+use Rattle.transform.specs.Answers.{Transforms, Restores}
 use Rattle.encoder.specs.{Body.Loan, Body.Writes, declared.body.WriteAnswer.WriteAnswer}
 use Rattle.decoder.specs.{Body.Tables, Body.Reads, declared.body.ReadAnswer.ReadAnswer}
 use Rattle.steps.specs.{Steps.Starts, Steps.Forwards, Steps.Backs, Steps.Turns, declared.Record.Record}
 use Rattle.txp.specs.{declared.EncodeAnswer.EncodeAnswer, declared.DecodeAnswer.DecodeAnswer, Calls.Encodes, Calls.Decodes}
-use Rattle.ctxp.specs.Answers.{ofEncoded, ofDecoded, ofWritten, ofRead, Answers}
+use Rattle.ctxp.specs.Answers.{ofOutcome, ofEncoded, ofDecoded, ofWritten, ofRead, Answers}
 
 -- any number but 0 is a truth
 abbrev pub asBool : ℕ → Bool
@@ -89,3 +91,15 @@ pub record Turned (usable to : ℕ) (body dial : List ℕ) (held : Tables) (r : 
   pub turns : Turns usable to body (dialOf dial) held said moved left
   pub recorded : dial' ≡ numbersOf moved
   pub answers : Answers r answer (ofRead said)
+
+-- the transform: some outcome is the one that its contract allows, and the numbers are those of that outcome; out and out', work and work' are the lent arrays before and after
+pub record Transformed (N L : ℕ) (A out work : List ℤ) (r : ℕ) (answer : List ℕ) (out' work' : List ℤ) : Type 0 where
+  pub said : Outcome
+  pub transforms : Transforms N L A out work said out' work'
+  pub answers : Answers r answer (ofOutcome said)
+
+-- the same of its inverse
+pub record Restored (N L : ℕ) (C out work : List ℤ) (r : ℕ) (answer : List ℕ) (out' work' : List ℤ) : Type 0 where
+  pub said : Outcome
+  pub restores : Restores N L C out work said out' work'
+  pub answers : Answers r answer (ofOutcome said)

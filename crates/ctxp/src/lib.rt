@@ -22,7 +22,7 @@ ghost use Rattle.decoder.specs.Body.{tables};
 ghost use Rattle.txp.specs.Header.{headerOf};
 ghost use Rattle.txp.specs.Calls.{headerChecks, headerAnswer};
 ghost use Rattle.ctxp.specs.Answers.{blank, ofValue, ofPlanes, ofOutcome, ofHeader, ofWorst, ofFigures, ofLinear, ofRaster, ofParted, ofJoined, ofFloat, ofNext, Answers};
-ghost use Rattle.ctxp.specs.Lent.{asBool, signedOf, joinedIn, floatIn, FileEncoded, BodyEncoded, FileDecoded, BodyDecoded, Started, Forwarded, Backed, Turned};
+ghost use Rattle.ctxp.specs.Lent.{asBool, signedOf, joinedIn, floatIn, FileEncoded, BodyEncoded, FileDecoded, BodyDecoded, Started, Forwarded, Backed, Turned, Transformed, Restored};
 
 // ---- the file
 
@@ -205,6 +205,40 @@ pub extern "C" fn txp_turn(
     let said = done.answer;
     dials::put_dial(dial, moved);
     put(answer, answers::of_read(said))
+}
+
+// ---- the transform
+
+// The coefficients of a square of samples.
+#[no_mangle]
+pub extern "C" fn txp_transform(
+    n: u32,
+    l: u32,
+    samples: &[i32],
+    coefs: &mut [i32],
+    work: &mut [i32],
+    answer: &mut [u32; 15],
+) -> u32
+    ensures { λ r. ⌜ Transformed n l (now (samples .entry)) (now (coefs .entry)) (now (work .entry)) r (now (answer .exit)) (now (coefs .exit)) (now (work .exit)) ⌝ }
+{
+    let done = transform::forward(n, l, samples, coefs, work);
+    put(answer, answers::of_outcome(done))
+}
+
+// The samples that these coefficients are of.
+#[no_mangle]
+pub extern "C" fn txp_restore(
+    n: u32,
+    l: u32,
+    coefs: &[i32],
+    samples: &mut [i32],
+    work: &mut [i32],
+    answer: &mut [u32; 15],
+) -> u32
+    ensures { λ r. ⌜ Restored n l (now (coefs .entry)) (now (samples .entry)) (now (work .entry)) r (now (answer .exit)) (now (samples .exit)) (now (work .exit)) ⌝ }
+{
+    let done = transform::inverse(n, l, coefs, samples, work);
+    put(answer, answers::of_outcome(done))
 }
 
 // ---- summaries and figures
