@@ -315,7 +315,7 @@ static uint32_t call(char letter, lent_case *c)
     const buffer *t = c->table;
     uint32_t *desc = (uint32_t *)t[DESC].lent, *grand = (uint32_t *)t[GRAND].lent;
     uint8_t *marks = t[MARKS].lent, *bytes = t[BYTES].lent;
-    int32_t *values = (int32_t *)t[VALUES].lent;
+    int32_t *values = (int32_t *)t[VALUES].lent, *work = (int32_t *)t[DESC].lent;
     int32_t x = coefs_len > 0 ? coefs[0] : 0;
     txp_answer *answer = &c->answered.answer;
     switch (letter) {
@@ -335,6 +335,10 @@ static uint32_t call(char letter, lent_case *c)
     case 'b':
     case 't':
         return steps(letter, n, c, answer);
+    case 'x':
+        return txp_transform(n[0], n[1], coefs, coefs_len, values, t[VALUES].count, work, t[DESC].count, answer);
+    case 'r':
+        return txp_restore(n[0], n[1], coefs, coefs_len, values, t[VALUES].count, work, t[DESC].count, answer);
     case 'S':
         return txp_summaries(n[0], n[1], coefs, coefs_len, desc, t[DESC].count, grand, t[GRAND].count, answer);
     case 'G':

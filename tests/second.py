@@ -1,7 +1,7 @@
 #!/usr/bin/env python3
 """A second coder for the texture stream of document 01 (docs/01-scope.md), with
-the stepped decoder of document 02's request T-01, the sizes of its T-02 and the
-precisions of its T-04.
+the stepped decoder of document 02's request T-01, the sizes of its T-02, the
+precisions of its T-04 and the transform of its T-05.
 
 It reaches the answers of document 01 by other means than the scan with marks,
 so that a coder written from the marks can be compared with it.
@@ -13,6 +13,8 @@ so that a coder written from the marks can be compared with it.
   allow still fits them.
 - The table of marks after any number of bits is read off the parts that stand.
 - The stepped decoder takes no step: it decodes each prefix from its first bit.
+- The transform takes whole rows of a square, and whole columns as the rows of
+  the square turned.
 
 Sentences in quotation marks are those of document 01, or of document 02 where
 that is said.  Bits and places count from 0.
@@ -27,10 +29,12 @@ import sys
 from collections import namedtuple
 from functools import lru_cache, reduce
 from heapq import heapify, heappop, heappush
-from operator import or_
+from itertools import chain
+from operator import add, or_, sub
 
 N_LIMIT = 10                    # document 02: "N may now be up to 10"
 COEFFICIENT_LIMIT = 16_777_215
+SAMPLE_LEAST, SAMPLE_MOST = -32_768, 32_767
 PLANE_LIMIT = 24
 HEADER_BYTES = 12
 SHOW_BYTES = 16_384
@@ -91,6 +95,141 @@ def to_linear(N, raster):
 def to_raster(N, linear):
     """A linear array in raster order."""
     return [linear[place] for place in linear_places(N)]
+
+
+# Transform. The sentences are those of document 02, T-05.
+
+def split_pairs(row):
+    """A row's pairs as lows and highs: "For a pair a, b: low is the floor of
+    (a+b)/2, high is a-b"; "lows fill the first half of a row or column"."""
+    first, other = row[::2], row[1::2]
+    lows = [both // 2 for both in map(add, first, other)]
+    return lows + list(map(sub, first, other))
+
+
+def join_pairs(row):
+    """The row of pairs with these lows and highs: "a is low plus the floor of
+    (high+1)/2, b is a-high"."""
+    half = len(row) // 2
+    lows, highs = row[:half], row[half:]
+    row[::2] = [low + (high + 1) // 2 for low, high in zip(lows, highs)]
+    row[1::2] = map(sub, row[::2], highs)
+    return row
+
+
+def turned(square):
+    """A square's columns, as rows."""
+    return list(map(list, zip(*square)))
+
+
+def split_square(square):
+    """A square after a level: "rows then columns at each level"."""
+    columns = turned(map(split_pairs, square))
+    return turned(map(split_pairs, columns))
+
+
+def join_square(square):
+    """A square before a level: "columns then rows"."""
+    rows = turned(map(join_pairs, turned(square)))
+    return list(map(join_pairs, rows))
+
+
+def change_corner(square, side, change):
+    """Changes the first rows and columns of a square, so many of each."""
+    corner = change([row[:side] for row in square[:side]])
+    for row, own in zip(square, corner):
+        row[:side] = own
+
+
+def rows_of(N, raster):
+    """The rows of a raster array."""
+    side = 2 ** N
+    return [list(raster[at:at + side]) for at in range(0, side * side, side)]
+
+
+def level_sides(N, L):
+    """The side of the square that each level works on, the finest first: the
+    first quarter, where the lows of all rows and columns are, has half the side
+    of the level before."""
+    return [2 ** (N - j) for j in range(L)]
+
+
+def to_coefficients(N, L, samples):
+    """The transform: "Samples are in raster order, coefficients in linear"."""
+    square = rows_of(N, samples)
+    for side in level_sides(N, L):
+        change_corner(square, side, split_square)
+    return to_linear(N, chain(*square))
+
+
+def to_samples(N, L, coefficients):
+    """The inverse, which "undoes the coarsest level first"."""
+    square = rows_of(N, to_raster(N, coefficients))
+    for side in reversed(level_sides(N, L)):
+        change_corner(square, side, join_square)
+    return list(chain(*square))
+
+
+def first_outside(numbers, least, most):
+    """The place of the first number out of range, or None."""
+    if least <= min(numbers) and max(numbers) <= most:
+        return None
+    return next(place for place, x in enumerate(numbers)
+                if not least <= x <= most)
+
+
+def check_square(N, L, numbers):
+    """Refusals 1, 2 and 3."""
+    refused = check_sizes(N, L)
+    if refused:
+        return refused
+    return Refused(3, 0) if len(numbers) != 4 ** N else None
+
+
+def transform(N, L, samples, lent=None):
+    """The coefficients of samples, or the first refusal: "17, sample out of
+    range, with the first raster place", "after 1, 2, 3 and 5". lent gives the
+    lengths of the lent output and work table; None stands for lengths that
+    suffice."""
+    refused = check_square(N, L, samples)
+    if refused:
+        return refused
+    if lent and min(lent) < 4 ** N:
+        return Refused(5, 0)
+    place = first_outside(samples, SAMPLE_LEAST, SAMPLE_MOST)
+    if place is not None:
+        return Refused(17, place)
+    return to_coefficients(N, L, samples)
+
+
+def restore(N, L, coefficients, lent=None):
+    """The samples of coefficients, or the first refusal: "18, a restored sample
+    out of range, place 0", "after 1, 2, 3 and 5, and on the inverse 4 stands
+    between 3 and 5". lent as for transform."""
+    refused = check_square(N, L, coefficients)
+    if refused:
+        return refused
+    place = first_outside(coefficients, -COEFFICIENT_LIMIT, COEFFICIENT_LIMIT)
+    if place is not None:
+        return Refused(4, place)
+    if lent and min(lent) < 4 ** N:
+        return Refused(5, 0)
+    samples = to_samples(N, L, coefficients)
+    if first_outside(samples, SAMPLE_LEAST, SAMPLE_MOST) is not None:
+        return Refused(18, 0)
+    return samples
+
+
+def lent_after(N, got):
+    """What the first entries of the lent output and work table hold after
+    transform or restore answered so: "A work table, if one is lent, ends as
+    zeros", and after 18 "the first I output entries set to 0". No other refusal
+    touches anything."""
+    if not isinstance(got, Refused):
+        return got, [0] * 4 ** N
+    if got.number == 18:
+        return [0] * 4 ** N, [0] * 4 ** N
+    return (), ()
 
 
 # Trees.

@@ -1,9 +1,11 @@
 """The checks of second.py: the samples of document 01, exhaustive comparisons
-on small cases and random comparisons with the literal scan.
+on small cases and random comparisons with the literal scan; the transform
+worked by hand, and compared with one that takes pair after pair.
 
     python3 tests/second.py selftest [full]
 """
 
+import math
 import random
 import time
 from collections import namedtuple
@@ -13,11 +15,13 @@ from operator import le
 import literal
 from arrays import STYLES, placed, random_array, random_bits, scattered
 from second import (
-    DESC, GRAND, N_LIMIT, PIXEL, STEP, Decoder, Encoded, Record, Refused, back,
-    decode, decode_file, encode, encode_file, forward, linear_place,
-    linear_places, marks_after, output_bytes, pack, parts_after, plane_count,
-    plane_figures, read_file, shape_of, show, start, stream_by_plane,
-    summaries, to_linear, to_raster, turn, worst_body, write_file)
+    COEFFICIENT_LIMIT, DESC, GRAND, N_LIMIT, PIXEL, SAMPLE_LEAST, SAMPLE_MOST,
+    STEP, Decoder, Encoded, Record, Refused, back, decode, decode_file, encode,
+    encode_file, forward, lent_after, linear_place, linear_places, marks_after,
+    output_bytes, pack, parts_after, plane_count, plane_figures, read_file,
+    restore, shape_of, show, start, stream_by_plane, summaries,
+    to_coefficients, to_linear, to_raster, to_samples, transform, turn,
+    worst_body, write_file)
 
 NO_BUDGET = 2 ** 32 - 1
 
@@ -688,6 +692,222 @@ def step_refusals():
               'faults of a start')
 
 
+# Transform.
+
+# Worked by hand. The pairs of the rows: 5, 2 has low 3 and high 3; -3, 0 has
+# low -2, the floor of -3/2, and high -3; and so on, which gives the rows
+#      3  -2   3  -3
+#     -2   1   1  11
+#     -4   1   7   0
+#     -3  -6 -11   1
+# Then the pairs of the columns: 3, -2 has low 0 and high 5; -4, -3 has low -4,
+# the floor of -7/2, and high -1; and so on.
+SQUARE = [5, 2, -3, 0,
+          -1, -2, 7, -4,
+          0, -7, 1, 1,
+          -8, 3, -5, -6]
+CHANGED = [0, -1, 2, 4,
+           -4, -3, -2, 0,
+           5, -3, 2, -14,
+           -1, 7, 18, -1]
+
+# The quarters of CHANGED in turn.
+CHANGED_LINEAR = [0, -1, -4, -3, 2, 4, -2, 0, 5, -3, -1, 7, 2, -14, 18, -1]
+
+# The largest magnitude that a coefficient has: a high of two highs.
+LARGEST = 2 * (SAMPLE_MOST - SAMPLE_LEAST)
+
+
+def by_pairs(N, L, samples, rows_first=True, towards_zero=False):
+    """The transform by one pair after the other, as a raster array; also with
+    the columns first, or with lows rounded towards 0."""
+    width, square = 2 ** N, list(samples)
+
+    def pairs(start, step, half):
+        """The pairs of the row or column that begins at a place."""
+        old = list(square)
+        for k in range(half):
+            a, b = (old[start + step * (2 * k + n)] for n in (0, 1))
+            half_sum = (a + b) / 2
+            low = int(half_sum) if towards_zero else math.floor(half_sum)
+            square[start + step * k] = low
+            square[start + step * (half + k)] = a - b
+
+    for j in range(L):
+        side = width >> j
+        for rows in (rows_first, not rows_first):
+            for k in range(side):
+                pairs(*((k * width, 1) if rows else (k, width)), side // 2)
+    return square
+
+
+def checkered(N, side, first, other):
+    """A raster array of squares of this side, of one sample or the other in
+    turn."""
+    return [(first, other)[(row // side + column // side) % 2]
+            for row in range(2 ** N) for column in range(2 ** N)]
+
+
+def worked_transform():
+    """The example by hand, both ways, and the rule for single pairs."""
+    equal(to_coefficients(2, 1, SQUARE), CHANGED_LINEAR, 'worked by hand')
+    equal(to_raster(2, CHANGED_LINEAR), CHANGED, 'its coefficients in raster')
+    equal(to_samples(2, 1, CHANGED_LINEAR), SQUARE, 'worked back')
+    equal(by_pairs(2, 1, SQUARE), CHANGED, 'by pairs')
+    for a, b, low, high in ((1, 0, 0, 1), (0, 1, 0, -1), (-1, 0, -1, -1),
+                            (0, -1, -1, 1), (-2, -1, -2, -1), (3, 3, 3, 0),
+                            (SAMPLE_MOST, SAMPLE_LEAST, -1, 65_535),
+                            (SAMPLE_LEAST, SAMPLE_MOST, -1, -65_535)):
+        # all rows alike: each column has a low of its own number and a high 0
+        linear = to_coefficients(2, 1, [a, b, a, b] * 4)
+        equal(linear, [low] * 4 + [high] * 4 + [0] * 8, 'a pair of a row')
+        equal(to_samples(2, 1, linear), [a, b, a, b] * 4, 'a pair of a row')
+        linear = to_coefficients(2, 1, ([a] * 4 + [b] * 4) * 2)
+        equal(linear, [low] * 4 + [0] * 4 + [high] * 4 + [0] * 4,
+              'a pair of a column')
+
+
+def sample_arrays(rng, N):
+    """Arrays of samples: random in several ranges, and of extremes."""
+    I, least, most = 4 ** N, SAMPLE_LEAST, SAMPLE_MOST
+    for low, high in ((least, most), (-3, 3), (least, least + 3),
+                      (most - 3, most)):
+        yield [rng.randint(low, high) for _ in range(I)]
+    yield [rng.choice((least, most)) for _ in range(I)]
+    yield [least] * I
+    yield [most] * I
+    for first, other in ((least, most), (most, least)):
+        for j in range(N):
+            yield checkered(N, 2 ** j, first, other)
+
+
+def transforms():
+    """Forward then back is exact; the levels after the first are those of the
+    first quarter as a square of samples; columns before rows, or lows rounded
+    towards 0, give other coefficients."""
+    rng = random.Random(10)
+    columns_differ = zeros_differ = 0
+    for N in range(2, 7):
+        for A in sample_arrays(rng, N):
+            changed = by_pairs(N, N - 1, A)
+            columns_differ += changed != by_pairs(N, N - 1, A, rows_first=False)
+            zeros_differ += changed != by_pairs(N, N - 1, A, towards_zero=True)
+            once = to_coefficients(N, 1, A)
+            for L in range(1, N):
+                linear = to_coefficients(N, L, A)
+                equal(linear, to_linear(N, by_pairs(N, L, A)), 'by pairs')
+                equal(to_samples(N, L, linear), A, 'forward then back')
+                equal(restore(N, L, linear), A, 'taken')
+                if L > 1:
+                    lows = to_raster(N - 1, once[:4 ** (N - 1)])
+                    equal(linear, to_coefficients(N - 1, L - 1, lows)
+                          + once[4 ** (N - 1):], 'levels')
+    equal(columns_differ > 0, True, 'columns first differ')
+    equal(zeros_differ > 0, True, 'rounding towards 0 differs')
+    A = [rng.randint(SAMPLE_LEAST, SAMPLE_MOST) for _ in range(4 ** N_LIMIT)]
+    equal(to_samples(N_LIMIT, N_LIMIT - 1, to_coefficients(
+        N_LIMIT, N_LIMIT - 1, A)) == A, True, 'forward then back')
+
+
+def magnitudes():
+    """The largest magnitude: "every coefficient's magnitude is at most
+    131,072". Four samples decide the four coefficients of a level, and each of
+    these is largest where they are extremes; lows are in the samples' range."""
+    def largest(N, L, A):
+        return max(map(abs, to_coefficients(N, L, A)))
+
+    extremes = SAMPLE_LEAST, SAMPLE_MOST
+    for a, b, c, d in product(extremes, repeat=4):
+        A = ([a, b] * 2 + [c, d] * 2) * 2
+        equal(largest(2, 1, A) <= LARGEST, True, 'magnitude')
+        equal(min(extremes) <= min(to_coefficients(2, 1, A)[:4])
+              and max(to_coefficients(2, 1, A)[:4]) <= max(extremes), True,
+              'lows are in range')
+    equal(LARGEST, 131_070, 'the largest magnitude')
+    rng = random.Random(11)
+    for N in range(2, 7):
+        for L in range(1, N):
+            for A in sample_arrays(rng, N):
+                equal(largest(N, L, A) <= LARGEST, True, 'magnitude')
+            for j, (first, other) in product(range(L), (extremes,
+                                                        extremes[::-1])):
+                equal(largest(N, L, checkered(N, 2 ** j, first, other)),
+                      LARGEST, 'the largest magnitude is reached')
+
+
+def restored():
+    """Back then forward gives the coefficients wherever it is not refused, and
+    it is refused exactly where a sample is out of range."""
+    rng = random.Random(12)
+    seen = dict.fromkeys((None, 18), 0)
+    for n in range(1500):
+        N = rng.choice((2, 2, 3, 4))
+        L, I = rng.randint(1, N - 1), 4 ** N
+        most = rng.choice((3, 9000, 30_000, LARGEST, COEFFICIENT_LIMIT))
+        if n % 2:
+            linear = [rng.randint(-most, most) for _ in range(I)]
+        else:
+            linear = to_coefficients(N, L, [rng.randint(-most, most)
+                                            for _ in range(I)])
+            if max(map(abs, linear)) > COEFFICIENT_LIMIT - most:
+                continue
+            linear[rng.randrange(I)] += rng.choice((1, -1, most, -most))
+        samples = to_samples(N, L, linear)
+        equal(to_coefficients(N, L, samples), linear, 'back then forward')
+        inside = (SAMPLE_LEAST <= min(samples) and max(samples) <= SAMPLE_MOST)
+        got = restore(N, L, linear)
+        equal(got, samples if inside else Refused(18, 0), 'a restored sample')
+        seen[None if inside else 18] += 1
+    for number in seen:
+        equal(seen[number] > 99, True, 'restored with %s' % number)
+
+
+def transform_refusals():
+    """Any faults together: 17 and 18 "both after 1, 2, 3 and 5, and on the
+    inverse 4 stands between 3 and 5"; what is left in the lent tables."""
+    for faults in product((False, True), repeat=6):
+        wrong = {number for number, fault
+                 in zip((1, 2, 3, 4, 5, 17), faults) if fault}
+        N, L = 1 if 1 in wrong else 2, 0 if 2 in wrong else 1
+        lent = (16, 15) if 5 in wrong else (16, 16)
+        more = [0] * (3 in wrong)
+        if 4 not in wrong:
+            A = [0] * 10 + [SAMPLE_MOST + (17 in wrong)] * 6 + more
+            check_first(transform(N, L, A, lent), wrong, (1, 2, 3, 5, 17), 10)
+        wrong = {18 if number == 17 else number for number in wrong}
+        A = [SAMPLE_LEAST] * 4 + [0] * 12 + more
+        A[3] -= 18 in wrong
+        A[9] = COEFFICIENT_LIMIT + 1 if 4 in wrong else 0
+        check_first(restore(N, L, A, lent), wrong, (1, 2, 3, 4, 5, 18),
+                    9 if 4 in wrong else 0)
+    for outside in (SAMPLE_LEAST - 1, SAMPLE_MOST + 1, -2 ** 31, 2 ** 31 - 1):
+        for place in range(16):
+            A = [0] * 16
+            A[place] = A[15] = outside
+            equal(transform(2, 1, A), Refused(17, place), 'place of 17')
+    for lent in ((15, 16), (16, 15), (0, 0)):
+        equal(transform(2, 1, SQUARE, lent), Refused(5, 0), 'short')
+        equal(restore(2, 1, CHANGED_LINEAR, lent), Refused(5, 0), 'short')
+    zeros = [0] * 16
+    for got, wanted in ((transform(2, 1, SQUARE), (CHANGED_LINEAR, zeros)),
+                        (restore(2, 1, CHANGED_LINEAR), (SQUARE, zeros)),
+                        (Refused(18, 0), (zeros, zeros)),
+                        (Refused(17, 3), ((), ())), (Refused(5, 0), ((), ())),
+                        (Refused(4, 9), ((), ()))):
+        equal(lent_after(2, got), wanted, 'what is left')
+
+
+def check_first(got, wrong, order, place):
+    """The first number of an order that is wrong, or none; 4 and 17 report a
+    place."""
+    first = next((number for number in order if number in wrong), None)
+    equal(got.number if isinstance(got, Refused) else None, first,
+          'faults %s' % sorted(wrong))
+    if first:
+        equal(got.place, place if first in (4, 17) else 0,
+              'place of %d' % first)
+
+
 # Files.
 
 def decode_refusals():
@@ -783,6 +1003,11 @@ def run(full=False):
     random_bodies(20000 if full else 3000)
     turns(2000 if full else 150)
     step_refusals()
+    worked_transform()
+    transforms()
+    magnitudes()
+    restored()
+    transform_refusals()
     decode_refusals()
     encode_refusals()
     files()

@@ -23,8 +23,8 @@ import second
 from arrays import (STYLES, random_array, random_bits, scattered, stretched,
                     tiled)
 from second import Decoder, Record, Refused, encode, write_file
-from selftest import (EZW, NO_BUDGET, SAMPLE, SMALL, asked, clash_kind,
-                      own_map)
+from selftest import (CHANGED_LINEAR, EZW, NO_BUDGET, SAMPLE, SMALL, SQUARE,
+                      asked, checkered, clash_kind, own_map)
 
 # A case: the letter of its call, the numbers that go in, the answer, the
 # lengths lent of the TABLES, the arrays that go in, and what the first entries
@@ -47,8 +47,11 @@ PAST = 64
 STORED_N = 9
 STORED_LINE = 65_600
 
-# A case with a longer list has items that repeat what stands before, for so
-# many equal runs in a row or more.
+# The largest N whose work table that program has: the table is that of DESC.
+WORK_N = 8
+
+# A case with a longer list, or of the transform, has items that repeat what
+# stands before, for so many equal runs in a row or more.
 PLAIN = 65_536
 ALIKE = 8
 
@@ -109,7 +112,8 @@ def repeated(runs):
 
 def line(one, again):
     """The line of a case. Empty lists at its end are left out."""
-    again = again and max(map(len, one[1:])) > PLAIN
+    again = again and (one.letter in CHANGES
+                       or max(map(len, one[1:])) > PLAIN)
     lists = [listed(items, again) for items in one[1:]]
     while lists[-1] == ['0']:
         lists.pop()
@@ -1150,6 +1154,319 @@ def wide_walks(rng, N, L):
         yield kind, dial_case(N, L, P, body, count, commands)
 
 
+# Transform.
+
+# The calls of the transform by the letters of their cases.
+CHANGES = {'x': second.transform, 'r': second.restore}
+
+EXTREMES = second.SAMPLE_LEAST, second.SAMPLE_MOST
+
+
+def change_case(letter, N, L, ints, lent=None):
+    """A call of txp_transform or of txp_restore. lent gives the lengths of the
+    output and of the work table, which stands in DESC."""
+    lent = lent or (4 ** N,) * 2
+    got = CHANGES[letter](N, L, ints, lent)
+    refused = got if isinstance(got, Refused) else None
+    out, work = second.lent_after(N, got)
+    return case(letter, (N, L), answer(refused), ints,
+                values=(lent[0], out), desc=(lent[1], work))
+
+
+def there_and_back(kind, N, L, samples, lent=None):
+    """(kind, case) of samples, and of restoring what they become."""
+    one = change_case('x', N, L, samples, lent)
+    yield kind, one
+    yield kind, change_case('r', N, L, one.values, lent)
+
+
+def back_and_there(kind, N, L, coefficients, lent=None):
+    """(kind, case) of coefficients, and of what they become where it is not
+    refused."""
+    one = change_case('r', N, L, coefficients, lent)
+    yield kind, one
+    if not one.answer[0]:
+        yield kind, change_case('x', N, L, one.values, lent)
+
+
+def grouped(cases):
+    """(kind, case) cases in groups of one kind and letter, each of which then
+    has one remark."""
+    groups = {}
+    for kind, one in cases:
+        groups.setdefault((kind, one.letter), []).append((kind, one))
+    return [one for group in groups.values() for one in group]
+
+
+def transform_cases(seed):
+    """(kind, case) of the transform and its inverse, up to the largest N whose
+    work table `second` has."""
+    rng = random.Random('%d transform' % seed)
+    yield from there_and_back('worked by hand', 2, 1, SQUARE)
+    for N, L in shapes(WORK_N):
+        for kind, A in sample_arrays(rng, N, L):
+            yield from there_and_back(kind, N, L, A)
+        for kind, A in coefficient_arrays(rng, N, L):
+            yield from back_and_there(kind, N, L, A)
+        if N < 4:
+            for kind, A in edge_arrays(rng, N, L):
+                yield kind, change_case('r', N, L, A)
+    yield from damaged_coefficients()
+    yield from outside_samples(rng)
+    yield from outside_coefficients(rng)
+    yield from change_faults()
+    yield from change_sizes()
+    yield from change_lengths(rng)
+
+
+def random_samples(rng, N, least, most):
+    """Random samples in a range."""
+    return [rng.randint(least, most) for _ in range(4 ** N)]
+
+
+def spiked(N, ground, spikes):
+    """Equal samples but for those at some places."""
+    A = [ground] * 4 ** N
+    for place, x in spikes.items():
+        A[place] = x
+    return A
+
+
+def corners(N):
+    """The places of a square's corners."""
+    side = 2 ** N
+    return 0, side - 1, side * (side - 1), side * side - 1
+
+
+def tiles(rng, N, side):
+    """Samples in raster order that are short to write: one square of this side
+    over and over, with extremes at the corners."""
+    tile = [[rng.randint(*EXTREMES) for _ in range(side)] for _ in range(side)]
+    rows = [row * (2 ** N // side) for row in tile]
+    A = [x for row in rows * (2 ** N // side) for x in row]
+    for place in corners(N):
+        A[place] = rng.choice(EXTREMES)
+    return A
+
+
+def sample_arrays(rng, N, L):
+    """(kind, samples) of one shape; of a large N those that are short to
+    write."""
+    least, most = EXTREMES
+    for x in (least, most):
+        yield 'constant', [x] * 4 ** N
+    for first, other in ((least, most), (most, least)):
+        yield 'checkered', checkered(N, 1, first, other)
+    yield 'checkered', checkered(N, 2 ** rng.randrange(1, N), most, least)
+    for n, place in enumerate(corners(N)):
+        for x in EXTREMES if L == N - 1 else EXTREMES[(n + L) % 2:][:1]:
+            yield 'spike', spiked(N, 0, {place: x})
+    yield 'spike', spiked(N, rng.randint(-9, 9), {
+        rng.randrange(4 ** N): rng.randint(least, most) for _ in range(3)})
+    if N > 4:
+        yield 'tiles', tiles(rng, N, 8 if L == N - 1 else 4)
+    for _ in range({2: 8, 3: 3, 4: 1}.get(N, N == 5 and L == 4)):
+        yield 'random', random_samples(rng, N, least, most)
+    for _ in range({2: 8, 3: 4, 4: 2}.get(N, N == 5 and L % 2 == 0)):
+        yield 'small', random_samples(rng, N, -3, 3)
+    for _ in range({2: 4, 3: 2}.get(N, 0)):
+        yield 'extremes', [rng.choice(EXTREMES) for _ in range(4 ** N)]
+        yield 'extremes', random_samples(rng, N, most - 1, most)
+        yield 'extremes', random_samples(rng, N, least, least + 1)
+
+
+def coefficient_arrays(rng, N, L):
+    """(kind, coefficients) of one shape that no samples were changed into: at
+    the limit, random, and with a coefficient changed by 1 or by more."""
+    I, limit = 4 ** N, second.COEFFICIENT_LIMIT
+    for x in (limit, -limit):
+        yield 'limit', [x] * I
+        yield 'limit', spiked(N, 0, {rng.randrange(I): x})
+    yield 'limit', [limit, -limit] * (I // 2)
+    for most in (20, 3000, 131_072, limit):
+        for _ in range({2: 4, 3: 1}.get(N, N == 4 and most == 20)):
+            yield 'random', random_samples(rng, N, -most, most)
+    for n in range({2: 8, 3: 3}.get(N, 2)):
+        A = (random_samples(rng, N, -20_000, 20_000) if N < 4
+             else spiked(N, 0, {rng.randrange(I): rng.randint(*EXTREMES)}))
+        A = second.to_coefficients(N, L, A)
+        A[rng.randrange(I)] += rng.choice(
+            (1, -1) if n % 2 else (rng.randint(-40_000, 40_000), limit // 2))
+        yield 'damaged', A
+
+
+def edge_arrays(rng, N, L):
+    """(kind, coefficients) whose largest or least sample is just in range or
+    just outside: a number that is added to all samples is added to the
+    coarsest lows alone."""
+    A = random_samples(rng, N, -9, 9)
+    linear, coarsest = second.to_coefficients(N, L, A), 4 ** (N - L)
+    for more in (EXTREMES[0] - min(A) - 1, EXTREMES[0] - min(A),
+                 EXTREMES[1] - max(A), EXTREMES[1] - max(A) + 1):
+        yield 'edge', ([low + more for low in linear[:coarsest]]
+                       + linear[coarsest:])
+
+
+def damaged_coefficients():
+    """Samples of one extreme with one coefficient changed, each in turn: 18,
+    and for a high at the least sample also done."""
+    for x, place, more in product(EXTREMES, range(16), (1, -1, 2, -2)):
+        A = [x] * 4 + [0] * 12
+        A[place] += more
+        yield 'damaged', change_case('r', 2, 1, A)
+    for N in (5, WORK_N):
+        for x, place in product(EXTREMES, (0, 4 ** N - 1)):
+            A = [x] * 4 + [0] * (4 ** N - 4)
+            A[place] += 2
+            yield 'damaged', change_case('r', N, N - 1, A)
+
+
+def outside_samples(rng):
+    """Samples out of range, just and far: 17 with the first raster place, also
+    where another has the first linear place."""
+    least, most = EXTREMES
+    for x in (least - 1, most + 1, -2 ** 31, 2 ** 31 - 1):
+        for place in (0, 10, 15):
+            yield 'refused17', change_case('x', 2, 1, spiked(2, 5, {place: x}))
+        for spikes in ({10: x, 13: x}, {3: x, 4: most + 1}, {0: x, 15: x}):
+            yield 'refused17', change_case('x', 2, 1, spiked(2, -5, spikes))
+        yield 'refused17', change_case('x', 2, 1, [x] * 16)
+    for N, L in ((3, 1), (3, 2), (5, 2), (7, 6), (WORK_N, 1),
+                 (WORK_N, WORK_N - 1)):
+        for place in (0, 4 ** N // 2 + 2, 4 ** N - 1, rng.randrange(4 ** N)):
+            x = rng.choice((least - 1, most + 1))
+            yield 'refused17', change_case('x', N, L, spiked(N, 0, {place: x}))
+
+
+def outside_coefficients(rng):
+    """Coefficients over the limit: 4 with the first linear place."""
+    over = second.COEFFICIENT_LIMIT + 1
+    for x in (over, -over, 2 ** 31 - 1, -2 ** 31):
+        for place in (0, 7, 15):
+            yield 'refused4', change_case('r', 2, 1, spiked(2, 5, {place: x}))
+        for spikes in ({10: x, 13: x}, {3: over, 12: x}):
+            yield 'refused4', change_case('r', 2, 1, spiked(2, 5, spikes))
+        yield 'refused4', change_case('r', 2, 1, [x] * 16)
+    for N, L in ((3, 2), (6, 2), (WORK_N, 4)):
+        for place in (4 ** N - 1, rng.randrange(4 ** N)):
+            yield 'refused4', change_case('r', N, L,
+                                          spiked(N, 0, {place: -over}))
+
+
+def change_faults():
+    """Any faults together: on the way there 1, 2, 3, 5, 17, and on the way back
+    1, 2, 3, 4, 5, 18."""
+    least, most = EXTREMES
+    for side, levels, length, over, short, outside in product(
+            (2, 1), (1, 0), (0, 1), (0, 1), ((16, 16), (15, 16), (16, 15)),
+            (0, 1)):
+        more = [0] * length
+        A = spiked(2, 0, {9: most + outside, 12: least}) + more
+        if not over:
+            yield 'faults', change_case('x', side, levels, A, short)
+        A = [most] * 4 + [0] * 12 + more
+        A[0] += outside
+        A[9] = over * (second.COEFFICIENT_LIMIT + 1)
+        yield 'faults', change_case('r', side, levels, A, short)
+
+
+def change_sizes():
+    """N and L that are out of range, and inputs of a length that is not I."""
+    largest = NO_BUDGET
+    for letter in CHANGES:
+        for N in (0, 1, 11, 12, 255, 256, largest):
+            for L in (0, 1, N):
+                yield 'refused1', change_case(letter, N, L, [0] * 16, (16, 16))
+        for N, L in ((2, 0), (2, 2), (2, 3), (3, 0), (3, 3), (3, 256),
+                     (3, largest), (8, 8), (9, 9), (10, 0), (10, 10)):
+            ints = [0] * (4 ** N if N < 9 else 16)
+            yield 'refused2', change_case(letter, N, L, ints, (16, 16))
+        for N, count in ((2, 0), (2, 1), (2, 15), (2, 17), (2, 64), (3, 16),
+                         (3, 63), (3, 65), (7, 4 ** 7 - 1), (8, 4 ** 8 + 1),
+                         (8, 4 ** 7), (9, 4 ** 8), (9, 4 ** 9 - 1), (10, 16),
+                         (10, 4 ** 9)):
+            lent = 4 ** min(N, WORK_N)
+            yield 'refused3', change_case(letter, N, 1, [7] * count,
+                                          (lent, lent))
+
+
+def change_lengths(rng):
+    """Outputs and work tables that lack an entry, or have more than need be; at
+    N = 9 the work table that `second` has is too short."""
+    for N, L in shapes(4) + [(7, 3), (WORK_N, 2)]:
+        I = 4 ** N
+        A = (random_samples(rng, N, *EXTREMES) if N < 4
+             else [rng.randint(*EXTREMES)] * I)
+        coefficients = second.to_coefficients(N, L, A)
+        for lent in ((I - 1, I), (I, I - 1), (I - 1, I - 1), (0, I), (I, 0)):
+            yield 'refused5', change_case('x', N, L, A, lent)
+            yield 'refused5', change_case('r', N, L, coefficients, lent)
+        more = 0 if N == WORK_N else 1
+        for lent in ((I + 1, I), (I, I + more), (I + 64, I + 7 * more)):
+            yield from there_and_back('long', N, L, A, lent)
+            # 18 clears no more than its own
+            yield 'long', change_case('r', N, L, [40_000] * I, lent)
+            yield 'long', change_case('x', N, L, [40_000] * I, lent)
+    N = STORED_N
+    for L, letter in product((1, N - 1), CHANGES):
+        yield 'refused5', change_case(letter, N, L, [L] * 4 ** N,
+                                      (4 ** N, 4 ** WORK_N))
+    over = spiked(N, 0, {4 ** N - 1: second.COEFFICIENT_LIMIT + 1})
+    yield 'refused4', change_case('r', N, 3, over, (4 ** N, 4 ** WORK_N))
+
+
+def patched(rng, N):
+    """Samples in raster order that are short to write: equal but for a few
+    squares of side 8 at any place, and extremes at the corners."""
+    side, A = 2 ** N, [rng.randint(*EXTREMES)] * 4 ** N
+    for _ in range(4):
+        row, column = (rng.randint(0, side - 8) for _ in range(2))
+        for at in range(row * side + column, (row + 8) * side, side):
+            A[at:at + 8] = [rng.randint(*EXTREMES) for _ in range(8)]
+    for place in corners(N):
+        A[place] = rng.choice(EXTREMES)
+    return A
+
+
+def wide_transforms(seed):
+    """(kind, case) of the transform for each L of an N whose work table
+    `second` does not have, all short to write."""
+    rng = random.Random('%d wide transform' % seed)
+    for N in range(WORK_N + 1, second.N_LIMIT + 1):
+        for L in range(1, N):
+            yield from there_and_back('N %d L %d' % (N, L), N, L,
+                                      patched(rng, N))
+        yield from there_and_back('checkered', N, N - 1,
+                                  checkered(N, 1, *EXTREMES))
+        yield from wide_change_refusals(N, N - 1)
+
+
+def wide_change_refusals(N, L):
+    """Refusals 3 to 5, 17 and 18 at the limits of a large N, and tables that
+    are longer than need be."""
+    I = 4 ** N
+    for letter in CHANGES:
+        for count in (I - 1, I + 1):
+            yield 'refused', change_case(letter, N, L, [7] * count)
+        for lent in ((I - 1, I), (I, I - 1)):
+            yield 'refused', change_case(letter, N, L, [7] * I, lent)
+        outside = second.COEFFICIENT_LIMIT if letter == 'r' else 32_767
+        for place in (0, I // 2 + 2, I - 1):
+            A = spiked(N, 0, {place: outside + 1, I - 1: -outside - 2})
+            yield 'refused', change_case(letter, N, L, A)
+    for x in (second.COEFFICIENT_LIMIT, -second.COEFFICIENT_LIMIT):
+        yield 'limit', change_case('r', N, L, [x] * I, (I + 1, I + 5))
+        yield 'limit', change_case('r', N, L, spiked(N, 0, {I - 1: x}))
+    yield from there_and_back('long', N, L, [EXTREMES[0]] * I, (I + 64, I + 7))
+
+
+def dense_transforms(rng):
+    """(kind, case) of random samples of a large N, and of restoring them."""
+    for N, L in ((9, 5), (second.N_LIMIT, second.N_LIMIT - 1)):
+        A = random_samples(rng, N, *EXTREMES)
+        yield from there_and_back('random', N, L, A)
+
+
 # Cases of a large N.
 
 def stored_cases(seed):
@@ -1198,6 +1515,7 @@ def large_cases(seed):
     yield from whole_arrays(N, [list(range(4 ** N))], 4 ** N + 7)
     for L in (4, N - 1):
         yield from wide_walks(rng, N, L)
+    yield from dense_transforms(rng)
 
 
 def coded(N, L, budget, A):
@@ -1367,6 +1685,7 @@ def damaged_cases(cases):
                 2, 1, 3, data[second.HEADER_BYTES:],
                 int.from_bytes(data[8:12], 'big'), (17, 18, 19)))
     chosen += damaged_steps(bits)
+    chosen += damaged_changes()
     letters = {one.letter for one in chosen if not one.answer[0]}
     refused = {one.letter for one in chosen if one.answer[0]}
     for _, one in cases:
@@ -1400,6 +1719,17 @@ def damaged_steps(bits):
                         body, 37, 0, 16)
 
 
+def damaged_changes():
+    """Cases of the transform, worked by hand: taken and refused ones, among
+    them one that clears the output."""
+    longer, outside = (18, 19), [32_768] + SQUARE[1:]
+    yield change_case('x', 2, 1, SQUARE, longer)
+    yield change_case('r', 2, 1, CHANGED_LINEAR, longer)
+    yield change_case('x', 2, 1, outside, longer)
+    yield change_case('r', 2, 1, outside, longer)
+    yield change_case('r', 2, 1, [-16_777_216] + CHANGED_LINEAR[1:], longer)
+
+
 # Lines whose lists repeat what stands before, as few others do: worst bodies
 # that agree, and that differ.
 AGREE = 'W 3 2 1 ~1 16 0*7 35 0 ~1*7', 'W 3 2 1 ~2 16 0*7 51 ~8*7 0'
@@ -1419,10 +1749,14 @@ MALFORMED = (
     'W 3 ~1 2 1', 'W 3 2 1 3 16 ~1*16', 'W 3 2 1 3 16 0 ~2*15')
 
 
-def damaged_wide(N):
+def damaged_wide(N, work_N):
     """(kind, case) of cases of a large N that must differ: encoding nothing
-    and decoding it."""
-    for one in coded(N, N - 1, NO_BUDGET, [0] * 4 ** N):
+    and decoding it, and the transform of the least samples and its inverse, for
+    the N of the largest work table."""
+    taken = list(coded(N, N - 1, NO_BUDGET, [0] * 4 ** N))
+    taken += [one for _, one in there_and_back('', work_N, work_N - 1,
+                                               [EXTREMES[0]] * 4 ** work_N)]
+    for one in taken:
         for what, wrong in damaged_tables(one):
             yield 'damaged: ' + what, wrong
 
@@ -1486,14 +1820,15 @@ def write(directory, seed):
     cases = list(coder_cases(seed, decodes))
     for more in (worst_cases(), place_cases(seed), order_cases(seed),
                  number_cases(seed), small_cases(), stored_cases(seed),
-                 every_bit_cases(), step_cases(seed)):
+                 every_bit_cases(), step_cases(seed),
+                 grouped(transform_cases(seed))):
         cases += more
     counts = cut_counts(cases)
     for kind in CUT_KINDS:
         print('cuts %s: %d' % (kind, counts[kind]))
     good = remarked(cases, True)
     wrong = remarked(damaged_cases(cases), True)
-    wrong += remarked(damaged_wide(STORED_N), True)
+    wrong += remarked(damaged_wide(STORED_N, WORK_N), True)
     if max(map(len, good + wrong)) > STORED_LINE:
         raise SystemExit('a line is too long for the program `second`')
     good, wrong, malformed = (
@@ -1501,7 +1836,8 @@ def write(directory, seed):
         in ((good, AGREE), (wrong, DIFFER), ([], MALFORMED)))
     print(write_cases('', good, wrong, malformed), end='')
     print('large')
-    print(write_cases('large', remarked(large_cases(seed), False),
-                      remarked(damaged_wide(second.N_LIMIT), False), []),
-          end='')
+    N = second.N_LIMIT
+    print(write_cases('large', remarked(large_cases(seed), False)
+                      + remarked(wide_transforms(seed), True),
+                      remarked(damaged_wide(N, N), False), []), end='')
     print('files %d' % (len(os.listdir(files)) // 2))

@@ -1,5 +1,6 @@
 // The calls, each by the letter of its cases: tests/VECTORS.md has the table.
 use crate::stepping;
+use crate::transforming;
 
 // The result where a letter is not known: no refusal's number.
 pub const UNKNOWN: u32 = 99;
@@ -123,6 +124,7 @@ fn array(
     match letter {
         b'S' | b'G' => sums(case, ints, desc, grand, answer),
         b'O' | b'Q' => order(case, ints, values, answer),
+        b'x' | b'r' => transforming::call(case, ints, desc, values, answer),
         b'J' => join(case.a, case.b, values, answer),
         b'F' => float(first(ints), desc, answer),
         b'U' => ctxp::txp_put_bit(bytes, wide(case.a), case.b, answer),

@@ -3,6 +3,7 @@ mod calls;
 mod stepping;
 mod tables;
 mod text;
+mod transforming;
 
 use calls::Case;
 use libc::STDIN_FILENO;

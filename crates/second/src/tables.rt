@@ -177,6 +177,20 @@ pub fn give_ints(table: &mut [i32], n: usize, ints: &[i32]) {
     }
 }
 
+pub fn give_words(table: &mut [u32], n: usize, ints: &[i32]) {
+    let mut i = 0;
+    while i < table.len() {
+        if n <= i {
+            return;
+        }
+        if ints.len() <= i {
+            return;
+        }
+        table[i] = word(ints[i]);
+        i += 1;
+    }
+}
+
 pub fn give_bytes(table: &mut [u8], n: usize, ints: &[i32]) {
     let mut i = 0;
     while i < table.len() {
