@@ -1,6 +1,7 @@
 // Whole streams of 2^N x 2^N coefficients, L levels, through plain C, C written for speed, and the proved library; what
 // encoding them costs before the first bits, and decoding them where they are cut; the planes of such an array and the
-// change between its two orders, in plain C and in the proved library; and a dial that the library turns over a stream.
+// change between its two orders, in plain C and in the proved library; a dial that the library turns over a stream; and the
+// transform of 2^N x 2^N samples, there and back, in the three codes.
 //   bench count N L 12|20    each coder encodes and decodes once: what callgrind counts (bench.sh)
 //   bench open N L 12|20 M   each coder encodes once with a budget of M thousandths of the stream: the same
 //   bench cut N L 12|20 M    each coder decodes once what M thousandths of the stream's bits allow, or M bits (300b): the same
@@ -9,8 +10,10 @@
 //   bench figures N L        the figures of each plane by itself, and of all at once: the same
 //   bench dial N L 2|5|12|20 the dial up to the last bit and down again, by a call for each bit and by one for all: the same;
 //                            2 and 5 are streams whose longest steps are long
-//   bench time N L REPS      the best time of each coder, in ns for each coded bit, of encode with no bits, in us, and of
-//                            the dial's steps, their mean and the worst, in us
+//   bench transform N L      samples to coefficients and back once, by each code: the same
+//   bench edges N L          the transform at the ends of the range of samples, and what it refuses, by each code; nothing is counted
+//   bench time N L REPS      the best time of each coder, in ns for each coded bit, of encode with no bits, in us, of the
+//                            dial's steps, their mean and the worst, in us, and of the transform, in ns for each sample
 #define _GNU_SOURCE
 #include "../include/txp.h"
 #include "gen.h"
@@ -23,7 +26,7 @@
 
 static uint32_t desc[I / 4], grand[I / 16];
 static uint8_t marks[I], prec[I], body[TXP_MOST_BODY(NLS_MAX_N)];
-static int32_t coef[I], values[I];
+static int32_t samples[I], coef[I], values[I], work[I];
 
 nls_result txp_bench_encode(const int32_t *c, unsigned n, unsigned l, uint32_t budget, uint32_t *d, uint32_t *g,
                             uint8_t *m, uint8_t *b) {
@@ -39,10 +42,29 @@ __attribute__((noinline)) nls_result txp_bench_decode(const uint8_t *b, uint32_t
     return (nls_result){.no = no, .place = a.place, .bits = a.bits, .planes = p, .finished = a.finished, .worst = a.error};
 }
 
-static const struct { const char *name; nls_encoder *encode; nls_decoder *decode; } coders[] = {
-    {"plain", nls_plain_encode, nls_plain_decode},
-    {"fast", nls_fast_encode, nls_fast_decode},
-    {"txp", txp_bench_encode, txp_bench_decode},
+__attribute__((noinline)) nls_result txp_bench_transform(unsigned n, unsigned l, const int32_t *s, size_t s_len, int32_t *c,
+                                                         size_t c_len, int32_t *w, size_t w_len) {
+    txp_answer a;
+    uint32_t no = txp_transform(n, l, s, s_len, c, c_len, w, w_len, &a);
+    return (nls_result){.no = no, .place = a.place};
+}
+
+__attribute__((noinline)) nls_result txp_bench_restore(unsigned n, unsigned l, const int32_t *c, size_t c_len, int32_t *s,
+                                                       size_t s_len, int32_t *w, size_t w_len) {
+    txp_answer a;
+    uint32_t no = txp_restore(n, l, c, c_len, s, s_len, w, w_len, &a);
+    return (nls_result){.no = no, .place = a.place};
+}
+
+static const struct {
+    const char *name;
+    nls_encoder *encode;
+    nls_decoder *decode;
+    nls_transform *transform, *restore;
+} coders[] = {
+    {"plain", nls_plain_encode, nls_plain_decode, nls_plain_transform, nls_plain_restore},
+    {"fast", nls_fast_encode, nls_fast_decode, nls_fast_transform, nls_fast_restore},
+    {"txp", txp_bench_encode, txp_bench_decode, txp_bench_transform, txp_bench_restore},
 };
 
 __attribute__((noinline)) unsigned txp_bench_planes(const int32_t *c, unsigned n) {
@@ -313,6 +335,78 @@ static int paces(unsigned n, unsigned l, unsigned planes, unsigned reps) {
     return 0;
 }
 
+static int is_zero(const int32_t *table, size_t all) {
+    int32_t some = 0;
+    for (size_t i = 0; i < all; i++) some |= table[i];
+    return !some;
+}
+
+// The best times of one code of the transform, there and back. The coefficients are those of plain C, which comes first, the samples
+// come back, and the work table, which held something else, ends as zeros.
+static int there(unsigned k, unsigned n, unsigned l, unsigned reps, double *ahead, double *back) {
+    static int32_t first[I];
+    size_t all = TXP_ENTRIES(n), bytes = all * sizeof *coef;
+    memset(coef, 1, bytes);
+    memset(values, 1, bytes);
+    *ahead = *back = 1e30;
+    for (unsigned r = 0; r < reps; r++) {
+        memset(work, 1, bytes);
+        double t = now();
+        nls_result c = coders[k].transform(n, l, samples, all, coef, I, work, I);
+        double u = now();
+        int wrong = c.no || !is_zero(work, all);
+        memset(work, 1, bytes);
+        double v = now();
+        nls_result s = coders[k].restore(n, l, coef, all, values, I, work, I);
+        double w = now();
+        if (u - t < *ahead) *ahead = u - t;
+        if (w - v < *back) *back = w - v;
+        if (k == 0 && r == 0) memcpy(first, coef, bytes);
+        if (wrong || s.no || !is_zero(work, all) || memcmp(coef, first, bytes) || memcmp(values, samples, bytes))
+            return printf("%s, transform, N = %u, L = %u: wrong\n", coders[k].name, n, l), 1;
+    }
+    return 0;
+}
+
+// Each code takes the samples there and back once.
+static int transforms(unsigned n, unsigned l) {
+    double ahead, back;
+    for (unsigned k = 0; k < 3; k++)
+        if (there(k, n, l, 1, &ahead, &back)) return 1;
+    return 0;
+}
+
+// Each code refuses what it takes from `from`, there or back, with this number and this place, and leaves in the output and in the
+// work table what plain C does, which comes first.
+static int refusals(unsigned n, unsigned l, int back, const int32_t *from, uint32_t no, uint32_t place) {
+    static int32_t first[I], first_work[I];
+    size_t all = TXP_ENTRIES(n), bytes = all * sizeof *from;
+    for (unsigned k = 0; k < 3; k++) {
+        memset(values, 1, bytes);
+        memset(work, 1, bytes);
+        nls_result r = (back ? coders[k].restore : coders[k].transform)(n, l, from, all, values, I, work, I);
+        if (k == 0) memcpy(first, values, bytes), memcpy(first_work, work, bytes);
+        if (r.no != no || r.place != place || memcmp(first, values, bytes) || memcmp(first_work, work, bytes))
+            return printf("%s, refusal %u, N = %u, L = %u: wrong\n", coders[k].name, no, n, l), 1;
+    }
+    return 0;
+}
+
+// Samples at the ends of their range; then a coarsest coefficient that takes its samples out of the range, a coefficient over the
+// limit, and two numbers that are no samples.
+static int edges(unsigned n, unsigned l) {
+    uint32_t all = TXP_ENTRIES(n);
+    gen_ends(samples, n);
+    if (transforms(n, l)) return 1;
+    coef[1] += 65536;
+    if (refusals(n, l, 1, coef, 18, 0)) return 1;
+    coef[all - 1] = -NLS_LIMIT - 1;
+    if (refusals(n, l, 1, coef, 4, all - 1)) return 1;
+    samples[all / 2] = 32768;
+    samples[all - 1] = -32769;
+    return refusals(n, l, 0, samples, 17, all / 2);
+}
+
 static int times(unsigned n, unsigned l, unsigned reps) {
     uint32_t bits;
     double enc, dec;
@@ -331,6 +425,12 @@ static int times(unsigned n, unsigned l, unsigned reps) {
         }
         if (paces(n, l, planes, reps)) return 1;
     }
+    gen_samples(samples, n);
+    for (unsigned k = 0; k < 3; k++) {
+        if (there(k, n, l, reps, &enc, &dec)) return 1;
+        printf("transform %-6s forward %6.2f ns/sample  back %6.2f ns/sample\n", coders[k].name, enc / (double)TXP_ENTRIES(n),
+               dec / (double)TXP_ENTRIES(n));
+    }
     return 0;
 }
 
@@ -345,7 +445,9 @@ int main(int argc, char **argv) {
         if (argc == 3 && !strcmp(argv[1], "order")) return order(n);
         if (argc == 4 && !strcmp(argv[1], "figures")) return figures(n, l);
         if (argc == 5 && !strcmp(argv[1], "dial") && (last == 2 || last == 5 || last == 12 || last == 20)) return dial(n, l, last);
+        if (argc == 4 && !strcmp(argv[1], "transform")) return gen_samples(samples, n), transforms(n, l);
+        if (argc == 4 && !strcmp(argv[1], "edges")) return edges(n, l);
         if (argc == 5 && !strcmp(argv[1], "time") && last > 0) return times(n, l, last);
     }
-    return fprintf(stderr, "usage: bench count N L 12|20, bench open N L 12|20 THOUSANDTHS, bench cut N L 12|20 THOUSANDTHS or BITSb, bench planes N L 12|20, bench order N, bench figures N L, bench dial N L 2|5|12|20, or bench time N L REPS\n"), 2;
+    return fprintf(stderr, "usage: bench count N L 12|20, bench open N L 12|20 THOUSANDTHS, bench cut N L 12|20 THOUSANDTHS or BITSb, bench planes N L 12|20, bench order N, bench figures N L, bench dial N L 2|5|12|20, bench transform N L, bench edges N L, or bench time N L REPS\n"), 2;
 }

@@ -2,8 +2,9 @@
 # Counts the instructions that encode and decode execute on a whole stream, in plain C, in C written for speed, and in
 # the proved library through its C interface; those of encode with a budget of no bits and of one per cent of the stream,
 # and of decode where the stream is cut, by the same three; those of the planes and of the change between the two orders
-# of a whole array, in plain C and in the library; those of the figures of one plane and of all; those of the dial, turned
-# over a whole stream and back, beside decoding it once; then the coders' times and those of the dial's steps on this machine.
+# of a whole array, in plain C and in the library; those of the figures of one plane and of all; those of the transform of
+# samples, forward and back, by the three; those of the dial, turned over a whole stream and back, beside decoding it once;
+# then the times of the coders, of the dial's steps and of the transform on this machine.
 # The streams are of 256 by 256 and of 1,024 by 1,024, the latter with two numbers of levels; the cut ones of 256 by 256.
 #   sh bench/bench.sh [REPS]
 # Needs gcc and valgrind. On a machine that is not x86-64 it needs gcc, Debian's gcc-x86-64-linux-gnu and qemu-user: the
@@ -17,10 +18,10 @@ room=$(mktemp -d)
 trap 'rm -rf "$room"' EXIT
 cc=gcc
 [ "$(uname -m)" = x86_64 ] || cc='x86_64-linux-gnu-gcc -static'
-$cc -std=gnu11 -O2 -ffp-contract=off bench/bench.c bench/nls_summaries.c bench/nls_plain.c bench/nls_fast.c bench/nls_orders.c target/staticlib/libctxp.a -o "$room/bench"
+$cc -std=gnu11 -O2 -ffp-contract=off bench/bench.c bench/nls_summaries.c bench/nls_plain.c bench/nls_fast.c bench/nls_orders.c bench/nls_transform.c target/staticlib/libctxp.a -o "$room/bench"
 if [ "$cc" != gcc ]; then
     gcc -O2 -fPIC -shared bench/count.c -o "$room/count.so"
-    named=$(x86_64-linux-gnu-nm "$room/bench" | awk '$3 ~ /^(txp_bench|nls_(plain|fast))_(encode|decode|planes|linear|raster|one|all|forward|back|up|down)$/ { printf ",%s=%s", $3, $1 }')
+    named=$(x86_64-linux-gnu-nm "$room/bench" | awk '$3 ~ /^(txp_bench|nls_(plain|fast))_(encode|decode|planes|linear|raster|one|all|forward|back|up|down|transform|restore)$/ { printf ",%s=%s", $3, $1 }')
 fi
 run() { # ARGUMENTS of the program; what the functions that it ran executed is left in $room/text
     if [ "$cc" = gcc ]; then
@@ -38,7 +39,7 @@ columns() { # UNITS 'A UNIT' CALL CALL: what stands above the rows
     printf '%4s %2s %-6s %-5s %9s %13s %6s %8s %6s %13s %6s %8s %6s\n' side L planes coder "$1" "$3 insns" 'to C' "$2" 'to 256' "$4 insns" 'to C' "$2" 'to 256'
 }
 # N L PLANES CODER UNITS CALL CALL: a row. For each call its instructions, their ratio to those of plain C, how many they
-# are a unit (a coded bit, an entry), and the ratio of that to the same coder's at 256 by 256.
+# are a unit (a coded bit, an entry, a sample), and the ratio of that to the same coder's at 256 by 256.
 row() {
     echo "$1 $2 $3 $4 $5 $(counted "$4" "$6") $(counted "$4" "$7")" >>"$room/rows"
     awk '{ kind = $3 $4; x = $6 / $5; y = $7 / $5 }
@@ -74,6 +75,11 @@ cuts() { # N L: the rows of decode of cut streams, at parts in thousandths or, w
         done
     done
 }
+transforms() { # N L: the rows of the transform of such squares, which is tried on the ends of the range first
+    run edges "$1" "$2"
+    run transform "$1" "$2"
+    for coder in plain fast txp; do row "$1" "$2" - $coder $((1 << 2 * $1)) transform restore; done
+}
 # N L PLANES BITS KIND CALL CALL: a row of the dial. For the call up and for the one down the instructions, their ratio to
 # those of decoding the stream once, how many they are a bit, and those of the longest call where there is one for each bit.
 dial() {
@@ -108,6 +114,10 @@ for n in 8 10; do
     run order $n
     for coder in plain txp; do row $n - - $coder $((1 << 2 * n)) linear raster; done
 done
+columns samples 'a sample' forward back
+transforms 8 5
+transforms 10 6
+transforms 10 9
 run figures 8 5
 x=$(($(counted txp one) / 24)) y=$(counted txp all)
 printf 'figures of one plane, on average, %d insns, of all 24 at once %d insns, ratio %s\n' "$x" "$y" "$(ratio "$y" "$x")"

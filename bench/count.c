@@ -2,11 +2,11 @@
  *
  *   qemu-x86_64 -plugin count.so,NAME=ADDRESS,NAME=ADDRESS.. PROGRAM ARGUMENTS
  *
- * ADDRESS is the function's, in hexadecimal, as nm prints it for a program that is linked at fixed addresses. A named
- * function is one that no named function calls, and whose caller does not run inside it: a count begins at the
- * function's first instruction and ends at the next one of its caller. At the end a line for each function that ran is
- * written to standard error, as callgrind_annotate has it: the count, and `count:NAME`; and one with the instructions
- * of its longest call, and `most NAME`.
+ * ADDRESS is the function's, in hexadecimal, as nm prints it for a program that is linked at fixed addresses. The caller
+ * of a named function does not run inside it: a count begins at the function's first instruction and ends at the next
+ * one of its caller. Where a named function calls another one, it is counted in the first alone. At the end a line for
+ * each function that ran is written to standard error, as callgrind_annotate has it: the count, and `count:NAME`; and
+ * one with the instructions of its longest call, and `most NAME`.
  * The declarations are those of version 1 of qemu's interface.
  */
 #include <stdint.h>

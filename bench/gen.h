@@ -1,4 +1,4 @@
-// Test data: a small generator, Laplacian-like coefficients, and coefficients of one magnitude or two.
+// Test data: a small generator, Laplacian-like coefficients, coefficients of one magnitude or two, and samples.
 #ifndef GEN_H
 #define GEN_H
 #include <stdint.h>
@@ -37,5 +37,21 @@ static inline void gen_level(int32_t *c, unsigned N, int32_t most, uint32_t part
         int32_t m = part && gen_u32() % part == 0 ? 1 : most;
         c[i] = gen_u32() & 1 ? -m : m;
     }
+}
+// A wave of parabolas, from -16,384 to 16,384, that comes round after 512 steps.
+static inline int32_t gen_wave(uint32_t t) {
+    int32_t x = (int32_t)(t % 256), y = x * (256 - x);
+    return t % 512 < 256 ? y : -y;
+}
+// Samples in raster order: two waves that cross, and some noise. They go up to 32,255 and down to -32,256.
+static inline void gen_samples(int32_t *s, unsigned N) {
+    for (uint32_t p = 0; p < 1u << 2 * N; p++) {
+        uint32_t row = p >> N, col = p % (1u << N);
+        s[p] = gen_wave(2 * row + 7 * col) + gen_wave(5 * row + 3 * col) / 16 * 15 + (int32_t)(gen_u32() % 1024) - 512;
+    }
+}
+// Samples that are each one end of their range.
+static inline void gen_ends(int32_t *s, unsigned N) {
+    for (uint32_t p = 0; p < 1u << 2 * N; p++) s[p] = gen_u32() & 1 ? -32768 : 32767;
 }
 #endif

@@ -32,4 +32,9 @@ unsigned nls_plain_planes(const int32_t *coef, unsigned N);
 // An array of 4^N entries in the other order.
 typedef void nls_order(const int32_t *from, unsigned N, int32_t *to);
 nls_order nls_plain_linear, nls_plain_raster;
+
+// The S transform of 4^N samples into as many coefficients, L levels, and back. Each array has its length beside it.
+typedef nls_result nls_transform(unsigned N, unsigned L, const int32_t *from, size_t from_len, int32_t *to, size_t to_len,
+                                 int32_t *work, size_t work_len);
+nls_transform nls_plain_transform, nls_plain_restore, nls_fast_transform, nls_fast_restore;
 #endif

@@ -15,4 +15,5 @@ try() { # NAME ARGUMENTS
 }
 try example
 try dial examples/ezw.txp
-echo "both print what README.md has"
+try picture target/picture.txp
+echo "all three print what README.md has"
