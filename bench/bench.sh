@@ -26,7 +26,7 @@ fi
 run() { # ARGUMENTS of the program; what the functions that it ran executed is left in $room/text
     if [ "$cc" = gcc ]; then
         valgrind --quiet --tool=callgrind --callgrind-out-file="$room/out" "$room/bench" "$@"
-        callgrind_annotate --inclusive=yes "$room/out" >"$room/text"
+        callgrind_annotate --inclusive=yes --threshold=100 "$room/out" >"$room/text"
     else
         qemu-x86_64 -plugin "$room/count.so$named" "$room/bench" "$@" 2>"$room/text"
     fi
