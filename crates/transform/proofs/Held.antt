@@ -1,18 +1,15 @@
 -- What the machine does with the numbers of a pair. A local holds its bits, so that a goal speaks of `toZ w32 (ofZ w32 z)`.
 use mathlib.Core.Path.{_≡_, refl, sym, _∙_, ap, subst}
-use Prim.Native.Nat.{ℕ, _+_, _<_, _≤_, _^_}
+use Prim.Native.Nat.{ℕ, _+_, _<_, _≤_}
 use native.Mathlib.Omega.{arith}
 use lib.IntN.{ℤ, pos, negsuc, negℤ, natAbs, _+ℤ_, _-ℤ_}
 use lib.Signed.{mag, shrZ}
 use mir.Facts.{toZ-ofZ}
 use mir.Syntax.{w32}
 use mir.Val.{SFits, ofZ, toZ}
+use Rattle.coef.proofs.Held.{read-back}
 use Rattle.transform.specs.Transform.{halved, low, high, first, second}
 use Rattle.transform.proofs.Range.{mag-size, sum-size, neg-size, half-size, first-size, next-half, second-size}
-
--- an element of a `&[i32]`, as a read hands it over
-pub read-back : (z : ℤ) → mag z < 2 ^ 31 → toZ w32 (ofZ w32 z) ≡ z
-read-back z h = toZ-ofZ {w = w32} {z = z} (record { sfits = h })
 
 -- a number that is not too large, as a local holds it
 pub fits : (z : ℤ) → natAbs z ≤ 1073741824 → SFits w32 z

@@ -11,7 +11,7 @@ use lib.ListN.{getD}
 use Rattle.coef.specs.Coef.{at}
 use Rattle.transform.specs.Quads.{onward}
 use Rattle.transform.proofs.Arrays.{onward-none, store-up}
-use Rattle.transform.proofs.Held.{read-back}
+use Rattle.coef.proofs.Held.{read-back}
 use Rattle.transform.proofs.copy_head.Statement.{statement}
 use Rattle.transform.proofs.copy_head.Tie as tie
 

@@ -9,7 +9,7 @@ use borrow.Author.Tests.{not-true, not-false}
 use Rattle.transform.specs.Answers.{isSample, firstOutside}
 use Rattle.coef.specs.Coef.{at}
 use Rattle.transform.proofs.Outside.{outside-stop, outside-step, outside-end}
-use Rattle.transform.proofs.Held.{read-back}
+use Rattle.coef.proofs.Held.{read-back}
 use Rattle.transform.proofs.first_outside.Statement.{statement}
 use Rattle.transform.proofs.first_outside.Tie as tie
 

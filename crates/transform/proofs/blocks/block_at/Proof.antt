@@ -7,7 +7,8 @@ use mir.Val.{toZ, ofZ}
 use lib.ListN.{getD}
 use Rattle.coef.specs.Coef.{at}
 use Rattle.transform.specs.Quads.{block}
-use Rattle.transform.proofs.Held.{still-mag, read-back}
+use Rattle.coef.proofs.Held.{read-back}
+use Rattle.transform.proofs.Held.{still-mag}
 use borrow.Author.Needs.{needs}
 use Rattle.transform.proofs.blocks.block_at.Statement.{statement}
 use Rattle.transform.proofs.blocks.block_at.Tie as tie
