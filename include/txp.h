@@ -31,8 +31,8 @@ extern "C" {
 
 /* The version of this library's interface, and that of the files that it writes and reads. A change of the first number may break
  * a caller, a change of the second only adds. */
-#define TXP_VERSION_MAJOR 2
-#define TXP_VERSION_MINOR 4
+#define TXP_VERSION_MAJOR 3
+#define TXP_VERSION_MINOR 0
 #define TXP_FILE_VERSION 1
 
 /* Limits. */
@@ -105,6 +105,23 @@ static inline const char *txp_refusal_text(uint32_t refusal)
     return refusal < sizeof texts / sizeof texts[0] ? texts[refusal] : "unknown refusal";
 }
 
+/* Why the bits of a body ended, or that they go on. The declared bits are those that the file's header names, or the caller of a call on
+ * a body; its usable bits are the first of these, as many as are there. */
+enum txp_ending {
+    TXP_GOES_ON = 0, /* usable bits are left, and so are planes; and in every answer that does not speak of an end */
+    TXP_WHOLE = 1,   /* the last plane ended, or P is 0: nothing is missing, whatever is declared or present */
+    TXP_BUDGET = 2,  /* all declared bits were used, and planes are left: it was stored small on purpose */
+    TXP_CUT = 3      /* planes are left, and bits that are declared are not there: a download that stopped */
+};
+
+/* A word for it, to be shown: "whole", "budget" and "cut" as txpshow has them; "bits go on"; "unknown ending" for a number that is
+ * none. */
+static inline const char *txp_ending_text(uint32_t ending)
+{
+    static const char *const texts[] = {"bits go on", "whole", "budget", "cut"};
+    return ending < sizeof texts / sizeof texts[0] ? texts[ending] : "unknown ending";
+}
+
 /* What a call answers. */
 typedef struct txp_answer {
     uint32_t refusal;  /* the number for no, which is the call's result too */
@@ -122,6 +139,7 @@ typedef struct txp_answer {
     uint32_t found;    /* coefficients found in a plane */
     uint32_t negative; /* 1 for a coefficient below 0 */
     uint32_t value;    /* the number of a call that answers one number */
+    uint32_t ending;   /* why the bits ended: enum txp_ending */
 } txp_answer;
 
 /* ---- the file */
@@ -143,7 +161,7 @@ uint32_t txp_encode(uint32_t n, uint32_t l, const int32_t *coefs, size_t coefs_l
  * every array whose stream begins with these bits differs from values[i] by less than 2^precisions[i]. This is the number of the plane
  * in progress if in it the coefficient's own bit was read (with its sign, where one follows) or a set that holds it was tested 0; else
  * that of the last finished plane, or P if none is. A whole stream has precisions 0.
- * Answer: n, l, planes, declared, bits (used), finished, error. */
+ * Answer: n, l, planes, declared, bits (used), finished, error, ending (TXP_WHOLE, TXP_BUDGET or TXP_CUT). */
 uint32_t txp_decode(const uint8_t *file, size_t file_len, int32_t *values, size_t values_len, uint8_t *precisions,
                     size_t precisions_len, uint8_t *marks, size_t marks_len, txp_answer *answer);
 
@@ -164,10 +182,10 @@ uint32_t txp_encode_body(uint32_t n, uint32_t l, const int32_t *coefs, size_t co
                          uint32_t *grand, size_t grand_len, uint8_t *marks, size_t marks_len, uint8_t *out, size_t out_len,
                          size_t offset, uint32_t budget, txp_answer *answer);
 
-/* Reads the first `usable` bits of a body of P planes, or all that it has.
+/* Reads the first `declared` bits of a body of P planes, or all that it has.
  * values, precisions, marks: TXP_ENTRIES(n) or more each. Refusals 1, 2, 9, 5: nothing that is lent is touched.
- * Refusals 12, 13: the first I entries of the three are 0. Done: as for txp_decode. Answer: bits (used), finished, error. */
-uint32_t txp_decode_body(uint32_t n, uint32_t l, uint32_t p, const uint8_t *body, size_t body_len, uint32_t usable,
+ * Refusals 12, 13: the first I entries of the three are 0. Done: as for txp_decode. Answer: bits (used), finished, error, ending. */
+uint32_t txp_decode_body(uint32_t n, uint32_t l, uint32_t p, const uint8_t *body, size_t body_len, uint32_t declared,
                          int32_t *values, size_t values_len, uint8_t *precisions, size_t precisions_len, uint8_t *marks,
                          size_t marks_len, txp_answer *answer);
 
@@ -192,26 +210,28 @@ typedef struct txp_record {
 } txp_record;
 
 /* Before the first bit of a body of P planes. dial: any, it is not read. values, precisions, marks: TXP_ENTRIES(n) or more each.
- * Refusals 1, 2, 9, 5: nothing that is lent is touched. Done: record and tables for 0 bits. Answer: bits (0), finished (0), error. */
+ * Refusals 1, 2, 9, 5: nothing that is lent is touched. Done: record and tables for 0 bits. Answer: bits (0), finished (0), error,
+ * ending: TXP_WHOLE where P is 0, else TXP_GOES_ON, since no body is lent; txp_turn to 0 bits answers for the body at hand. */
 uint32_t txp_start(txp_record *dial, uint32_t n, uint32_t l, uint32_t p, int32_t *values, size_t values_len,
                    uint8_t *precisions, size_t precisions_len, uint8_t *marks, size_t marks_len, txp_answer *answer);
 
-/* One bit forward. The usable bits of the body are its first `usable`, or all that it has.
+/* One bit forward. The usable bits of the body are its first `declared`, or all that it has.
  * Refusals 16, 5, 15, and 12 or 13 (place: the bit, as for txp_decode_body): nothing that is lent is touched, so record and tables
- * stay at the last good position. Done: record and tables for one bit more. Answer: bits (used), finished, error. */
-uint32_t txp_forward(txp_record *dial, const uint8_t *body, size_t body_len, uint32_t usable, int32_t *values,
+ * stay at the last good position. Done: record and tables for one bit more. Answer: bits (used), finished, error, ending: for the position
+ * that was reached, so TXP_GOES_ON where usable bits and planes are left. */
+uint32_t txp_forward(txp_record *dial, const uint8_t *body, size_t body_len, uint32_t declared, int32_t *values,
                      size_t values_len, uint8_t *precisions, size_t precisions_len, uint8_t *marks, size_t marks_len,
                      txp_answer *answer);
 
 /* One bit back, with the body at hand. Refusals 16, 5, 14: nothing that is lent is touched.
  * Done: record and tables for one bit fewer. Answer: as for txp_forward. */
-uint32_t txp_back(txp_record *dial, const uint8_t *body, size_t body_len, uint32_t usable, int32_t *values, size_t values_len,
+uint32_t txp_back(txp_record *dial, const uint8_t *body, size_t body_len, uint32_t declared, int32_t *values, size_t values_len,
                   uint8_t *precisions, size_t precisions_len, uint8_t *marks, size_t marks_len, txp_answer *answer);
 
 /* To `to` bits used, by single steps forward or back. Refusals 16, 5: nothing that is lent is touched.
  * Refusals 15, 12, 13 of a step forward end the turn: record and tables stay at the position that was reached.
  * Done: record and tables for `to` bits; where as many were used before, as they were. Answer: as for txp_forward. */
-uint32_t txp_turn(txp_record *dial, const uint8_t *body, size_t body_len, uint32_t usable, uint32_t to, int32_t *values,
+uint32_t txp_turn(txp_record *dial, const uint8_t *body, size_t body_len, uint32_t declared, uint32_t to, int32_t *values,
                   size_t values_len, uint8_t *precisions, size_t precisions_len, uint8_t *marks, size_t marks_len,
                   txp_answer *answer);
 
@@ -298,9 +318,10 @@ uint32_t txp_float(int32_t x, float *to, txp_answer *answer);
 /* Bit b of x, 0 for a b of 32 or more. No refusal. Answer: value, 1 or 0. */
 uint32_t txp_bit(uint32_t x, uint32_t b, txp_answer *answer);
 
-/* The bit with number `at` of those of a body that are below `end`. No refusal.
- * Answer: bits is 1 and value the bit; where there are no more, both are 0. */
-uint32_t txp_read_bit(const uint8_t *body, size_t body_len, size_t at, size_t end, txp_answer *answer);
+/* The bit with number `at` of a body of `declared` bits. No refusal.
+ * Answer: bits is 1 and value the bit; where there are no more, both are 0, and ending is TXP_BUDGET where `at` is not below
+ * `declared`, else TXP_CUT. */
+uint32_t txp_read_bit(const uint8_t *body, size_t body_len, size_t at, size_t declared, txp_answer *answer);
 
 /* Puts a bit at number `at` and clears what lies below it in its byte; past the end it does nothing. Any x but 0 is a 1.
  * No refusal. Answer: nothing. */

@@ -72,8 +72,9 @@ def lengthen(rng, data):
 def change_declared(rng, data):
     """Declare more or fewer bits."""
     declared = int.from_bytes(data[8:12], 'big')
+    there = 8 * max(0, len(data) - HEADER)
     set_declared(data, rng.choice((
-        declared + rng.randint(-9, 9), 8 * max(0, len(data) - HEADER),
+        declared + rng.randint(-9, 9), there + rng.randint(0, 1),
         2 ** 32 - 1 - rng.randint(0, 8), rng.getrandbits(32))))
 
 
@@ -122,9 +123,10 @@ WEIGHTS = (20, 5, 5, 15, 5, 10, 15, 15, 10, 10)
 
 
 def answer_of(text):
-    """What an output says, without its figures."""
-    words = text.split()
-    return words[0] if words[0] == 'TXP' else ' '.join(words[:2])
+    """What an output says, without its figures: of a file that is shown why
+    its bits ended."""
+    words = text.split('\n')[0].split()
+    return words[0] + ' ' + words[-1 if words[0] == 'TXP' else 1]
 
 
 def changed_file(rng):

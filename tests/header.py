@@ -5,8 +5,9 @@
 
 Compared: the exported functions, their order, the name, width, sign and order of each parameter, the result; the answer's fields
 with the source's struct, with the order in which they are put and with the definitions `Entry`, `entryOf` and `entries`; the record's
-fields with the source's struct and with the order in which the calls take and put them; the refusals' numbers; the limits and the sizes to lend; the declarations of examples/rust with the header; and that each public call of the base is exported or is
-named in docs/DECISIONS.md.
+fields with the source's struct and with the order in which the calls take and put them; the refusals' numbers, and those of why the
+bits ended, with as many texts; the limits and the sizes to lend; the declarations of examples/rust with the header; and that each
+public call of the base is exported or is named in docs/DECISIONS.md.
 Exit status 1 where something differs.
 """
 import os
@@ -124,9 +125,35 @@ def refusals(header):
     number = re.search(r"pub fn number.*?^\}", source("crates", "refusals", "src", "lib.rt"), re.S | re.M)[0]
     theirs = {n.upper(): int(k) for n, k in re.findall(r"Refusal::(\w+)(?:\(_\))? => (\d+)", number)}
     same("the refusals", ours, {"DONE": 0, **theirs})
-    texts = re.search(r"texts\[\] = \{(.*?)\};", header, re.S)[1]
-    same("the refusals' texts", len(re.findall(r"\"[^\"]+\"", texts)), len(ours))
+    same("the refusals' texts", len(texts(header, "txp_refusal_text")), len(ours))
     return len(theirs)
+
+
+def texts(header, function):
+    """The texts of one of the header's functions, by their numbers."""
+    body = re.search(rf"\*{function}\(uint32_t \w+\)\n\{{(.*?)^\}}", header, re.S | re.M)[1]
+    return re.findall(r"\"([^\"]+)\"", re.search(r"texts\[\] = \{(.*?)\};", body, re.S)[1])
+
+
+def endings(header):
+    """Why the bits ended: the header's numbers and texts against the definition, the source and the words of txpshow."""
+    ours = [(n, int(k)) for n, k in re.findall(r"TXP_(\w+) = (\d+)", re.search(r"enum txp_ending \{(.*?)\};", header, re.S)[1])]
+    same("the endings' numbers, in order", [k for _, k in ours], list(range(len(ours))))
+
+    def named(pairs):
+        return [(re.sub(r"(?<=[a-z])(?=[A-Z])", "_", n).upper(), int(k)) for n, k in pairs]
+
+    spec = read("crates", "ctxp", "specs", "Answers.antt")
+    same("the endings as defined", ours, named(re.findall(r"^endingNumber endings\.(\w+) = (\d+)$", spec, re.M)))
+    answers = source("crates", "ctxp", "src", "answers.rt")
+    same("the endings as put", ours, named(re.findall(r"Ending::(\w+) => (\d+)", answers)))
+    words = texts(header, "txp_ending_text")
+    same("the endings' texts", len(words), len(ours))
+    shown = re.findall(r"Ending::(\w+) => put_letters\(out, at, b\" (\w+)\"\)", source("crates", "show", "src", "lib.rt"))
+    same("the endings' words", [(n, w) for (n, _), w in zip(ours, words)][1:], [(n.upper(), w) for n, w in shown])
+    rust_words = re.search(r"fn ending_text\(.*?\[(.*?)\]", source("examples", "rust", "txp.rs"), re.S)[1]
+    same("the endings' texts, in Rust", words, re.findall(r"\"([^\"]+)\"", rust_words))
+    return len(ours)
 
 
 def macro(defines, name, n=None):
@@ -212,11 +239,11 @@ def main():
     header = re.sub(r"[ \t]*/\*.*?\*/", "", text, flags=re.S)
     length = fields(header)
     lengths = {length: "txp_answer", record(header): "txp_record"}
-    counts = functions(header, lengths), length, refusals(header), rust(header), base()
+    counts = functions(header, lengths), length, refusals(header), endings(header), rust(header), base()
     sizes(header)
     for line in wrong:
         print(line)
-    print("txp.h: %d functions, %d fields, %d refusals; %d declarations in Rust; %d calls of the base; %d differences" % (*counts, len(wrong)))
+    print("txp.h: %d functions, %d fields, %d refusals, %d endings; %d declarations in Rust; %d calls of the base; %d differences" % (*counts, len(wrong)))
     return 1 if wrong else 0
 
 

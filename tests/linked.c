@@ -10,11 +10,11 @@
 
 enum { PAST = 64 };                                    /* entries behind a lent buffer that are compared, and before it */
 enum { LENT = 1048576 + 64 };                          /* the most that is lent: a little more than N = 10 needs */
-enum { NUMBERS = 4, ANSWER = 16, MOST = LENT + PAST }; /* the most that a list has */
+enum { NUMBERS = 4, ANSWER = 17, MOST = LENT + PAST }; /* the most that a list has */
 enum { DESC, GRAND, MARKS, BYTES, VALUES, TABLES };
 static const size_t width[TABLES] = {4, 4, 1, 1, 4};
 
-_Static_assert(sizeof(txp_answer) == 15 * sizeof(uint32_t), "the answer is lent as 15 numbers");
+_Static_assert(sizeof(txp_answer) == 16 * sizeof(uint32_t), "the answer is lent as 16 numbers");
 _Static_assert(sizeof(txp_record) == 8 * sizeof(uint32_t), "the record is lent as 8 numbers");
 
 /* ---- the cases */
@@ -206,7 +206,7 @@ typedef struct {
     } held;
     const uint8_t *body;
     size_t body_len;
-    uint32_t usable;
+    uint32_t declared;
     buffer values, precisions, marks;
 } stepped;
 
@@ -218,13 +218,13 @@ static uint32_t step(char letter, stepped *s, uint32_t to, txp_answer *answer)
     txp_record *record = &s->held.record;
     switch (letter) {
     case 'f':
-        return txp_forward(record, s->body, s->body_len, s->usable, values, values_len, precisions, precisions_len, marks,
+        return txp_forward(record, s->body, s->body_len, s->declared, values, values_len, precisions, precisions_len, marks,
                            marks_len, answer);
     case 'b':
-        return txp_back(record, s->body, s->body_len, s->usable, values, values_len, precisions, precisions_len, marks, marks_len,
+        return txp_back(record, s->body, s->body_len, s->declared, values, values_len, precisions, precisions_len, marks, marks_len,
                         answer);
     default:
-        return txp_turn(record, s->body, s->body_len, s->usable, to, values, values_len, precisions, precisions_len, marks,
+        return txp_turn(record, s->body, s->body_len, s->declared, to, values, values_len, precisions, precisions_len, marks,
                         marks_len, answer);
     }
 }
@@ -285,7 +285,7 @@ static uint32_t given(char letter, const uint32_t *n, stepped *s, txp_answer *an
 /* The calls of the stepped decoder. The record is in the table of DESC before and after. */
 static uint32_t steps(char letter, const uint32_t *n, lent_case *c, txp_answer *answer)
 {
-    stepped s = {.body = c->file.lent, .body_len = c->file.count, .usable = n[letter == 'Y' ? 3 : 0],
+    stepped s = {.body = c->file.lent, .body_len = c->file.count, .declared = n[letter == 'Y' ? 3 : 0],
                  .values = c->table[VALUES], .precisions = c->table[BYTES], .marks = c->table[MARKS]};
     memset(&s.held, 0x5a, sizeof s.held);
     const uint32_t past = s.held.before[0];

@@ -140,9 +140,9 @@ def generations(I, what, i):
 
 
 def decode(N, L, P, bits):
-    """Values, precisions, marks, the last finished plane (or P) and the scan
-    record after the scan reads bits that begin some array's stream. Nothing is
-    refused.
+    """Values, precisions, marks, the last finished plane (or P), the scan
+    record, and whether the scan ended by itself, after it reads bits that begin
+    some array's stream. Nothing is refused.
 
     A precision is the last finished plane (or P) or, where that is lower, the
     last plane in which the place's own bit was read or, in document 02, "a set
@@ -155,12 +155,12 @@ def decode(N, L, P, bits):
     size, sign = [0] * I, [1] * I
     read = [P] * I         # the last plane in which either came
     used, last = 0, P
-    rest = 0, 2, I, 0
+    rest, ended = (0, 2, I, 0), True
 
     def next_bit(what, i, b, mark):
-        nonlocal used, rest
+        nonlocal used, rest, ended
         if used == len(bits):
-            rest = b, PASS[mark[i]], i, int(what == 'sign')
+            rest, ended = (b, PASS[mark[i]], i, int(what == 'sign')), False
             raise NoNextBit
         bit = bits[used]
         used += 1
@@ -185,4 +185,26 @@ def decode(N, L, P, bits):
               for s, m, k in zip(sign, size, precision)]
     plane, stage, place, pending = rest
     record = N, L, P, plane, stage, place, used, pending
-    return values, precision, mark, last, record
+    return values, precision, mark, last, record, ended
+
+
+def ending(N, L, P, body, declared):
+    """The word of document 02 for a body that is not refused: why the scan's
+    next bit is missing, "declared count reached (also where both fall at one
+    bit), or file short", and `whole` where the scan ends by itself."""
+    used, word = 0, 'whole'
+
+    def next_bit(*_):
+        nonlocal used, word
+        if used == declared:
+            word = 'budget'
+            raise NoNextBit
+        if used // 8 == len(body):
+            word = 'cut'
+            raise NoNextBit
+        bit = body[used // 8] >> 7 - used % 8 & 1
+        used += 1
+        return bit
+
+    scan(N, L, P, next_bit)
+    return word

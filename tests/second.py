@@ -1,7 +1,8 @@
 #!/usr/bin/env python3
 """A second coder for the texture stream of document 01 (docs/01-scope.md), with
 the stepped decoder of document 02's request T-01, the sizes of its T-02, the
-precisions of its T-04 and the transform of its T-05.
+precisions of its T-04, the transform of its T-05 and the words of its T-06 for
+why the bits ended.
 
 It reaches the answers of document 01 by other means than the scan with marks,
 so that a coder written from the marks can be compared with it.
@@ -47,6 +48,10 @@ STEP = (16, 4, 1)
 
 NONE, MIP, MNP, MSP, MCP, MD, MG = range(7)
 
+# Why the bits ended, document 02: "the first line gains a last word, `whole`,
+# `budget` or `cut`".
+WHOLE, BUDGET, CUT = 'whole', 'budget', 'cut'
+
 
 def MN(k):
     """The code of a mark MNk: "MNk is k+5, for k from 2 to 7"; document 02:
@@ -57,8 +62,10 @@ def MN(k):
 Refused = namedtuple('Refused', 'number place')
 Header = namedtuple('Header', 'N L P declared bits')
 Encoded = namedtuple('Encoded', 'P bits file desc grand marks')
+# The ending is one of the words below, or None where bits go on.
 Decoded = namedtuple(
-    'Decoded', 'values precisions marks used finished error plane_bits record')
+    'Decoded',
+    'values precisions marks used finished error plane_bits record ending')
 # The scan record of document 02: "N, L, P, plane, pass, place, bits used, a
 # pending sign". Its pass is 0 for the pixel, 1 for the set and 2 for the
 # refinement pass.
@@ -690,15 +697,36 @@ def ran(N, L, P, bits, ceiling):
 
 
 def decode(N, L, P, bits, ceiling=None):
-    """The answer to the usable bits, or refusal 12 or 13 with its bit."""
+    """The answer to the usable bits, or refusal 12 or 13 with its bit. Its
+    ending is WHOLE or None: why there are no more bits is not said to it."""
     decoder, refused = ran(N, L, P, tuple(bits), ceiling and tuple(ceiling))
     if refused:
         return refused
     precisions = decoder.precisions()
+    # document 02: "`whole` means plane 0 ended (or P is 0)"
+    ending = WHOLE if decoder.finished == P else None
     return Decoded(decoder.values(precisions), precisions, decoder.marks(),
                    decoder.used, decoder.finished,
                    2 ** decoder.last_plane() - 1, decoder.plane_bits,
-                   decoder.record())
+                   decoder.record(), ending)
+
+
+def lacking(at, declared, body):
+    """Why there is no bit of this number, or None where there is one, document
+    02: "declared count reached (also where both fall at one bit), or file
+    short"."""
+    if at >= declared:
+        return BUDGET
+    return CUT if at >= 8 * len(body) else None
+
+
+def ended(answer, declared, body):
+    """An answer to some of a body's usable bits with the word for it: WHOLE
+    before the others, and None where bits and planes are left. A refusal has
+    no word."""
+    if isinstance(answer, Refused) or answer.ending == WHOLE:
+        return answer
+    return answer._replace(ending=lacking(answer.used, declared, body))
 
 
 def marks_after(N, L, P, bits):
@@ -818,29 +846,36 @@ def decode_file(data, lent=None):
         return header
     if lent and min(lent) < 4 ** header.N:
         return Refused(5, 0)
-    decoded = decode(header.N, header.L, header.P, header.bits)
+    decoded = ended(decode(header.N, header.L, header.P, header.bits),
+                    header.declared, data[HEADER_BYTES:])
     return decoded if isinstance(decoded, Refused) else (header, decoded)
 
 
-def decode_body(N, L, P, body, usable, lent):
-    """What the first usable bits of a body decode to, or a refusal. lent gives
+def check_body(N, L, P, lent):
+    """The checks of the calls on a body that read it: 1, 2, 9, 5. lent gives
     the lengths of the lent values, precisions and marks."""
     refused = check_sizes(N, L)
     if refused:
         return refused
     if P > PLANE_LIMIT:
         return Refused(9, 0)
-    if min(lent) < 4 ** N:
-        return Refused(5, 0)
-    return decode(N, L, P, unpack(body)[:usable])
+    return Refused(5, 0) if min(lent) < 4 ** N else None
+
+
+def decode_body(N, L, P, body, declared, lent):
+    """What a body of so many declared bits decodes to, or a refusal. lent as
+    for check_body."""
+    return check_body(N, L, P, lent) or ended(
+        decode(N, L, P, unpack(body)[:declared]), declared, body)
 
 
 # Stepped decoder.
 
 def start(N, L, P, lent):
     """The position before the first bit, or a refusal. A position is what
-    decoding a prefix answers, with its record."""
-    return decode_body(N, L, P, b'', 0, lent)
+    decoding a prefix answers, with its record. No body is at hand, so that the
+    word is WHOLE where P is 0, and else None."""
+    return check_body(N, L, P, lent) or decode(N, L, P, [])
 
 
 def in_range(record, usable):
@@ -854,55 +889,62 @@ def in_range(record, usable):
                       and pending <= 1)
 
 
-def check_step(record, bits, lent):
+def usable_bits(body, declared):
+    """The number of usable bits: "the smaller of declared and 8 times the bytes
+    present"."""
+    return min(declared, 8 * len(body))
+
+
+def check_step(record, usable, lent):
     """The checks of each step: "16 first, then 5"."""
-    if not in_range(record, len(bits)):
+    if not in_range(record, usable):
         return Refused(16, 0)
     if min(lent) < 4 ** record.N:
         return Refused(5, 0)
     return None
 
 
-def prefix(record, bits, count):
-    """The position after so many bits, or the refusal of the first of them
-    that is refused."""
-    return decode(record.N, record.L, record.P, bits[:count])
+def prefix(record, body, declared, count):
+    """The position after so many of the usable bits of a body, with the word
+    for it, or the refusal of the first of them that is refused."""
+    bits = unpack(body)[:declared]
+    return ended(decode(record.N, record.L, record.P, bits[:count]), declared,
+                 body)
 
 
-def forward(record, body, usable, lent):
+def forward(record, body, declared, lent):
     """The position one bit on, or a refusal: "15, forward with no usable bit
     left", or 12 or 13 of the bit."""
-    bits = unpack(body)[:usable]
-    refused = check_step(record, bits, lent)
+    usable = usable_bits(body, declared)
+    refused = check_step(record, usable, lent)
     if refused:
         return refused
-    if record.used == len(bits):
+    if record.used == usable:
         return Refused(15, 0)
-    return prefix(record, bits, record.used + 1)
+    return prefix(record, body, declared, record.used + 1)
 
 
-def back(record, body, usable, lent):
+def back(record, body, declared, lent):
     """The position one bit before, or a refusal: "14, back at bit 0"."""
-    bits = unpack(body)[:usable]
-    refused = check_step(record, bits, lent)
+    refused = check_step(record, usable_bits(body, declared), lent)
     if refused:
         return refused
     if record.used == 0:
         return Refused(14, 0)
-    return prefix(record, bits, record.used - 1)
+    return prefix(record, body, declared, record.used - 1)
 
 
-def turn(record, body, usable, to, lent):
+def turn(record, body, declared, to, lent):
     """The refusal of the step that ends a turn to a number of bits, or None,
     and the position that it ends at; no position where 16 or 5 refuses all."""
-    bits = unpack(body)[:usable]
-    refused = check_step(record, bits, lent)
+    usable = usable_bits(body, declared)
+    refused = check_step(record, usable, lent)
     if refused:
         return refused, None
-    position = prefix(record, bits, min(to, len(bits)))
+    position = prefix(record, body, declared, min(to, usable))
     if isinstance(position, Refused):
-        return position, prefix(record, bits, position.place)
-    return Refused(15, 0) if to > len(bits) else None, position
+        return position, prefix(record, body, declared, position.place)
+    return Refused(15, 0) if to > usable else None, position
 
 
 def too_large(data):
@@ -922,7 +964,9 @@ def show(data):
     if isinstance(answer, Refused):
         return 'refused %d %d\n' % answer
     (N, L, P, declared, _), decoded = answer
-    lines = ['TXP 1 %d %d %d %d %d' % (N, L, P, declared, decoded.used)]
+    # in document 02 "the first line gains a last word"
+    lines = ['TXP 1 %d %d %d %d %d %s' % (N, L, P, declared, decoded.used,
+                                          decoded.ending)]
     for n, bits in enumerate(decoded.plane_bits):
         b = P - 1 - n
         standing, split = plane_figures(N, L, decoded.values, b)

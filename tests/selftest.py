@@ -1,6 +1,7 @@
 """The checks of second.py: the samples of document 01, exhaustive comparisons
 on small cases and random comparisons with the literal scan; the transform
-worked by hand, and compared with one that takes pair after pair.
+worked by hand, and compared with one that takes pair after pair; why the bits
+ended, by hand and by every length of small bodies.
 
     python3 tests/second.py selftest [full]
 """
@@ -15,11 +16,12 @@ from operator import le
 import literal
 from arrays import STYLES, placed, random_array, random_bits, scattered
 from second import (
-    COEFFICIENT_LIMIT, DESC, GRAND, N_LIMIT, PIXEL, SAMPLE_LEAST, SAMPLE_MOST,
-    STEP, Decoder, Encoded, Record, Refused, back, decode, decode_file, encode,
-    encode_file, forward, lent_after, linear_place, linear_places, marks_after,
-    output_bytes, pack, parts_after, plane_count, plane_figures, read_file,
-    restore, shape_of, show, start, stream_by_plane, summaries,
+    BUDGET, COEFFICIENT_LIMIT, CUT, DESC, GRAND, HEADER_BYTES, N_LIMIT, PIXEL,
+    SAMPLE_LEAST, SAMPLE_MOST, STEP, WHOLE, Decoder, Encoded, Record, Refused,
+    back, bytes_for, decode, decode_body, decode_file, encode, encode_file,
+    ended, forward, lacking, lent_after, linear_place, linear_places,
+    marks_after, output_bytes, pack, parts_after, plane_count, plane_figures,
+    read_file, restore, shape_of, show, start, stream_by_plane, summaries,
     to_coefficients, to_linear, to_raster, to_samples, transform, turn,
     worst_body, write_file)
 
@@ -27,8 +29,9 @@ NO_BUDGET = 2 ** 32 - 1
 
 SAMPLE = to_linear(2, [5, -3, 0, 0, 0, 1, 2, 0, 0, 0, 0, -1, 0, 0, 0, 0])
 SAMPLE_FILE = bytes.fromhex('54585000010201030000002580C9020B30')
+# The text of document 01, with document 02's "last word".
 SAMPLE_TEXT = '''\
-TXP 1 2 1 3 37 37
+TXP 1 2 1 3 37 37 whole
 plane 2 8 7 0
 plane 1 13 10 1
 plane 0 16 13 1
@@ -303,13 +306,15 @@ def compare_cut(N, L, A, budget):
     P, bits, mark = literal.encode(N, L, A, budget)
     equal(encode(N, L, A, budget), (P, bits), 'bits')
     answer = decode(N, L, P, bits)
-    values, precisions, marks, last, record = literal.decode(N, L, P, bits)
+    values, precisions, marks, last, record, by_itself = literal.decode(
+        N, L, P, bits)
     equal(answer.marks, mark, 'marks of the encoder')
     equal(answer.marks, marks, 'marks of the decoder')
     equal(answer.values, values, 'values')
     equal(answer.precisions, precisions, 'precisions')
     equal(answer.used, len(bits), 'used')
     equal(answer.record, record, 'record')
+    equal(answer.ending, WHOLE if by_itself else None, 'whole')
     equal((answer.finished, answer.error), (P - last, 2 ** last - 1), 'error')
     # "differs nowhere by more than the worst error"
     equal(max(abs(a - v) for a, v in zip(A, values)) <= answer.error, True,
@@ -595,11 +600,11 @@ def random_bodies(count):
 
 # Stepped decoder.
 
-def by_steps(position, body, usable, to, lent):
+def by_steps(position, body, declared, to, lent):
     """What a turn answers, by single steps."""
     while position.used != to:
         step = forward if position.used < to else back
-        got = step(position.record, body, usable, lent)
+        got = step(position.record, body, declared, lent)
         if isinstance(got, Refused):
             return got, position
         position = got
@@ -609,9 +614,12 @@ def by_steps(position, body, usable, to, lent):
 def turns(count):
     """A turn ends where single steps end, and with the same refusal; what it
     ends at is what decoding that prefix leaves. A step back undoes a step
-    forward."""
+    forward. Where a step forward finds a bit to answer with, the word is that
+    bits go on; where 13 refuses it, `whole`; and where 15 does, the word of
+    the body up to there."""
     rng = random.Random(7)
     seen = dict.fromkeys((None, 12, 13, 15), 0)
+    words = dict.fromkeys((None, WHOLE, BUDGET, CUT), 0)
     for n in range(count):
         N = rng.choice((2, 2, 3))
         L, P = rng.randint(1, N - 1), rng.randint(0, 3)
@@ -620,25 +628,39 @@ def turns(count):
         more = random_bits(rng, rng.randint(0, 20), rng.choice((0.1, 0.5)))
         if rng.random() < 0.7:
             bits = bits[:rng.randint(0, len(bits))]
+        if n % 5 == 0:
+            # whole bytes of the stream, so that any bits declared past them
+            # are not there
+            bits, more = bits[:len(bits) // 8 * 8], []
         body = pack(bits + more)
-        usable = rng.choice((len(bits), len(bits + more), NO_BUDGET))
-        most = min(usable, 8 * len(body))
+        declared = rng.choice((len(bits), len(bits + more), NO_BUDGET))
+        most = min(declared, 8 * len(body))
         lent = (4 ** N,) * 3
         position = start(N, L, P, lent)
+        equal(position.ending, None if P else WHOLE, 'the word of a start')
+        position = ended(position, declared, body)
         for _ in range(6):
             to = rng.randint(0, most + 1)
-            wanted = by_steps(position, body, usable, to, lent)
-            refused, position = turn(position.record, body, usable, to, lent)
+            wanted = by_steps(position, body, declared, to, lent)
+            refused, position = turn(position.record, body, declared, to, lent)
             equal((refused, position), wanted, 'a turn by steps')
             seen[refused and refused.number] += 1
-            equal(position, decode(N, L, P, (bits + more + [0] * 8)[
-                :position.used]), 'the prefix decoded')
-            on = forward(position.record, body, usable, lent)
+            equal(position._replace(ending=None), decode(
+                N, L, P, (bits + more + [0] * 8)[:position.used]
+                )._replace(ending=None), 'the prefix decoded')
+            on = forward(position.record, body, declared, lent)
             if not isinstance(on, Refused):
-                equal(back(on.record, body, usable, lent), position,
+                equal(back(on.record, body, declared, lent), position,
                       'a bit forward and back')
+            word = (None if not isinstance(on, Refused) or on.number == 12 else
+                    WHOLE if on.number == 13 else
+                    literal.ending(N, L, P, body, declared))
+            equal(position.ending, word, 'the word of a position')
+            words[word] += 1
     for number in seen:
         equal(seen[number] > 0, True, 'turns that end with %s' % number)
+    for word in words:
+        equal(words[word] > 9, True, 'positions with the word %s' % word)
 
 
 def step_refusals():
@@ -963,8 +985,8 @@ def files():
     equal(show(huge + SAMPLE_FILE[12:]), 'refused 13 37\n', 'padding is usable')
     empty = b'TXP\0\1\2\1\0'
     rows = '0 0 0 0\n' * 4
-    equal(show(empty + bytes(4)), 'TXP 1 2 1 0 0 0\n' + rows, 'P = 0')
-    equal(show(empty + b'\0\0\0\1'), 'TXP 1 2 1 0 1 0\n' + rows,
+    equal(show(empty + bytes(4)), 'TXP 1 2 1 0 0 0 whole\n' + rows, 'P = 0')
+    equal(show(empty + b'\0\0\0\1'), 'TXP 1 2 1 0 1 0 whole\n' + rows,
           'P = 0, bits declared and absent')
     equal(show(empty + b'\0\0\0\1\0'), 'refused 13 0\n', 'P = 0, a bit present')
     equal(show(b''), 'refused 7 0\n', 'no bytes')
@@ -986,6 +1008,139 @@ def files():
         header = read_file(answer.file)
         equal(tuple(header), (N, L, P, len(answer.bits), answer.bits), 'file')
         equal(len(answer.file) <= output_bytes(N, L, P, budget), True, 'room')
+
+
+# Why the bits ended.
+
+# Worked by hand from document 02's text: P, the body, the declared bits, and
+# the word or the refusal. The sample has 37 bits in 5 bytes. The array of N = 2
+# and L = 1 with a 1 in place 0 and else 0 has one plane of 8 bits: 1 and the
+# sign 0, three other coefficients, three sets.
+SAMPLE_BODY = SAMPLE_FILE[HEADER_BYTES:]
+ENDS = (
+    (3, SAMPLE_BODY, 37, WHOLE),                # plane 0 ended
+    (3, SAMPLE_BODY, 38, Refused(13, 37)),      # a bit of the padding is usable
+    (3, SAMPLE_BODY, 40, Refused(13, 37)),
+    (3, SAMPLE_BODY, 41, Refused(13, 37)),
+    (3, SAMPLE_BODY[:4], 37, CUT),              # the byte with the padding
+    (3, SAMPLE_BODY[:4], 34, CUT),
+    (3, SAMPLE_BODY[:4], 33, CUT),              # one more than 8 x bytes
+    (3, SAMPLE_BODY[:4], 32, BUDGET),           # both fall at one bit
+    (3, b'\x80\xc9\x02\x0a', 31, BUDGET),       # one fewer
+    (3, SAMPLE_BODY[:3], 33, CUT),
+    (3, SAMPLE_BODY[:1], 8, BUDGET),            # after a plane
+    (3, SAMPLE_BODY[:1], 9, CUT),
+    (3, b'\x80', 1, BUDGET),                    # before a sign
+    (3, b'', 0, BUDGET),
+    (3, b'', 1, CUT),
+    (3, b'', NO_BUDGET, CUT),
+    (1, b'\x80', 8, WHOLE),
+    (1, b'\x80', 9, WHOLE),                     # a bit that is not there
+    (1, b'\x80', 16, WHOLE),
+    (1, b'\x80', NO_BUDGET, WHOLE),
+    (1, b'\x80\0', 9, Refused(13, 8)),          # a bit that is there
+    (1, b'\x80\0', NO_BUDGET, Refused(13, 8)),
+    (1, b'\x80', 7, BUDGET),
+    (1, b'', 8, CUT),
+    (0, b'', 0, WHOLE),
+    (0, b'', 1, WHOLE),
+    (0, b'', NO_BUDGET, WHOLE),
+    (0, b'\0', 1, Refused(13, 0)),
+    (0, b'\0', NO_BUDGET, Refused(13, 0)))
+
+
+def worked_ends():
+    """The ends worked by hand, of a file, of its text and of a body."""
+    for P, body, declared, wanted in ENDS:
+        data = write_file(2, 1, P, declared, []) + body
+        answer = decode_file(data)
+        if isinstance(wanted, Refused):
+            equal(answer, wanted, 'declared bits that are there')
+            text = 'refused %d %d' % wanted
+            got = decode_body(2, 1, P, body, declared, (16,) * 3)
+        else:
+            equal(answer[1].ending, wanted, 'the word of a file')
+            text = 'TXP 1 2 1 %d %d %d %s' % (P, declared, answer[1].used,
+                                              wanted)
+            got = decode_body(2, 1, P, body, declared, (16,) * 3).ending
+        equal(show(data).split('\n')[0], text, 'the first line')
+        equal(got, wanted, 'the word of a body')
+    # no more than the declared bits is asked of a body
+    for declared in range(37):
+        equal(decode_body(2, 1, 3, SAMPLE_BODY, declared, (16,) * 3).ending,
+              BUDGET, 'a body that goes on')
+    for at, declared, wanted in (
+            (7, 8, None), (8, 8, BUDGET), (8, 9, CUT), (9, 9, BUDGET),
+            (7, 7, BUDGET), (0, 0, BUDGET), (NO_BUDGET, NO_BUDGET, BUDGET),
+            (NO_BUDGET - 1, NO_BUDGET, CUT), (9, 8, BUDGET)):
+        equal(lacking(at, declared, b'\0'), wanted, 'a bit that is missing')
+
+
+def worked_steps():
+    """Words of positions, worked by hand: the sample's body whole, and its
+    first 4 bytes with 32, 33 and 37 bits declared."""
+    enough = (16,) * 3
+    _, bits = encode(2, 1, SAMPLE, NO_BUDGET)
+    equal(start(2, 1, 3, enough).ending, None, 'a start')
+    equal(start(2, 1, 0, enough).ending, WHOLE, 'a start of P = 0')
+    for body, declared, words in (
+            (SAMPLE_BODY, 37, {37: WHOLE}), (SAMPLE_BODY, 40, {37: WHOLE}),
+            (SAMPLE_BODY, NO_BUDGET, {37: WHOLE}),
+            (SAMPLE_BODY, 36, {36: BUDGET}), (SAMPLE_BODY[:4], 37, {32: CUT}),
+            (SAMPLE_BODY[:4], 33, {32: CUT}),
+            (SAMPLE_BODY[:4], 32, {32: BUDGET}),
+            (SAMPLE_BODY[:4], 31, {31: BUDGET}), (b'', 1, {0: CUT}),
+            (b'', 0, {0: BUDGET}), (SAMPLE_BODY, 0, {0: BUDGET})):
+        last, = words
+        for at in range(last + 1):
+            record, wanted = decode(2, 1, 3, bits[:at]).record, words.get(at)
+            equal(turn(record, body, declared, at, enough)[1].ending, wanted,
+                  'the word where a turn has nothing to do')
+            if at:
+                before = decode(2, 1, 3, bits[:at - 1]).record
+                equal(forward(before, body, declared, enough).ending, wanted,
+                      'the word of a step forward')
+                equal(back(record, body, declared, enough).ending, None,
+                      'the word of a step back')
+        on = forward(record, body, declared, enough)
+        equal(on, Refused(13, 37) if words[last] == WHOLE and declared > 37
+              else Refused(15, 0), 'a step past the end')
+
+
+def every_length(full):
+    """Small streams, of any number of bytes and declared bits: `whole` exactly
+    where the bits are all that an encoder writes, 13 where more are there."""
+    rng = random.Random(13)
+    seen = dict.fromkeys((WHOLE, BUDGET, CUT, 13), 0)
+    arrays = list(SMALL) + [(N, L, random_array(rng, N, P, 'sparse'))
+                            for N, L, P in ((2, 1, 0), (2, 1, 1), (2, 1, 2),
+                                            (3, 1, 1), (3, 2, 2), (4, 3, 1))]
+    arrays.append((2, 1, [1] + [0] * 15))
+    for N, L, A in arrays:
+        P, bits = encode(N, L, A, NO_BUDGET)
+        longer = pack(bits) + b'\0'
+        pairs = list(product(range(len(longer) + 1), list(range(
+            8 * len(longer) + 2)) + [NO_BUDGET]))
+        if N > 2 and not full:
+            pairs = rng.sample(pairs, min(400, len(pairs)))
+        for count, declared in pairs:
+            body, usable = longer[:count], min(declared, 8 * count)
+            got = decode_body(N, L, P, body, declared, (4 ** N,) * 3)
+            if usable > len(bits):
+                equal(got, Refused(13, len(bits)), 'bits beyond')
+                seen[13] += 1
+                continue
+            word = (WHOLE if usable == len(bits) else
+                    BUDGET if usable == declared else CUT)
+            equal(got.ending, word, 'the word of a length')
+            equal(literal.ending(N, L, P, body, declared), word,
+                  'the word of the scan')
+            seen[word] += 1
+            if bytes_for(declared) > count:
+                data = write_file(N, L, P, declared, []) + body
+                equal(decode_file(data)[1], got, 'a short file')
+    for word in seen:
+        equal(seen[word] > 30, True, 'lengths with %s' % word)
 
 
 def run(full=False):
@@ -1011,4 +1166,7 @@ def run(full=False):
     decode_refusals()
     encode_refusals()
     files()
+    worked_ends()
+    worked_steps()
+    every_length(full)
     print('%d checks passed in %.0f seconds' % (checks, time.time() - started))

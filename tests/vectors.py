@@ -37,7 +37,11 @@ TABLES = 'desc', 'grand', 'marks', 'bytes', 'values'
 # `struct txp_answer` in the order of include/txp.h.
 ANSWER = ('result', 'refusal', 'place', 'n', 'l', 'planes', 'declared', 'bits',
           'bytes', 'finished', 'error', 'parts', 'splits', 'found', 'negative',
-          'value')
+          'value', 'ending')
+
+# Why the bits ended, each word at its number in `enum txp_ending`; None is that
+# bits go on.
+ENDINGS = None, second.WHOLE, second.BUDGET, second.CUT
 
 # Entries past a table's lent end that are compared too.
 PAST = 64
@@ -49,6 +53,10 @@ STORED_LINE = 65_600
 
 # The largest N whose work table that program has: the table is that of DESC.
 WORK_N = 8
+
+# Sizes between those of which there are cases of every L, up to N = 6, and the
+# largest N: their lines are short enough.
+BETWEEN = (7, 5), (7, 6), (8, 6), (8, 7)
 
 # A case with a longer list, or of the transform, has items that repeat what
 # stands before, for so many equal runs in a row or more.
@@ -180,7 +188,7 @@ def decode_case(data, lent=None):
 def decoded_numbers(decoded):
     """The numbers of what was decoded that file and body have."""
     return {'bits': decoded.used, 'finished': decoded.finished,
-            'error': decoded.error}
+            'error': decoded.error, 'ending': ENDINGS.index(decoded.ending)}
 
 
 def cleared(refused, side):
@@ -189,15 +197,15 @@ def cleared(refused, side):
     return ([0] * 4 ** side[0] if refused.number in (12, 13) else (),) * 3
 
 
-def decode_body_case(N, L, P, body, usable, lent):
+def decode_body_case(N, L, P, body, declared, lent):
     """A call of txp_decode_body."""
-    got = second.decode_body(N, L, P, body, usable, lent)
+    got = second.decode_body(N, L, P, body, declared, lent)
     if isinstance(got, Refused):
         tables, answered = cleared(got, (N,)), answer(got)
     else:
         tables = got.values, got.precisions, got.marks
         answered = answer(**decoded_numbers(got))
-    return case('C', (N, L, P, usable), answered, (), body,
+    return case('C', (N, L, P, declared), answered, (), body,
                 **dict(zip(('values', 'bytes', 'marks'), zip(lent, tables))))
 
 
@@ -270,7 +278,7 @@ def encode_cases(seed):
     for N, L in ((5, 3), (6, 4)):
         A = random_array(rng, N, 12, 'decay')
         yield 'dense', N, L, NO_BUDGET, A, None
-    for N, L in ((7, 5), (7, 6), (8, 6), (8, 7)):
+    for N, L in BETWEEN:
         A = random_array(rng, N, 3, 'single')
         yield 'large', N, L, NO_BUDGET, A, None
     yield from encode_refusals(rng)
@@ -622,16 +630,17 @@ def coder_cases(seed, decodes):
 
 
 def body_limits(rng):
-    """Usable bits that end before the body does, and refusals of the calls on
-    a body."""
+    """Declared bits that end before the body does, and refusals of the calls
+    on a body."""
     for N, L in shapes(3):
         I = 4 ** N
         data, bits = whole_file(rng, N, L, 5)
         body = data[second.HEADER_BYTES:]
-        for usable in list(range(0, len(bits), 5)) + [
+        for declared in list(range(0, len(bits), 5)) + [
                 len(bits) - 1, len(bits), len(bits) + 1, 8 * len(body),
                 NO_BUDGET]:
-            yield 'usable', decode_body_case(N, L, 5, body, usable, (I,) * 3)
+            yield 'declared', decode_body_case(N, L, 5, body, declared,
+                                               (I,) * 3)
     for N, L, P, lent in ((1, 1, 25, 0), (11, 0, 25, 0), (9, 0, 25, 0),
                           (10, 10, 25, 0), (10, 9, 25, 0), (10, 9, 24, 4 ** 9),
                           (2, 0, 25, 0), (2, 2, 25, 0), (2, 1, 25, 0),
@@ -812,12 +821,12 @@ def small_cases():
         for b in list(range(34)) + [64, 256, 2 ** 32 - 1]:
             yield 'any', case('X', (x, b), answer(value=x >> b & 1))
     body = bytes((0xa5, 0x3c, 0xff, 0x00, 0x81))
-    bits = second.unpack(body)
-    for at in list(range(42)) + [2 ** 32 - 1]:
-        for end in (0, 7, 8, 23, 40, 41, 2 ** 32 - 1):
-            numbers = ({'bits': 1, 'value': bits[at]} if at < min(end, 40)
-                       else {})
-            yield 'any', case('V', (at, end), answer(**numbers), (), body)
+    for at in list(range(43)) + [NO_BUDGET - 1, NO_BUDGET]:
+        for declared in (0, 7, 8, 23, 39, 40, 41, 42, NO_BUDGET - 1, NO_BUDGET):
+            yield 'any', read_bit_case(at, declared, body)
+    for at, declared, end in product((0, 1, 7, 8, 9, NO_BUDGET),
+                                     (0, 1, 8, 9, NO_BUDGET), (0, 1)):
+        yield 'any', read_bit_case(at, declared, body[:end])
     for at in list(range(26)) + [2 ** 32 - 1]:
         for x in (0, 1, 2, 2 ** 32 - 1):
             after = [before(i) & 255 for i in range(3)]
@@ -825,6 +834,14 @@ def small_cases():
                 keep = after[at // 8] >> 8 - at % 8 << 8 - at % 8
                 after[at // 8] = keep | (x > 0) << 7 - at % 8
             yield 'any', case('U', (at, x), answer(), bytes=(3, after))
+
+
+def read_bit_case(at, declared, body):
+    """A call of txp_read_bit."""
+    why = second.lacking(at, declared, body)
+    numbers = ({'ending': ENDINGS.index(why)} if why else
+               {'bits': 1, 'value': second.unpack(body)[at]})
+    return case('V', (at, declared), answer(**numbers), (), body)
 
 
 def header_cases():
@@ -858,6 +875,9 @@ def header_case(data):
 # The commands of a dial beside turns: one bit forward and one bit back.
 FORWARD, BACK = -1, -2
 
+# The letters of a step forward, a step back and a turn by themselves.
+STEPS = 'fbt'
+
 # The lent tables that a step changes, in the order of its parameters.
 STEPPED = 'values', 'bytes', 'marks'
 
@@ -867,7 +887,7 @@ def tables_of(position):
     return position.values, position.precisions, position.marks
 
 
-def walked(N, L, P, body, usable, commands, lent):
+def walked(N, L, P, body, declared, commands, lent):
     """The last answer of a dial, a refusal or None, and the position that it
     leaves; there is none where the start is refused. The record then holds
     what it held, which is out of range."""
@@ -879,38 +899,38 @@ def walked(N, L, P, body, usable, commands, lent):
         record = position.record
         if command in (FORWARD, BACK):
             step = second.forward if command == FORWARD else second.back
-            got = step(record, body, usable, lent)
+            got = step(record, body, declared, lent)
             refused = got if isinstance(got, Refused) else None
             position = position if refused else got
         else:
-            refused, position = second.turn(record, body, usable, command,
+            refused, position = second.turn(record, body, declared, command,
                                             lent)
     return refused, position
 
 
-def dial_case(N, L, P, body, usable, commands=(), lent=None):
+def dial_case(N, L, P, body, declared, commands=(), lent=None):
     """A call of txp_start, and of txp_turn, txp_forward and txp_back for each
     command."""
     lent = lent or (4 ** N,) * 3
-    refused, position = walked(N, L, P, body, usable, commands, lent)
+    refused, position = walked(N, L, P, body, declared, commands, lent)
     tables = tables_of(position) if position else ((),) * 3
     numbers = {} if refused else decoded_numbers(position)
-    return case('Y', (N, L, P, usable), answer(refused, **numbers), commands,
-                body, desc=(8, position.record if position else ()),
+    return case('Y', (N, L, P, declared), answer(refused, **numbers),
+                commands, body, desc=(8, position.record if position else ()),
                 **dict(zip(STEPPED, zip(lent, tables))))
 
 
-def step_case(letter, record, tables, body, usable, to=0, own=0):
+def step_case(letter, record, tables, body, declared, to=0, own=0):
     """A call of txp_forward, txp_back or txp_turn on a given record and on
     given tables, which hold what is lent. Where own is not 0, no prefix leaves
     them, and so much of each is not compared."""
     lent = list(map(len, tables))
     refused, position = None, None
     if not own and letter == 't':
-        refused, position = second.turn(record, body, usable, to, lent)
+        refused, position = second.turn(record, body, declared, to, lent)
     elif not own:
         step = second.forward if letter == 'f' else second.back
-        got = step(record, body, usable, lent)
+        got = step(record, body, declared, lent)
         refused = got if isinstance(got, Refused) else None
         position = None if refused else got
     after = tables
@@ -918,7 +938,7 @@ def step_case(letter, record, tables, body, usable, to=0, own=0):
         after = [list(held) + list(table[len(held):])
                  for held, table in zip(tables_of(position), tables)]
     numbers = {} if refused or own else decoded_numbers(position)
-    return case(letter, (usable, to, own), answer(refused, **numbers),
+    return case(letter, (declared, to, own), answer(refused, **numbers),
                 list(record) + [x for table in tables for x in table], body,
                 desc=(8, position.record if position else record),
                 **dict(zip(STEPPED, zip(lent, after))))
@@ -986,8 +1006,8 @@ def walks(rng):
             P = rng.randint(1, 24 if N < 5 else 6)
             data, bits = whole_file(rng, N, L, P)
             body = data[second.HEADER_BYTES:]
-            usable = rng.choice((len(bits), len(bits), rng.randint(0, len(bits)),
-                                 NO_BUDGET))
+            declared = rng.choice((len(bits), len(bits),
+                                   rng.randint(0, len(bits)), NO_BUDGET))
             commands = []
             for _ in range(rng.randint(1, 9 if N < 5 else 3)):
                 commands += rng.choice((
@@ -997,7 +1017,7 @@ def walks(rng):
             commands += ([], [FORWARD], [BACK], [rng.randint(0, len(bits))])[
                 n % 4]
             longer = rng.choice((0, 0, 1, 7))
-            yield 'walk', dial_case(N, L, P, body, usable, commands,
+            yield 'walk', dial_case(N, L, P, body, declared, commands,
                                     (4 ** N + longer, 4 ** N, 4 ** N + longer))
 
 
@@ -1006,24 +1026,24 @@ def step_ends(rng):
     is left to do after each; P = 0."""
     for N, L, P, bits, body in small_bodies():
         count = len(bits)
-        for usable in (count, count - 1, count // 2, 0):
-            for commands in ([BACK], [usable, FORWARD], [usable + 1],
-                             [usable, FORWARD, BACK], [BACK, FORWARD],
-                             [NO_BUDGET - 2], [usable, usable], [1, BACK, BACK],
-                             [usable, 0], [usable, 0, FORWARD], [0]):
+        for last in (count, count - 1, count // 2, 0):
+            for commands in ([BACK], [last, FORWARD], [last + 1],
+                             [last, FORWARD, BACK], [BACK, FORWARD],
+                             [NO_BUDGET - 2], [last, last], [1, BACK, BACK],
+                             [last, 0], [last, 0, FORWARD], [0]):
                 if N < 4:
-                    yield 'ends', dial_case(N, L, P, body, usable, commands)
+                    yield 'ends', dial_case(N, L, P, body, last, commands)
         longer = second.pack(bits + [0] * 9)
-        for usable in (count + 1, 8 * len(longer), NO_BUDGET):
+        for declared in (count + 1, 8 * len(longer), NO_BUDGET):
             for commands in ([count, FORWARD], [count + 1], [NO_BUDGET - 2],
                              [count, FORWARD, BACK], [count]):
-                yield 'beyond', dial_case(N, L, P, longer, usable, commands)
+                yield 'beyond', dial_case(N, L, P, longer, declared, commands)
     for N, L in shapes(4):
-        for body, usable in ((b'', 0), (b'', 9), (b'\x80', 0), (b'\0', 1),
-                             (b'\xff', NO_BUDGET)):
+        for body, declared in ((b'', 0), (b'', 9), (b'\x80', 0), (b'\0', 1),
+                               (b'\xff', NO_BUDGET)):
             for commands in ([FORWARD], [BACK], [0], [1], [NO_BUDGET - 2]):
-                if N == 2 or usable < 2:
-                    yield 'P 0', dial_case(N, L, 0, body, usable, commands)
+                if N == 2 or declared < 2:
+                    yield 'P 0', dial_case(N, L, 0, body, declared, commands)
 
 
 def refused_steps(rng):
@@ -1034,12 +1054,12 @@ def refused_steps(rng):
             N, L, P, _, bits = second.read_file(data)
             at = second.decode(N, L, P, bits).place
             body = data[second.HEADER_BYTES:]
-            for usable, commands in (
+            for declared, commands in (
                     (len(bits), [at, FORWARD]), (len(bits), [len(bits)]),
                     (NO_BUDGET, [NO_BUDGET - 2]), (at, [at + 1]),
                     (len(bits), [len(bits), BACK, FORWARD, FORWARD]),
                     (len(bits), [len(bits), rng.randint(0, at)])):
-                yield kind, dial_case(N, L, P, body, usable, commands)
+                yield kind, dial_case(N, L, P, body, declared, commands)
 
 
 def given_steps(rng):
@@ -1052,12 +1072,12 @@ def given_steps(rng):
             more = rng.choice((0, 1, 5))
             tables = [list(held) + [rng.randrange(256) for _ in range(more)]
                       for held in tables_of(position)]
-            usable = rng.choice((at, count, NO_BUDGET))
+            declared = rng.choice((at, count, NO_BUDGET))
             for letter, to in (('f', 0), ('b', NO_BUDGET), ('t', at),
                                ('t', rng.randint(0, count)),
                                ('t', rng.choice((NO_BUDGET, 2 ** 31, 0)))):
                 yield 'given', step_case(letter, position.record, tables, body,
-                                         usable, to)
+                                         declared, to)
 
 
 def unfit_records():
@@ -1072,7 +1092,7 @@ def unfit_records():
              'stage': (3, 256, largest), 'place': (16, 17, 2 ** 31, largest),
              'used': (38, 41, 2 ** 31, largest), 'pending': (2, 256, largest)}
 
-    def each(position, change, short, usable=37):
+    def each(position, change, short, declared=37):
         """All three calls on a record that is changed so, and on tables of
         which some lack an entry."""
         tables = [list(table)[:16 - lack] for table, lack
@@ -1080,7 +1100,7 @@ def unfit_records():
         record = position.record._replace(**change)
         for letter, to in (('f', 0), ('b', 0), ('t', record.used),
                            ('t', largest)):
-            yield step_case(letter, record, tables, body, usable, to)
+            yield step_case(letter, record, tables, body, declared, to)
 
     middle = second.decode(2, 1, P, bits[:20])
     whole = second.decode(2, 1, P, bits)
@@ -1109,10 +1129,10 @@ def unfit_records():
                           ({}, (16, 16, 16))):
         for one in each(middle, change, short):
             yield 'refused5', one
-    for position, usable in ((first, 0), (first, 37), (whole, 37), (zero, 0),
-                             (whole, largest), (zero, 37)):
+    for position, declared in ((first, 0), (first, 37), (whole, 37), (zero, 0),
+                               (whole, largest), (zero, 37)):
         for short in ((0, 0, 0), (1, 0, 0), (0, 0, 1)):
-            for one in each(position, {}, short, usable):
+            for one in each(position, {}, short, declared):
                 if one.answer[0]:
                     yield 'refused%d' % one.answer[0], one
 
@@ -1124,8 +1144,8 @@ def foreign_steps(rng):
         for n in range({2: 24, 3: 8, 4: 2}[N]):
             top = (7, 15, 256)[n % 3]
             P = rng.choice((0, 1, 2, 5, 24))
-            usable = rng.randint(1, 40)
-            record = Record(N, L, P, 0, 2, I, rng.randint(0, usable), 0)
+            declared = rng.randint(1, 40)
+            record = Record(N, L, P, 0, 2, I, rng.randint(0, declared), 0)
             if P and n % 8:
                 record = record._replace(
                     plane=rng.randrange(P), stage=rng.randrange(3),
@@ -1141,7 +1161,7 @@ def foreign_steps(rng):
             for letter, to in (('f', 0), ('b', 0), ('t', rng.randint(0, 41)),
                                ('t', rng.choice((0, NO_BUDGET)))):
                 yield 'foreign', step_case(letter, record, tables, body,
-                                           usable, to, I)
+                                           declared, to, I)
 
 
 def wide_walks(rng, N, L):
@@ -1467,6 +1487,256 @@ def dense_transforms(rng):
         yield from there_and_back('random', N, L, A)
 
 
+# Why the bits ended.
+
+# A body with its declared bits, and the bits used at the last position that a
+# dial reaches in it.
+End = namedtuple('End', 'P declared body last')
+
+
+def stream_of(rng, N, L, rest):
+    """P and the whole stream, of 3 bytes or more, of an array that is short to
+    write; it has one of these numbers of bits past whole bytes."""
+    while True:
+        P = rng.randint(2, 6)
+        A = (one_array(rng, N, P) if N < 5
+             else random_array(rng, N, P, 'single'))
+        _, bits = encode(N, L, A, NO_BUDGET)
+        if len(bits) >= 24 and len(bits) % 8 in rest:
+            return P, bits
+
+
+def stream_ends(rng, N, L):
+    """Ends of a stream with padding, and then of one of whole bytes: whole, cut
+    and by a budget; about as many bits declared as are there; declared bits
+    beyond the last plane, there and not there."""
+    P, bits = stream_of(rng, N, L, range(2, 8))
+    body, count = second.pack(bits), len(bits)
+    yield End(P, count, body, count)
+    yield End(P, count, body[:-1], count // 8 * 8)
+    there = 8 * rng.randrange(1, count // 8)
+    for declared in (there, there - 1, there + 1):
+        last = min(declared, there)
+        yield End(P, declared, second.pack(bits[:last]), last)
+    for declared in (count + 1, NO_BUDGET):
+        yield End(P, declared, body, count)
+    P, bits = stream_of(rng, N, L, (0,))
+    body, count = second.pack(bits), len(bits)
+    for declared in (count, count + 1, NO_BUDGET):
+        yield End(P, declared, body, count)
+    yield End(P, count + 1, body + b'\0', count)
+
+
+# Of the ends of a stream those that are whole, cut and by a budget.
+FIRST_ENDS = 3
+
+
+def empty_ends(rng):
+    """Ends before the first bit: of bodies of no byte, and of P = 0."""
+    for P, declared in product((0, rng.randint(1, 24)), (0, 1)):
+        yield End(P, declared, b'', 0)
+    yield End(0, 1, b'\0', 0)
+
+
+def ending_cases(seed):
+    """(kind, case) of each end, as a file, as a body and by steps; of a large N
+    few, which are long to write."""
+    rng = random.Random('%d ending' % seed)
+    for N, L in shapes(6):
+        every = list(stream_ends(rng, N, L)) + list(empty_ends(rng))
+        chosen = every if N < 5 else every[:FIRST_ENDS]
+        # a body that goes on behind its declared bits
+        longer = every[0]._replace(declared=rng.randrange(every[0].declared))
+        for end in every:
+            yield end_file(N, L, end)
+        for P, declared, body, _ in chosen + [longer]:
+            yield 'ending', decode_body_case(N, L, P, body, declared,
+                                             (4 ** N,) * 3)
+        for end in chosen:
+            yield from end_walks(N, L, end, N < 5)
+        if N < 5:
+            for end in chosen:
+                yield from end_steps(N, L, end)
+            yield from middle_steps(N, L, every[0])
+    for N, L in BETWEEN:
+        for end in list(stream_ends(rng, N, L))[:FIRST_ENDS]:
+            yield end_file(N, L, end)
+
+
+def end_file(N, L, end):
+    """(kind, case) of a file with such a body."""
+    header = write_file(N, L, end.P, end.declared, [])
+    return 'ending', decode_case(header + end.body)
+
+
+def end_walks(N, L, end, past):
+    """(kind, case) of a dial at the last position of a body and before it, and
+    past it."""
+    P, declared, body, last = end
+    commands = [[last]] + [[last, FORWARD]] * past
+    if last:
+        commands += [[last, BACK]] + [[last - 1, FORWARD]] * past
+    for some in commands:
+        yield 'ending', dial_case(N, L, P, body, declared, some)
+
+
+def end_step(letter, N, L, end, at, to=0):
+    """(kind, case) of a step or a turn in a body, on the record and the tables
+    of so many bits."""
+    position = second.decode(N, L, end.P, second.unpack(end.body)[:at])
+    return 'ending', step_case(letter, position.record, tables_of(position),
+                               end.body, end.declared, to)
+
+
+def end_steps(N, L, end):
+    """(kind, case) of a turn to the last position of a body from there, and of
+    a step to it and one back."""
+    yield end_step('t', N, L, end, end.last, end.last)
+    if end.last:
+        yield end_step('f', N, L, end, end.last - 1)
+        yield end_step('b', N, L, end, end.last)
+
+
+def middle_steps(N, L, end):
+    """(kind, case) of a step forward to the last position but one of a body,
+    and of turns to positions before the last."""
+    yield end_step('f', N, L, end, end.last - 2)
+    for to in (0, end.last // 2, end.last - 1):
+        yield end_step('t', N, L, end, end.last, to)
+
+
+GOES_ON = 'bits go on'
+WORDS = second.WHOLE, second.BUDGET, second.CUT
+
+# What is told apart among the cases of bodies, beside the words: where two of
+# them meet, and where the word does not follow from the lengths alone.
+DELICATE = ('declared 8 x bytes', 'declared 8 x bytes - 1',
+            'declared 8 x bytes + 1', 'whole bytes', 'the padding is missing',
+            'bits beyond, there', 'bits beyond, not there', 'no bits declared',
+            'no bits there', 'P 0, none declared',
+            'P 0, declared and not there', 'P 0, declared and there')
+LEFT = 'whole, usable bits left'
+
+
+def end_kinds(one, P, declared, body):
+    """The kinds of a case, by the body that it is lent and by its answer."""
+    if one.answer[0] not in (0, 13):
+        return []
+    beyond = one.answer[0] == 13
+    word = None if beyond else (
+        ENDINGS[one.answer[ANSWER.index('ending')]] or GOES_ON)
+    whole, budget, cut = (word == one for one in WORDS)
+    used, there = one.answer[ANSWER.index('bits')], 8 * len(body)
+    kinds = {
+        word: not beyond,
+        'declared 8 x bytes': budget and 0 < declared == there,
+        'declared 8 x bytes - 1': budget and 0 < declared == there - 1,
+        'declared 8 x bytes + 1': cut and 0 < there == declared - 1,
+        'whole bytes': whole and 0 < used == declared == there,
+        'the padding is missing': cut and 0 < there < declared - 1 < there + 7,
+        'bits beyond, there': beyond and P > 0,
+        'bits beyond, not there': whole and 0 < used == there < declared,
+        'no bits declared': budget and declared == 0,
+        'no bits there': cut and there == 0,
+        'P 0, none declared': whole and P == declared == 0,
+        'P 0, declared and not there': whole and P == there == 0 < declared,
+        'P 0, declared and there': beyond and P == 0,
+        LEFT: whole and used < min(declared, there)}
+    return [kind for kind, holds in kinds.items() if holds]
+
+
+def lent_body(one):
+    """N, L, P, the declared bits and the body of a case, or None where it is
+    lent none, or where its tables are those of no prefix."""
+    if one.letter == 'D' and one.answer[0] in (0, 13):
+        return (*second.read_header(one.file),
+                one.file[second.HEADER_BYTES:])
+    if one.letter == 'C' or one.letter == 'Y' and one.ints:
+        return (*one.numbers, one.file)
+    if one.letter in STEPS and not one.numbers[2]:
+        return (*one.ints[:3], one.numbers[0], one.file)
+    return None
+
+
+def end_counts(cases):
+    """The number of cases of each letter, size and kind."""
+    counts = Counter()
+    for one in cases:
+        lent = lent_body(one)
+        if lent:
+            N, L, P, declared, body = lent
+            counts.update((one.letter, (N, L), kind)
+                          for kind in end_kinds(one, P, declared, body))
+    return counts
+
+
+def counted(cases, counts):
+    """(kind, case) cases, of which the ends are counted."""
+    for kind, one in cases:
+        counts.update(end_counts([one]))
+        yield kind, one
+
+
+def check_ends(counts, asked):
+    """Every kind has to be there, of every size, of each letter of those that
+    are asked for, which are (letters, kinds, sizes)."""
+    for letters, kinds, sizes in asked:
+        for letter, kind, (N, L) in product(letters, kinds, sizes):
+            if not counts[letter, (N, L), kind]:
+                raise SystemExit('%s: no case of N %d L %d: %s'
+                                 % (letter, N, L, kind))
+
+
+def stored_ends(cases):
+    """The counts of the stored cases, in which nothing may be missing: the
+    words of a file for every size of which there are cases. Among those of
+    single bits, each that is at the last bit or next to it, and as many bits
+    declared as are there, one more or one fewer."""
+    counts = end_counts(cases)
+    sizes = {one.numbers[:2] for one in cases
+             if one.letter == 'E' and not one.answer[0]}
+    sizes |= {size for letter, size, _ in counts if letter == 'D'}
+    if not sizes >= {*shapes(6), *BETWEEN} | {(STORED_N, L)
+                                              for L in range(1, STORED_N)}:
+        raise SystemExit('a size has no cases')
+    check_ends(counts, (
+        ('D', WORDS, sorted(sizes)), ('D', DELICATE, shapes(6)),
+        ('C', WORDS, shapes(6)), ('C', DELICATE, shapes(4)),
+        ('Y', (GOES_ON,) + WORDS, shapes(6)),
+        ('Y', DELICATE + (LEFT,), shapes(4)),
+        ('ft', (GOES_ON,) + WORDS, shapes(4)), ('b', (GOES_ON,), shapes(4)),
+        ('t', ('no bits declared', 'no bits there'), shapes(4))))
+    near = {tuple(number - 8 * len(one.file) for number in one.numbers)
+            for one in cases if one.letter == 'V' and one.file}
+    if not near >= set(product((-1, 0, 1), repeat=2)):
+        raise SystemExit('V: a place about the last bit is missing')
+    return counts
+
+
+def print_ends(counts):
+    """How many cases of each kind there are, of each letter."""
+    totals = Counter()
+    for (letter, _, kind), count in counts.items():
+        totals[kind, letter] += count
+    for kind in (GOES_ON,) + WORDS + DELICATE + (LEFT,):
+        print('ends %s: %s' % (kind, ', '.join(
+            '%s %d' % (letter, totals[kind, letter])
+            for letter in 'DCY' + STEPS if totals[kind, letter])))
+
+
+def shown_ends(cases, shown):
+    """Holds the files of txpshow, which come with its text, to the words and
+    the kinds of the cases of the same files."""
+    known = {one.file: one for one in cases if one.letter == 'D'}
+    check_ends(end_counts(known[data] for data in shown if data in known), (
+        ('D', WORDS + DELICATE, shapes(second.SHOW_N)),))
+    words = Counter()
+    for data, text in shown.items():
+        if text.startswith('TXP'):
+            words['D', tuple(data[5:7]), text.split('\n')[0].split()[-1]] += 1
+    check_ends(words, (('D', WORDS, shapes(second.SHOW_N)),))
+
+
 # Cases of a large N.
 
 def stored_cases(seed):
@@ -1702,8 +1972,9 @@ def damaged_steps(bits):
     """Cases of the stepped decoder on the sample, whose bits these are: taken
     and refused ones, and those on tables that no prefix leaves."""
     body, longer = second.pack(bits), (17, 18, 19)
-    for usable, commands in ((37, [20, FORWARD]), (37, [20, BACK]), (20, [21])):
-        yield dial_case(2, 1, 3, body, usable, commands, longer)
+    for declared, commands in ((37, [20, FORWARD]), (37, [20, BACK]),
+                               (20, [21])):
+        yield dial_case(2, 1, 3, body, declared, commands, longer)
     yield dial_case(2, 2, 3, body, 37, [], longer)
     position = second.decode(2, 1, 3, bits[:20])
     tables = [list(held) + [9] * (lent - 16) for held, lent
@@ -1732,8 +2003,8 @@ def damaged_changes():
 
 # Lines whose lists repeat what stands before, as few others do: worst bodies
 # that agree, and that differ.
-AGREE = 'W 3 2 1 ~1 16 0*7 35 0 ~1*7', 'W 3 2 1 ~2 16 0*7 51 ~8*7 0'
-DIFFER = 'W 3 2 1 ~1 16 0*7 51 0 ~1*7', 'W 3 2 1 ~2 16 0*7 51 ~8*8'
+AGREE = 'W 3 2 1 ~1 17 0*7 35 0 ~1*8', 'W 3 2 1 ~2 17 0*7 51 ~8*7 0*2'
+DIFFER = 'W 3 2 1 ~1 17 0*7 51 0 ~1*8', 'W 3 2 1 ~2 17 0*7 51 ~8*9'
 
 # Lines that are no case.
 MALFORMED = (
@@ -1741,12 +2012,13 @@ MALFORMED = (
     'W 3 2 1', 'W 3 2 1 3 ', 'W 3 2 1 3 4', 'W 5 2 1 3 0 0', 'W 3 2 1 x',
     'W 3 2 1 3x', 'W 3 2 1 4294967296', 'W 3 2 1 -2147483649', 'W 3 2 1 -0',
     'W 3 2 1 -', 'W 3 2 1 +3', 'W 3 2 1 3*0', 'W 3 2 1*3', 'W 3 2 1*',
-    'W 3 2 1*-1', 'W -1', 'W 3 2 1 3 17 0*17', 'W 3 2 1 3 16 0*15',
-    'W 3 2 1 3 16 0*7 58 0*8 6 0*6', 'W 3 2 1 3 16 0*7 58 0*8 0 0 0 0 0 0 0 0 0',
+    'W 3 2 1*-1', 'W -1', 'W 3 2 1 3 18 0*18', 'W 3 2 1 3 17 0*16',
+    'W 3 2 1 3 17 0*7 58 0*9 6 0*6',
+    'W 3 2 1 3 17 0*7 58 0*9 0 0 0 0 0 0 0 0 0',
     'W 3 2 1 ~', 'W 3 2 1 ~0', 'W 3 2 1 ~3', 'W 3 2 1 ~4294967295',
     'W 3 2 1 ~4294967297', 'W 3 2 1 ~-1', 'W 3 2 1 -~1', 'W 3 2 1 ~1x',
     'W 3 2 ~1*0', 'W 3 2 ~1*3', 'W 3 2 ~1*1', 'W 3 2 ~1*', 'W 3 2 1~1',
-    'W 3 ~1 2 1', 'W 3 2 1 3 16 ~1*16', 'W 3 2 1 3 16 0 ~2*15')
+    'W 3 ~1 2 1', 'W 3 2 1 3 17 ~1*17', 'W 3 2 1 3 17 0 ~2*16')
 
 
 def damaged_wide(N, work_N):
@@ -1804,28 +2076,38 @@ def write(directory, seed):
                 file.write(text)
         return counts
 
+    shown = {}
+
     def write_show(number, kind, data):
         name = os.path.join(files, '%04d-%s' % (number, kind))
+        shown[data] = second.show(data)
         with open(name + '.txp', 'wb') as file:
             file.write(data)
         with open(name + '.out', 'w') as file:
-            file.write(second.show(data))
+            file.write(shown[data])
 
     decodes = list(decode_cases(seed))
     for number, (kind, data, lent) in enumerate(decodes):
         if lent is None and number % (5 if len(data) < 250 else 40) == 0:
             write_show(number, kind, data)
-    for number, (kind, data) in enumerate(show_cases(seed), len(decodes)):
+    endings = grouped(ending_cases(seed))
+    more = list(show_cases(seed))
+    more += [(kind, one.file) for kind, one in endings
+             if one.letter == 'D' and one.file[5] <= second.SHOW_N]
+    for number, (kind, data) in enumerate(more, len(decodes)):
         write_show(number, kind, data)
     cases = list(coder_cases(seed, decodes))
     for more in (worst_cases(), place_cases(seed), order_cases(seed),
                  number_cases(seed), small_cases(), stored_cases(seed),
                  every_bit_cases(), step_cases(seed),
-                 grouped(transform_cases(seed))):
+                 grouped(transform_cases(seed)), endings):
         cases += more
     counts = cut_counts(cases)
     for kind in CUT_KINDS:
         print('cuts %s: %d' % (kind, counts[kind]))
+    stored = [one for _, one in cases]
+    print_ends(stored_ends(stored))
+    shown_ends(stored, shown)
     good = remarked(cases, True)
     wrong = remarked(damaged_cases(cases), True)
     wrong += remarked(damaged_wide(STORED_N, WORK_N), True)
@@ -1837,7 +2119,10 @@ def write(directory, seed):
     print(write_cases('', good, wrong, malformed), end='')
     print('large')
     N = second.N_LIMIT
-    print(write_cases('large', remarked(large_cases(seed), False)
+    counts = Counter()
+    print(write_cases('large', remarked(counted(large_cases(seed), counts),
+                                        False)
                       + remarked(wide_transforms(seed), True),
                       remarked(damaged_wide(N, N), False), []), end='')
+    check_ends(counts, (('D', WORDS, [(N, L) for L in range(1, N)]),))
     print('files %d' % (len(os.listdir(files)) // 2))

@@ -3,7 +3,7 @@ use Prim.Native.Nat.{ℕ, zero, suc, _+_, _*_, _-_, _/_, _%_, _^_}
 use mathlib.Core.{Bool.Bool, Bool.true, Bool.false, Bool.cond, List.List, List.[], List._∷_}
 use lib.{Bits.bitOr, Dec.ltb, Dec.eqb, ListN.length, ListN.getD, ListN.set}
 use Rattle.sizes.specs.Tables.{table}
-use Rattle.bits.specs.{declared.Next.Next, declared.Next.the-variants.Bit, declared.Next.the-variants.NoMore}
+use Rattle.bits.specs.{declared.Next.Next, declared.Next.the-variants.Bit, declared.Next.the-variants.NoMore, declared.Why.the-variants.Short}
 
 -- bit b of x
 unfoldable pub bit : ℕ → ℕ → Bool
@@ -39,9 +39,9 @@ number (suc n) f = number n f * 2 + digit (f n)
 unfoldable pub packed : List Bool → List ℕ
 packed u = table (bytesFor (length u)) (λ j. number 8 (λ k. getD u (8 * j + k) false))
 
--- what a fetch answers: the bit, or that there are no more
+-- what a fetch answers: the bit, or that the body has no more (document 02, T-06: ".. or file short")
 abbrev pub fetched : List ℕ → ℕ → Next
-fetched body k = cond (ltb (k / 8) (length body)) (Bit (bitAt body k)) NoMore
+fetched body k = cond (ltb (k / 8) (length body)) (Bit (bitAt body k)) (NoMore Short)
 
 -- a byte with x put at its bit k, counted from the highest: what lies above it stays, what lies below is 0
 unfoldable pub byteWith : ℕ → ℕ → Bool → ℕ

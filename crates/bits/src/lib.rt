@@ -3,10 +3,16 @@ ghost use mathlib.Core.Path.{_≡_};
 ghost use Prim.Native.Nat.{_-_, _%_};
 ghost use Rattle.bits.specs.Bits.{bit, fetched, byteWith, withBit};
 
-// What a fetch answers: a bit, or that there are no more.
+// Why there are no more bits: the declared count is reached, or the body is short of it.
+pub enum Why {
+    Declared,
+    Short,
+}
+
+// What a fetch answers: a bit, or that there are no more, and why.
 pub enum Next {
     Bit(bool),
-    NoMore,
+    NoMore(Why),
 }
 
 // Bit b of x.
@@ -26,7 +32,7 @@ pub fn bit_in(byte: u8, at: usize) -> bool
     ((byte as u32) >> (7 - at % 8)) % 2 == 1
 }
 
-// The bit with number `at`.
+// The bit with number `at`. Past its last byte a body is short.
 pub fn fetch(body: &[u8], at: usize) -> Next
     ensures { λ r. ⌜ r ≡ fetched (now (body .entry)) at ⌝ }
 {
@@ -34,7 +40,7 @@ pub fn fetch(body: &[u8], at: usize) -> Next
     if byte < body.len() {
         return Next::Bit(bit_in(body[byte], at));
     }
-    Next::NoMore
+    Next::NoMore(Why::Short)
 }
 
 // The byte that holds the bit with number `at`, with x put there: what lies above stays, what lies below is 0.

@@ -21,7 +21,7 @@ use Rattle.bits.proofs.Laws.{packed-length, bitsOf-append, bitsOf-packed}
 use Rattle.coef.specs.Coef.{at, planesOf}
 use Rattle.coef.proofs.Laws.{planes-of}
 use Rattle.nls.specs.Stream.{stream}
-use Rattle.nls.specs.Reading.{midpoint, valueBy, highBits, precisionAt, valuesBy, precisions, planesFinished, worstError}
+use Rattle.nls.specs.Reading.{lastPlane, midpoint, valueBy, highBits, precisionAt, valuesBy, precisions, planesFinished, worstError}
 use Rattle.nls.specs.Judging.{Begins, Fits, Contradicts, IsBeyond, Verdict, taken, contradiction, beyond, Judged}
 use Rattle.nls.proofs.Demands as demands
 use Rattle.nls.proofs.Values.{midpoint-between}
@@ -31,6 +31,9 @@ use Rattle.room.specs.Ready.{EncodeReady}
 use Rattle.room.proofs.Laws.{encode-ready, decode-well}
 use Rattle.encoder.specs.Body.{sentBits, writeAnswer, sentMarks, outputAfter, Loan, writeOutcome, Writes}
 use Rattle.decoder.specs.Body.{readAnswer, Tables, tables, ownTables, over, BodyRead, ReadsTo, Reads}
+use Rattle.decoder.specs.Ending.{ending}
+use Rattle.decoder.specs.declared.ending.Ending.{Ending}
+use Rattle.decoder.specs.declared.ending.Ending.the-variants.{Whole, Budget}
 use Rattle.encoder.specs.declared.body.Written.{Written}
 use Rattle.encoder.specs.declared.body.WriteAnswer.{WriteAnswer}
 use Rattle.encoder.specs.declared.body.WriteAnswer.the-variants as encode
@@ -38,32 +41,33 @@ use Rattle.decoder.specs.declared.body.ReadTo.{ReadTo}
 use Rattle.decoder.specs.declared.body.ReadAnswer.{ReadAnswer}
 use Rattle.decoder.specs.declared.body.ReadAnswer.the-variants as decode
 use Rattle.encoder.proofs.EncodeLaws.{planes-near}
+use Rattle.decoder.proofs.Endings.{ending-budget, some-left, all-whole}
 
 -- ---- a call of `decode` whose checks hold
 
-module _ (N L P : ℕ) (z : Sized N L) (u : List Bool) (held : Tables) (answer : ReadAnswer) (left : Tables) (d : BodyRead N L P u held answer left) where
+module _ (word : ℕ → ℕ → Ending) (N L P : ℕ) (z : Sized N L) (u : List Bool) (held : Tables) (answer : ReadAnswer) (left : Tables) (d : BodyRead word N L P u held answer left) where
   -- the bits fit some array: what they give
-  pub taken-so : Fits N L P u → (answer ≡ readAnswer N L P u taken) × (left ≡ over (allOf N) (ownTables N L P u taken) held)
+  pub taken-so : Fits N L P u → (answer ≡ readAnswer word N L P u taken) × (left ≡ over (allOf N) (ownTables N L P u taken) held)
   taken-so f =
       let e : d .verdict ≡ taken = judged-only N L z P u (d .verdict) taken (d .judged) f in
-      (d .answered ∙ ap (λ (v : Verdict). readAnswer N L P u v) e, d .filled ∙ ap (λ (v : Verdict). over (allOf N) (ownTables N L P u v) held) e)
+      (d .answered ∙ ap (λ (v : Verdict). readAnswer word N L P u v) e, d .filled ∙ ap (λ (v : Verdict). over (allOf N) (ownTables N L P u v) held) e)
 
   -- REFUSED EXACTLY: a body is taken if and only if some array fits, and refused as 12 or 13 at the bit that document 01 says
   pub done-fits : (r : ReadTo) → answer ≡ decode.Done r → Fits N L P u
   done-fits r e = go (d .verdict) (d .judged) (sym (d .answered) ∙ e)
     where
-      go : (v : Verdict) → Judged N L P u v → readAnswer N L P u v ≡ decode.Done r → Fits N L P u
+      go : (v : Verdict) → Judged N L P u v → readAnswer word N L P u v ≡ decode.Done r → Fits N L P u
       go taken j f = j
       go (contradiction k) j f = absurd (let z : _≡_ {A = ℕ} 0 1 = cc in omega arith)
       go (beyond k) j f = absurd (let z : _≡_ {A = ℕ} 0 1 = cc in omega arith)
 
-  pub fits-done : Fits N L P u → answer ≡ decode.Done (record { used = length u; finished = planesFinished N L P u; error = worstError N L P u })
+  pub fits-done : Fits N L P u → answer ≡ decode.Done (record { used = length u; finished = planesFinished N L P u; error = worstError N L P u; ending = word (length u) (lastPlane N L P u) })
   fits-done f = taken-so f .0
 
   pub twelve : (k : ℕ) → answer ≡ decode.Refused (Contradiction k) → Contradicts N L P u k
   twelve k e = go (d .verdict) (d .judged) (sym (d .answered) ∙ e)
     where
-      go : (v : Verdict) → Judged N L P u v → readAnswer N L P u v ≡ decode.Refused (Contradiction k) → Contradicts N L P u k
+      go : (v : Verdict) → Judged N L P u v → readAnswer word N L P u v ≡ decode.Refused (Contradiction k) → Contradicts N L P u k
       go taken j f = absurd (let z : _≡_ {A = ℕ} 0 1 = cc in omega arith)
       go (contradiction n) j f = let e : n ≡ k = cc in subst (λ (x : ℕ). Contradicts N L P u x) e j
       go (beyond n) j f = absurd (let z : _≡_ {A = ℕ} 0 1 = cc in omega arith)
@@ -71,7 +75,7 @@ module _ (N L P : ℕ) (z : Sized N L) (u : List Bool) (held : Tables) (answer :
   pub thirteen : (k : ℕ) → answer ≡ decode.Refused (Beyond k) → IsBeyond N L P u k
   thirteen k e = go (d .verdict) (d .judged) (sym (d .answered) ∙ e)
     where
-      go : (v : Verdict) → Judged N L P u v → readAnswer N L P u v ≡ decode.Refused (Beyond k) → IsBeyond N L P u k
+      go : (v : Verdict) → Judged N L P u v → readAnswer word N L P u v ≡ decode.Refused (Beyond k) → IsBeyond N L P u k
       go taken j f = absurd (let z : _≡_ {A = ℕ} 0 1 = cc in omega arith)
       go (contradiction n) j f = absurd (let z : _≡_ {A = ℕ} 0 1 = cc in omega arith)
       go (beyond n) j f = let e : n ≡ k = cc in subst (λ (x : ℕ). IsBeyond N L P u x) e j
@@ -96,6 +100,12 @@ module _ (N L P : ℕ) (z : Sized N L) (u : List Bool) (held : Tables) (answer :
     own-near i h =
         let k : getD (left .precisions) i 0 ≡ precisionAt N L P u i = ap (λ (t : Tables). getD (t .precisions) i 0) (taken-so (A, b) .1) ∙ table-front (allOf N) _ _ i 0 h in
         rw (value-at i h, k) (demands.own-near N L P z A u b midpoint midpoint-between i h)
+
+-- the word of an answer
+told-word : (answer : ReadAnswer) (d′ d : ReadTo) → answer ≡ decode.Done d → answer ≡ decode.Done d′ → d .ending ≡ d′ .ending
+told-word answer d′ d is so =
+    let same : decode.Done d ≡ decode.Done d′ = sym is ∙ so in
+    cc
 
 -- ---- `decode` of what `encode` wrote
 
@@ -143,26 +153,46 @@ module _ (N L : ℕ) (A : List ℤ) (offset budget : ℕ) (held left : Loan) (wr
       let most : min (length u) (8 * length (packed u ++ rest)) ≡ length u = omega (arith, length-append (packed u) rest, packed-length u) in
       rw (bits, there, most) (bitsOf-append (length u) (packed u) rest (omega (arith, packed-length u)) ∙ bitsOf-packed u)
 
+  -- Why they ended, by the bits used and the planes left (document 02, T-06): `whole` where the budget cut nothing, else `budget`
+  abbrev word : ℕ → ℕ → Ending
+  word = ending (w .bits) (drop offset (left .out))
+
+  pub written-whole : length (stream N L (planesOf A) A) ≤ budget
+      → ending (w .bits) (drop offset (left .out)) (length (sentBits N L A budget)) (lastPlane N L (planesOf A) (sentBits N L A budget)) ≡ Whole
+  written-whole h = all-whole N L P (w .bits) (drop offset (left .out)) u z A begins (omega (arith, h, length-take budget S))
+
+  pub written-budget : budget < length (stream N L (planesOf A) A)
+      → ending (w .bits) (drop offset (left .out)) (length (sentBits N L A budget)) (lastPlane N L (planesOf A) (sentBits N L A budget)) ≡ Budget
+  written-budget h =
+      let bits : w .bits ≡ length u = ap (λ (x : Written). x .bits) (checked .1) in
+      ending-budget (w .bits) (drop offset (left .out)) (length u) (lastPlane N L P u)
+      (some-left N L P (w .bits) (drop offset (left .out)) u z A begins (omega (arith, h, length-take budget S))) (omega (arith, bits))
+
   module _ (given after : Tables) (read : ReadAnswer) (hv : allOf N ≤ length (given .values)) (hp : allOf N ≤ length (given .precisions)) (hm : allOf N ≤ length (given .marks))
       (decoded : Reads N L (w .planes) (w .bits) (drop offset (left .out)) given read after) where
-    so : BodyRead N L P u given read after
+    so : BodyRead word N L P u given read after
     so =
         let planes : w .planes ≡ P = ap (λ (x : Written). x .planes) (checked .1) in
         let few = planes-near N L A (length (held .descs)) (length (held .grands)) (length (held .out) - offset) budget (ready .0) in
         let well : firstOf (readChecks N L P (length (given .values)) (length (given .precisions)) (length (given .marks))) ≡ outcome.Done =
         sym (decode-well N L P (length (given .values)) (length (given .precisions)) (length (given .marks)) (ready .0 .side) (ready .0 .levels) few hv hp hm) in
-        subst (λ (o : Outcome). ReadsTo o N L P u given read after) well
-        (subst (λ (b : List Bool). ReadsTo (firstOf (readChecks N L P (length (given .values)) (length (given .precisions)) (length (given .marks)))) N L P b given read after) same-bits
+        subst (λ (o : Outcome). ReadsTo o word N L P u given read after) well
+        (subst (λ (b : List Bool). ReadsTo (firstOf (readChecks N L P (length (given .values)) (length (given .precisions)) (length (given .marks)))) word N L P b given read after) same-bits
         (subst (λ (p : ℕ). Reads N L p (w .bits) (drop offset (left .out)) given read after) planes decoded))
 
     -- IN STEP: what was written is taken, whatever the budget, and the decoder's marks are the encoder's
-    pub back : (read ≡ decode.Done (record { used = length (sentBits N L A budget); finished = planesFinished N L (planesOf A) (sentBits N L A budget); error = worstError N L (planesOf A) (sentBits N L A budget) }))
+    pub back : (read ≡ decode.Done (record {
+      used = length (sentBits N L A budget);
+      finished = planesFinished N L (planesOf A) (sentBits N L A budget);
+      error = worstError N L (planesOf A) (sentBits N L A budget);
+      ending = ending (w .bits) (drop offset (left .out)) (length (sentBits N L A budget)) (lastPlane N L (planesOf A) (sentBits N L A budget));
+    }))
         × (after ≡ over (allOf N) (tables (valuesBy N L (planesOf A) (sentBits N L A budget) midpoint) (precisions N L (planesOf A) (sentBits N L A budget)) (sentMarks N L A budget)) given)
-    back = taken-so N L P z u given read after so (A, begins)
+    back = taken-so word N L P z u given read after so (A, begins)
 
     -- WHOLE: with a budget that does not cut, the array itself, to the last bit
     pub whole : length (stream N L (planesOf A) A) ≤ budget
-        → (read ≡ decode.Done (record { used = length (stream N L (planesOf A) A); finished = planesOf A; error = 0 }))
+        → (read ≡ decode.Done (record { used = length (stream N L (planesOf A) A); finished = planesOf A; error = 0; ending = Whole }))
         × (after ≡ over (allOf N) (tables A (replicate (allOf N) 0) (sentMarks N L A budget)) given)
     whole h =
         let all : u ≡ S = take-all budget S h in
@@ -171,6 +201,10 @@ module _ (N L : ℕ) (A : List ℤ) (offset budget : ℕ) (held left : Loan) (wr
         let error : worstError N L P u ≡ 0 = ap (λ (b : List Bool). worstError N L P b) all ∙ demands.whole-error N L P z A size (planes-of A) in
         let values : valuesBy N L P u midpoint ≡ A = ap (λ (b : List Bool). valuesBy N L P b midpoint) all ∙ demands.whole N L P z A size (planes-of A) in
         let exact : precisions N L P u ≡ replicate (allOf N) 0 = ap (λ (b : List Bool). precisions N L P b) all ∙ demands.whole-precisions N L P z A size (planes-of A) in (
-          back .0 ∙ (λ i. decode.Done (record { used = length (all i); finished = finished i; error = error i })),
+          back .0 ∙ (λ i. decode.Done (record { used = length (all i); finished = finished i; error = error i; ending = written-whole h i })),
           back .1 ∙ (λ i. over (allOf N) (tables (values i) (exact i) (sentMarks N L A budget)) given),
         )
+
+    -- BUDGET: where it cut something, the answer says so
+    pub budget-word : budget < length (stream N L (planesOf A) A) → (d : ReadTo) → read ≡ decode.Done d → d .ending ≡ Budget
+    budget-word h d is = told-word read _ d is (back .0) ∙ written-budget h

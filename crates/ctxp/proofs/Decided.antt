@@ -12,6 +12,7 @@ use Rattle.transform.specs.Transform.{coefficientsOf}
 use Rattle.transform.specs.Answers.{allZero}
 use Rattle.encoder.specs.Body.{Loan, loan}
 use Rattle.decoder.specs.Body.{Tables, tables}
+use Rattle.decoder.specs.Ending.{ending}
 use Rattle.decoder.specs.declared.body.ReadAnswer.{ReadAnswer}
 use Rattle.decoder.proofs.Decided.{reads-one}
 use Rattle.steps.specs.declared.Record.{Record}
@@ -198,10 +199,10 @@ file-one bytes held r r' a a' left left' p q =
     let said = one-answer (ap ofDecoded (one .0)) (p .answers) (q .answers) in
     (said .0, said .1, one .1)
 
-body-one : (N L P usable : ℕ) (bytes : List ℕ) (held : Tables) (r r' : ℕ) (a a' : List ℕ) (left left' : Tables)
-    → BodyDecoded N L P usable bytes held r a left → BodyDecoded N L P usable bytes held r' a' left' → (r ≡ r') × (a ≡ a') × (left ≡ left')
-body-one N L P usable bytes held r r' a a' left left' p q =
-    let one = reads-one N L P usable bytes held (p .said) (q .said) left left' (p .decodes) (q .decodes) in
+body-one : (N L P declared : ℕ) (bytes : List ℕ) (held : Tables) (r r' : ℕ) (a a' : List ℕ) (left left' : Tables)
+    → BodyDecoded N L P declared bytes held r a left → BodyDecoded N L P declared bytes held r' a' left' → (r ≡ r') × (a ≡ a') × (left ≡ left')
+body-one N L P declared bytes held r r' a a' left left' p q =
+    let one = reads-one (ending declared bytes) N L P declared bytes held (p .said) (q .said) left left' (p .decodes) (q .decodes) in
     let said = one-answer (ap ofRead (one .0)) (p .answers) (q .answers) in
     (said .0, said .1, one .1)
 

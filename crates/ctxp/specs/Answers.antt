@@ -20,6 +20,8 @@ use Rattle.room.specs.declared.WorstAnswer.{WorstAnswer}
 use Rattle.room.specs.declared.WorstAnswer.the-variants as worsts
 use Rattle.encoder.specs.declared.body.WriteAnswer.{WriteAnswer}
 use Rattle.encoder.specs.declared.body.WriteAnswer.the-variants as writtens
+use Rattle.decoder.specs.{Ending.wordOf, declared.ending.Ending.Ending}
+use Rattle.decoder.specs.declared.ending.Ending.the-variants as endings
 use Rattle.decoder.specs.declared.body.ReadAnswer.{ReadAnswer}
 use Rattle.decoder.specs.declared.body.ReadAnswer.the-variants as reads
 use Rattle.txp.specs.declared.{EncodeAnswer.EncodeAnswer, DecodeAnswer.DecodeAnswer, HeaderAnswer.HeaderAnswer}
@@ -29,15 +31,22 @@ use Rattle.txp.specs.declared.DecodeAnswer.the-variants as decodeds
 
 -- the numbers of a lent answer, in the order of the header's `txp_answer`
 pub data Entry : Type 0 where
-  refusal place n l planes declared bits bytes finished error parts splits found negative value : Entry
+  refusal place n l planes declared bits bytes finished error parts splits found negative value ending : Entry
 
 abbrev pub entryOf : Entry → ℕ
-entryOf e = elim e [ refusal ↦ 0 | place ↦ 1 | n ↦ 2 | l ↦ 3 | planes ↦ 4 | declared ↦ 5 | bits ↦ 6 | bytes ↦ 7 | finished ↦ 8 | error ↦ 9 | parts ↦ 10 | splits ↦ 11 | found ↦ 12 | negative ↦ 13 | value ↦ 14 ]
+entryOf e = elim e [ refusal ↦ 0 | place ↦ 1 | n ↦ 2 | l ↦ 3 | planes ↦ 4 | declared ↦ 5 | bits ↦ 6 | bytes ↦ 7 | finished ↦ 8 | error ↦ 9 | parts ↦ 10 | splits ↦ 11 | found ↦ 12 | negative ↦ 13 | value ↦ 14 | ending ↦ 15 ]
 
 -- an answer that says some of them; the others are 0
 abbrev pub says : List (Entry × ℕ) → List ℕ
-says [] = replicate 15 0
+says [] = replicate 16 0
 says (e ∷ rest) = set (says rest) (entryOf (e .0)) (e .1)
+
+-- why the bits ended: the numbers of the header's `txp_ending`
+abbrev pub endingNumber : Ending → ℕ
+endingNumber endings.GoesOn = 0
+endingNumber endings.Whole = 1
+endingNumber endings.Budget = 2
+endingNumber endings.Cut = 3
 
 -- done, with nothing to say; a refusal; one number; a number of planes
 abbrev pub blank : List ℕ
@@ -63,7 +72,7 @@ ofEncoded (encodeds.Refused why) = ofRefusal why
 
 abbrev pub ofDecoded : DecodeAnswer → List ℕ
 ofDecoded (decodeds.Done d) =
-    says ((n, d .n) ∷ (l, d .l) ∷ (planes, d .p) ∷ (declared, d .declared) ∷ (bits, d .used) ∷ (finished, d .finished) ∷ (error, d .error) ∷ [])
+    says ((n, d .n) ∷ (l, d .l) ∷ (planes, d .p) ∷ (declared, d .declared) ∷ (bits, d .used) ∷ (finished, d .finished) ∷ (error, d .error) ∷ (ending, endingNumber (d .ending)) ∷ [])
 ofDecoded (decodeds.Refused why) = ofRefusal why
 
 -- the header of a file by itself
@@ -81,7 +90,7 @@ ofWritten (writtens.Done w) = says ((planes, w .planes) ∷ (bits, w .bits) ∷ 
 ofWritten (writtens.Refused why) = ofRefusal why
 
 abbrev pub ofRead : ReadAnswer → List ℕ
-ofRead (reads.Done d) = says ((bits, d .used) ∷ (finished, d .finished) ∷ (error, d .error) ∷ [])
+ofRead (reads.Done d) = says ((bits, d .used) ∷ (finished, d .finished) ∷ (error, d .error) ∷ (ending, endingNumber (d .ending)) ∷ [])
 ofRead (reads.Refused why) = ofRefusal why
 
 -- the figures of a plane
@@ -112,10 +121,10 @@ abbrev pub ofFloat : Float → List ℕ
 ofFloat (floats.Is x) = blank
 ofFloat (floats.Refused why) = ofRefusal why
 
--- a bit that was read, or none
+-- a bit that was read, or why there is none
 abbrev pub ofNext : Next → List ℕ
 ofNext (nexts.Bit b) = says ((bits, 1) ∷ (value, digit b) ∷ [])
-ofNext nexts.NoMore = blank
+ofNext (nexts.NoMore why) = says ((ending, endingNumber (wordOf (nexts.NoMore why))) ∷ [])
 
 -- a call's result and the lent answer after it: the result is the refusal's number
 abbrev pub Answers : ℕ → List ℕ → List ℕ → Type 0

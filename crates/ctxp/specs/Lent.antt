@@ -47,9 +47,9 @@ pub record BodyEncoded (N L : ℕ) (A : List ℤ) (offset budget : ℕ) (held : 
   pub encodes : Writes N L A offset budget held said left
   pub answers : Answers r answer (ofWritten said)
 
-pub record BodyDecoded (N L P usable : ℕ) (bytes : List ℕ) (held : Tables) (r : ℕ) (answer : List ℕ) (left : Tables) : Type 0 where
+pub record BodyDecoded (N L P declared : ℕ) (bytes : List ℕ) (held : Tables) (r : ℕ) (answer : List ℕ) (left : Tables) : Type 0 where
   pub said : ReadAnswer
-  pub decodes : Reads N L P usable bytes held said left
+  pub decodes : Reads N L P declared bytes held said left
   pub answers : Answers r answer (ofRead said)
 
 -- the scan record that eight numbers are, in the order of the header's `txp_record`; the numbers of a record
@@ -69,26 +69,26 @@ pub record Started (N L P : ℕ) (dial : List ℕ) (held : Tables) (r : ℕ) (an
   pub answers : Answers r answer (ofRead said)
 
 -- the same of one bit forward
-pub record Forwarded (usable : ℕ) (body dial : List ℕ) (held : Tables) (r : ℕ) (answer dial' : List ℕ) (left : Tables) : Type 0 where
+pub record Forwarded (declared : ℕ) (body dial : List ℕ) (held : Tables) (r : ℕ) (answer dial' : List ℕ) (left : Tables) : Type 0 where
   pub said : ReadAnswer
   pub moved : Record
-  pub forwards : Forwards usable body (dialOf dial) held said moved left
+  pub forwards : Forwards declared body (dialOf dial) held said moved left
   pub recorded : dial' ≡ numbersOf moved
   pub answers : Answers r answer (ofRead said)
 
 -- of one bit back
-pub record Backed (usable : ℕ) (body dial : List ℕ) (held : Tables) (r : ℕ) (answer dial' : List ℕ) (left : Tables) : Type 0 where
+pub record Backed (declared : ℕ) (body dial : List ℕ) (held : Tables) (r : ℕ) (answer dial' : List ℕ) (left : Tables) : Type 0 where
   pub said : ReadAnswer
   pub moved : Record
-  pub backs : Backs usable body (dialOf dial) held said moved left
+  pub backs : Backs declared body (dialOf dial) held said moved left
   pub recorded : dial' ≡ numbersOf moved
   pub answers : Answers r answer (ofRead said)
 
 -- and of a turn to a number of bits used
-pub record Turned (usable to : ℕ) (body dial : List ℕ) (held : Tables) (r : ℕ) (answer dial' : List ℕ) (left : Tables) : Type 0 where
+pub record Turned (declared to : ℕ) (body dial : List ℕ) (held : Tables) (r : ℕ) (answer dial' : List ℕ) (left : Tables) : Type 0 where
   pub said : ReadAnswer
   pub moved : Record
-  pub turns : Turns usable to body (dialOf dial) held said moved left
+  pub turns : Turns declared to body (dialOf dial) held said moved left
   pub recorded : dial' ≡ numbersOf moved
   pub answers : Answers r answer (ofRead said)
 

@@ -1,10 +1,11 @@
 // The answers of the base as numbers: what a call from C can be answered.
+use decoder::Ending;
 use refusals::Outcome;
 use refusals::Refusal;
 ghost use mathlib.Core.Path.{_≡_};
 ghost use Rattle.refusals.specs.declared.Refusal.the-variants.{Coefficient};
 ghost use Rattle.bits.specs.Bits.{digit};
-ghost use Rattle.ctxp.specs.Answers.{ofRefusal, ofValue, ofPlanes, ofOutcome, ofEncoded, ofDecoded, ofHeader, ofWorst, ofWritten, ofRead, ofFigures, ofLinear, ofRaster, ofParted, ofNext, Answers};
+ghost use Rattle.ctxp.specs.Answers.{endingNumber, ofRefusal, ofValue, ofPlanes, ofOutcome, ofEncoded, ofDecoded, ofHeader, ofWorst, ofWritten, ofRead, ofFigures, ofLinear, ofRaster, ofParted, ofNext, Answers};
 ghost use Rattle.ctxp.specs.Inner.{blankAnswer, entries, Short};
 
 // The numbers that a call answers, in the order of the header's `txp_answer`. Those that it does not speak of are 0.
@@ -24,6 +25,7 @@ pub struct Answer {
     pub found: u32,
     pub negative: u32,
     pub value: u32,
+    pub ending: u32,
 }
 
 // Done, with nothing to say.
@@ -46,6 +48,7 @@ pub(crate) fn nothing() -> Answer
         found: 0,
         negative: 0,
         value: 0,
+        ending: 0,
     }
 }
 
@@ -92,6 +95,18 @@ pub(crate) fn too_large() -> Answer
     refused(Refusal::Coefficient(0))
 }
 
+// Why the bits ended, by its number in the header's `txp_ending`.
+pub(crate) fn ending_number(e: Ending) -> u32
+    ensures { λ r. ⌜ r ≡ endingNumber e ⌝ }
+{
+    match e {
+        Ending::GoesOn => 0,
+        Ending::Whole => 1,
+        Ending::Budget => 2,
+        Ending::Cut => 3,
+    }
+}
+
 pub(crate) fn of_outcome(o: Outcome) -> Answer
     ensures { λ r. ⌜ entries r ≡ ofOutcome o ⌝ }
 {
@@ -133,6 +148,8 @@ pub(crate) fn of_decoded(d: txp::DecodeAnswer) -> Answer
             let bits = to.used;
             let finished = to.finished;
             let error = to.error;
+            let word = to.ending;
+            let ending = ending_number(word);
             a.n = n;
             a.l = l;
             a.planes = planes;
@@ -140,6 +157,7 @@ pub(crate) fn of_decoded(d: txp::DecodeAnswer) -> Answer
             a.bits = bits;
             a.finished = finished;
             a.error = error;
+            a.ending = ending;
             a
         }
         txp::DecodeAnswer::Refused(why) => refused(why),
@@ -205,9 +223,12 @@ pub(crate) fn of_read(d: decoder::ReadAnswer) -> Answer
             let bits = to.used;
             let finished = to.finished;
             let error = to.error;
+            let word = to.ending;
+            let ending = ending_number(word);
             a.bits = bits;
             a.finished = finished;
             a.error = error;
+            a.ending = ending;
             a
         }
         decoder::ReadAnswer::Refused(why) => refused(why),
@@ -279,12 +300,17 @@ pub(crate) fn of_next(x: bits::Next) -> Answer
             a.value = digit;
             a
         }
-        bits::Next::NoMore => nothing(),
+        bits::Next::NoMore(why) => {
+            let mut a = nothing();
+            let ending = ending_number(decoder::word_of(bits::Next::NoMore(why)));
+            a.ending = ending;
+            a
+        }
     }
 }
 
 // Puts the numbers into the lent answer, and gives back the first of them, the refusal's.
-pub(crate) fn put(to: &mut [u32; 15], a: Answer) -> u32
+pub(crate) fn put(to: &mut [u32; 16], a: Answer) -> u32
     ensures { λ r. ⌜ Answers r (now (to .exit)) (entries a) ⌝ }
 {
     let refusal = a.refusal;
@@ -302,6 +328,7 @@ pub(crate) fn put(to: &mut [u32; 15], a: Answer) -> u32
     let found = a.found;
     let negative = a.negative;
     let value = a.value;
+    let ending = a.ending;
     *to = [
         refusal,
         place,
@@ -318,6 +345,7 @@ pub(crate) fn put(to: &mut [u32; 15], a: Answer) -> u32
         found,
         negative,
         value,
+        ending,
     ];
     refusal
 }

@@ -37,7 +37,7 @@ pub extern "C" fn txp_encode(
     marks: &mut [u8],
     out: &mut [u8],
     budget: u32,
-    answer: &mut [u32; 15],
+    answer: &mut [u32; 16],
 ) -> u32
     ensures { λ r. ⌜ FileEncoded n l (now (coefs .entry)) budget (loan (now (desc .entry)) (now (grand .entry)) (now (marks .entry)) (now (out .entry))) r (now (answer .exit)) (loan (now (desc .exit)) (now (grand .exit)) (now (marks .exit)) (now (out .exit))) ⌝ }
 {
@@ -52,7 +52,7 @@ pub extern "C" fn txp_decode(
     values: &mut [i32],
     precisions: &mut [u8],
     marks: &mut [u8],
-    answer: &mut [u32; 15],
+    answer: &mut [u32; 16],
 ) -> u32
     ensures { λ r. ⌜ FileDecoded (now (file .entry)) (tables (now (values .entry)) (now (precisions .entry)) (now (marks .entry))) r (now (answer .exit)) (tables (now (values .exit)) (now (precisions .exit)) (now (marks .exit))) ⌝ }
 {
@@ -62,7 +62,7 @@ pub extern "C" fn txp_decode(
 
 // What the header of a file says.
 #[no_mangle]
-pub extern "C" fn txp_header(file: &[u8], answer: &mut [u32; 15]) -> u32
+pub extern "C" fn txp_header(file: &[u8], answer: &mut [u32; 16]) -> u32
     ensures { λ r. ⌜ Answers r (now (answer .exit)) (ofHeader (headerAnswer (firstOf (headerChecks (now (file .entry)))) (headerOf (now (file .entry))))) ⌝ }
 {
     let done = txp::read_header(file);
@@ -73,7 +73,7 @@ pub extern "C" fn txp_header(file: &[u8], answer: &mut [u32; 15]) -> u32
 
 // The most bits that a body of this N, L and P can have.
 #[no_mangle]
-pub extern "C" fn txp_worst_body(n: u32, l: u32, p: u32, answer: &mut [u32; 15]) -> u32
+pub extern "C" fn txp_worst_body(n: u32, l: u32, p: u32, answer: &mut [u32; 16]) -> u32
     ensures { λ r. ⌜ Answers r (now (answer .exit)) (ofWorst (room.worstAnswer n l p (firstOf (room.worstChecks n l p)))) ⌝ }
 {
     let done = room::worst_body(n, l, p);
@@ -92,7 +92,7 @@ pub extern "C" fn txp_encode_body(
     out: &mut [u8],
     offset: usize,
     budget: u32,
-    answer: &mut [u32; 15],
+    answer: &mut [u32; 16],
 ) -> u32
     ensures { λ r. ⌜ BodyEncoded n l (now (coefs .entry)) offset budget (loan (now (desc .entry)) (now (grand .entry)) (now (marks .entry)) (now (out .entry))) r (now (answer .exit)) (loan (now (desc .exit)) (now (grand .exit)) (now (marks .exit)) (now (out .exit))) ⌝ }
 {
@@ -100,22 +100,22 @@ pub extern "C" fn txp_encode_body(
     put(answer, answers::of_written(done))
 }
 
-// Reads the first `usable` bits of a body, or all that it has.
+// Reads the first `declared` bits of a body, or all that it has.
 #[no_mangle]
 pub extern "C" fn txp_decode_body(
     n: u32,
     l: u32,
     p: u32,
     body: &[u8],
-    usable: u32,
+    declared: u32,
     values: &mut [i32],
     precisions: &mut [u8],
     marks: &mut [u8],
-    answer: &mut [u32; 15],
+    answer: &mut [u32; 16],
 ) -> u32
-    ensures { λ r. ⌜ BodyDecoded n l p usable (now (body .entry)) (tables (now (values .entry)) (now (precisions .entry)) (now (marks .entry))) r (now (answer .exit)) (tables (now (values .exit)) (now (precisions .exit)) (now (marks .exit))) ⌝ }
+    ensures { λ r. ⌜ BodyDecoded n l p declared (now (body .entry)) (tables (now (values .entry)) (now (precisions .entry)) (now (marks .entry))) r (now (answer .exit)) (tables (now (values .exit)) (now (precisions .exit)) (now (marks .exit))) ⌝ }
 {
-    let done = decoder::decode(n, l, p, body, usable, values, precisions, marks);
+    let done = decoder::decode(n, l, p, body, declared, values, precisions, marks);
     put(answer, answers::of_read(done))
 }
 
@@ -131,7 +131,7 @@ pub extern "C" fn txp_start(
     values: &mut [i32],
     precisions: &mut [u8],
     marks: &mut [u8],
-    answer: &mut [u32; 15],
+    answer: &mut [u32; 16],
 ) -> u32
     ensures { λ r. ⌜ Started n l p (now (dial .entry)) (tables (now (values .entry)) (now (precisions .entry)) (now (marks .entry))) r (now (answer .exit)) (now (dial .exit)) (tables (now (values .exit)) (now (precisions .exit)) (now (marks .exit))) ⌝ }
 {
@@ -148,16 +148,16 @@ pub extern "C" fn txp_start(
 pub extern "C" fn txp_forward(
     dial: &mut [u32; 8],
     body: &[u8],
-    usable: u32,
+    declared: u32,
     values: &mut [i32],
     precisions: &mut [u8],
     marks: &mut [u8],
-    answer: &mut [u32; 15],
+    answer: &mut [u32; 16],
 ) -> u32
-    ensures { λ r. ⌜ Forwarded usable (now (body .entry)) (now (dial .entry)) (tables (now (values .entry)) (now (precisions .entry)) (now (marks .entry))) r (now (answer .exit)) (now (dial .exit)) (tables (now (values .exit)) (now (precisions .exit)) (now (marks .exit))) ⌝ }
+    ensures { λ r. ⌜ Forwarded declared (now (body .entry)) (now (dial .entry)) (tables (now (values .entry)) (now (precisions .entry)) (now (marks .entry))) r (now (answer .exit)) (now (dial .exit)) (tables (now (values .exit)) (now (precisions .exit)) (now (marks .exit))) ⌝ }
 {
     let from = dials::dial_of(dial);
-    let done = steps::take_forward(from, body, usable, values, precisions, marks);
+    let done = steps::take_forward(from, body, declared, values, precisions, marks);
     let moved = done.dial;
     let said = done.answer;
     dials::put_dial(dial, moved);
@@ -169,16 +169,16 @@ pub extern "C" fn txp_forward(
 pub extern "C" fn txp_back(
     dial: &mut [u32; 8],
     body: &[u8],
-    usable: u32,
+    declared: u32,
     values: &mut [i32],
     precisions: &mut [u8],
     marks: &mut [u8],
-    answer: &mut [u32; 15],
+    answer: &mut [u32; 16],
 ) -> u32
-    ensures { λ r. ⌜ Backed usable (now (body .entry)) (now (dial .entry)) (tables (now (values .entry)) (now (precisions .entry)) (now (marks .entry))) r (now (answer .exit)) (now (dial .exit)) (tables (now (values .exit)) (now (precisions .exit)) (now (marks .exit))) ⌝ }
+    ensures { λ r. ⌜ Backed declared (now (body .entry)) (now (dial .entry)) (tables (now (values .entry)) (now (precisions .entry)) (now (marks .entry))) r (now (answer .exit)) (now (dial .exit)) (tables (now (values .exit)) (now (precisions .exit)) (now (marks .exit))) ⌝ }
 {
     let from = dials::dial_of(dial);
-    let done = steps::take_back(from, body, usable, values, precisions, marks);
+    let done = steps::take_back(from, body, declared, values, precisions, marks);
     let moved = done.dial;
     let said = done.answer;
     dials::put_dial(dial, moved);
@@ -190,17 +190,17 @@ pub extern "C" fn txp_back(
 pub extern "C" fn txp_turn(
     dial: &mut [u32; 8],
     body: &[u8],
-    usable: u32,
+    declared: u32,
     to: u32,
     values: &mut [i32],
     precisions: &mut [u8],
     marks: &mut [u8],
-    answer: &mut [u32; 15],
+    answer: &mut [u32; 16],
 ) -> u32
-    ensures { λ r. ⌜ Turned usable to (now (body .entry)) (now (dial .entry)) (tables (now (values .entry)) (now (precisions .entry)) (now (marks .entry))) r (now (answer .exit)) (now (dial .exit)) (tables (now (values .exit)) (now (precisions .exit)) (now (marks .exit))) ⌝ }
+    ensures { λ r. ⌜ Turned declared to (now (body .entry)) (now (dial .entry)) (tables (now (values .entry)) (now (precisions .entry)) (now (marks .entry))) r (now (answer .exit)) (now (dial .exit)) (tables (now (values .exit)) (now (precisions .exit)) (now (marks .exit))) ⌝ }
 {
     let from = dials::dial_of(dial);
-    let done = steps::take_turn(from, body, usable, to, values, precisions, marks);
+    let done = steps::take_turn(from, body, declared, to, values, precisions, marks);
     let moved = done.dial;
     let said = done.answer;
     dials::put_dial(dial, moved);
@@ -217,7 +217,7 @@ pub extern "C" fn txp_transform(
     samples: &[i32],
     coefs: &mut [i32],
     work: &mut [i32],
-    answer: &mut [u32; 15],
+    answer: &mut [u32; 16],
 ) -> u32
     ensures { λ r. ⌜ Transformed n l (now (samples .entry)) (now (coefs .entry)) (now (work .entry)) r (now (answer .exit)) (now (coefs .exit)) (now (work .exit)) ⌝ }
 {
@@ -233,7 +233,7 @@ pub extern "C" fn txp_restore(
     coefs: &[i32],
     samples: &mut [i32],
     work: &mut [i32],
-    answer: &mut [u32; 15],
+    answer: &mut [u32; 16],
 ) -> u32
     ensures { λ r. ⌜ Restored n l (now (coefs .entry)) (now (samples .entry)) (now (work .entry)) r (now (answer .exit)) (now (samples .exit)) (now (work .exit)) ⌝ }
 {
@@ -251,7 +251,7 @@ pub extern "C" fn txp_summaries(
     coefs: &[i32],
     desc: &mut [u32],
     grand: &mut [u32],
-    answer: &mut [u32; 15],
+    answer: &mut [u32; 16],
 ) -> u32
     ensures answer { λ r. ⌜ Answers r (now (answer .exit)) (ofOutcome (firstOf (summaryChecks n l (now (coefs .entry)) (length (now (desc .entry))) (length (now (grand .entry)))))) ⌝ }
     ensures descs { λ r. ⌜ now (desc .exit) ≡ lentAfter (firstOf (summaryChecks n l (now (coefs .entry)) (length (now (desc .entry))) (length (now (grand .entry))))) (descTable n l (now (coefs .entry))) (now (desc .entry)) ⌝ }
@@ -270,7 +270,7 @@ pub extern "C" fn txp_figures(
     plane: u32,
     desc: &mut [u32],
     grand: &mut [u32],
-    answer: &mut [u32; 15],
+    answer: &mut [u32; 16],
 ) -> u32
     ensures answer { λ r. ⌜ Answers r (now (answer .exit)) (ofFigures (answered (firstOf (figuresChecks n l (now (values .entry)) (length (now (desc .entry))) (length (now (grand .entry))) plane)) (figuresOf n l (now (values .entry)) plane))) ⌝ }
     ensures descs { λ r. ⌜ now (desc .exit) ≡ lentAfter (firstOf (figuresChecks n l (now (values .entry)) (length (now (desc .entry))) (length (now (grand .entry))) plane)) (descTable n l (now (values .entry))) (now (desc .entry)) ⌝ }
@@ -289,7 +289,7 @@ pub extern "C" fn txp_figures_all(
     desc: &mut [u32],
     grand: &mut [u32],
     out: &mut [u32],
-    answer: &mut [u32; 15],
+    answer: &mut [u32; 16],
 ) -> u32
     ensures answer { λ r. ⌜ Answers r (now (answer .exit)) (ofOutcome (firstOf (allFiguresChecks n l (now (values .entry)) (length (now (desc .entry))) (length (now (grand .entry))) (length (now (out .entry)))))) ⌝ }
     ensures descs { λ r. ⌜ now (desc .exit) ≡ lentAfter (firstOf (allFiguresChecks n l (now (values .entry)) (length (now (desc .entry))) (length (now (grand .entry))) (length (now (out .entry))))) (descTable n l (now (values .entry))) (now (desc .entry)) ⌝ }
@@ -304,7 +304,7 @@ pub extern "C" fn txp_figures_all(
 
 // A whole raster array in linear order.
 #[no_mangle]
-pub extern "C" fn txp_to_linear(n: u32, from: &[i32], to: &mut [i32], answer: &mut [u32; 15]) -> u32
+pub extern "C" fn txp_to_linear(n: u32, from: &[i32], to: &mut [i32], answer: &mut [u32; 16]) -> u32
     ensures answer { λ r. ⌜ Answers r (now (answer .exit)) (ofOutcome (firstOf (reorderChecks n (length (now (from .entry))) (length (now (to .entry)))))) ⌝ }
     ensures reordered { λ r. ⌜ now (to .exit) ≡ lentAfter (firstOf (reorderChecks n (length (now (from .entry))) (length (now (to .entry))))) (order.linearly n (now (from .entry))) (now (to .entry)) ⌝ }
 {
@@ -314,7 +314,7 @@ pub extern "C" fn txp_to_linear(n: u32, from: &[i32], to: &mut [i32], answer: &m
 
 // A whole linear array in raster order.
 #[no_mangle]
-pub extern "C" fn txp_to_raster(n: u32, from: &[i32], to: &mut [i32], answer: &mut [u32; 15]) -> u32
+pub extern "C" fn txp_to_raster(n: u32, from: &[i32], to: &mut [i32], answer: &mut [u32; 16]) -> u32
     ensures answer { λ r. ⌜ Answers r (now (answer .exit)) (ofOutcome (firstOf (reorderChecks n (length (now (from .entry))) (length (now (to .entry)))))) ⌝ }
     ensures reordered { λ r. ⌜ now (to .exit) ≡ lentAfter (firstOf (reorderChecks n (length (now (from .entry))) (length (now (to .entry))))) (order.rasterly n (now (from .entry))) (now (to .entry)) ⌝ }
 {
@@ -324,7 +324,7 @@ pub extern "C" fn txp_to_raster(n: u32, from: &[i32], to: &mut [i32], answer: &m
 
 // The linear place of a raster place.
 #[no_mangle]
-pub extern "C" fn txp_linear_place(n: u32, place: u32, answer: &mut [u32; 15]) -> u32
+pub extern "C" fn txp_linear_place(n: u32, place: u32, answer: &mut [u32; 16]) -> u32
     ensures { λ r. ⌜ Answers r (now (answer .exit)) (ofLinear (linearIf (firstOf (placeChecks n place)) (order.toLinear n place))) ⌝ }
 {
     match places::raster_at(n, place) {
@@ -338,7 +338,7 @@ pub extern "C" fn txp_linear_place(n: u32, place: u32, answer: &mut [u32; 15]) -
 
 // The raster place of a linear place.
 #[no_mangle]
-pub extern "C" fn txp_raster_place(n: u32, place: u32, answer: &mut [u32; 15]) -> u32
+pub extern "C" fn txp_raster_place(n: u32, place: u32, answer: &mut [u32; 16]) -> u32
     ensures { λ r. ⌜ Answers r (now (answer .exit)) (ofRaster (rasterIf (firstOf (placeChecks n place)) (order.toRaster n place))) ⌝ }
 {
     match places::linear_at(n, place) {
@@ -354,7 +354,7 @@ pub extern "C" fn txp_raster_place(n: u32, place: u32, answer: &mut [u32; 15]) -
 
 // The planes of an array.
 #[no_mangle]
-pub extern "C" fn txp_planes(coefs: &[i32], answer: &mut [u32; 15]) -> u32
+pub extern "C" fn txp_planes(coefs: &[i32], answer: &mut [u32; 16]) -> u32
     ensures { λ r. ⌜ Answers r (now (answer .exit)) (ofPlanes (coefficient.planesOf (now (coefs .entry)))) ⌝ }
 {
     let done = coef::planes(coefs);
@@ -363,7 +363,7 @@ pub extern "C" fn txp_planes(coefs: &[i32], answer: &mut [u32; 15]) -> u32
 
 // Whether x is below 0: 1 or 0.
 #[no_mangle]
-pub extern "C" fn txp_is_negative(x: i32, answer: &mut [u32; 15]) -> u32
+pub extern "C" fn txp_is_negative(x: i32, answer: &mut [u32; 16]) -> u32
     ensures { λ r. ⌜ Answers r (now (answer .exit)) (ofValue (digit (coefficient.negative x))) ⌝ }
 {
     let done = coef::is_negative(x);
@@ -372,7 +372,7 @@ pub extern "C" fn txp_is_negative(x: i32, answer: &mut [u32; 15]) -> u32
 
 // The magnitude of any number.
 #[no_mangle]
-pub extern "C" fn txp_magnitude(x: i32, answer: &mut [u32; 15]) -> u32
+pub extern "C" fn txp_magnitude(x: i32, answer: &mut [u32; 16]) -> u32
     ensures { λ r. ⌜ Answers r (now (answer .exit)) (ofValue (coefficient.magnitude x)) ⌝ }
 {
     let done = coef::magnitude(x);
@@ -381,7 +381,7 @@ pub extern "C" fn txp_magnitude(x: i32, answer: &mut [u32; 15]) -> u32
 
 // Sign and magnitude of a coefficient.
 #[no_mangle]
-pub extern "C" fn txp_part(x: i32, answer: &mut [u32; 15]) -> u32
+pub extern "C" fn txp_part(x: i32, answer: &mut [u32; 16]) -> u32
     ensures { λ r. ⌜ Answers r (now (answer .exit)) (ofParted (coefficient.partedOf x)) ⌝ }
 {
     let done = coef::part_of(x);
@@ -394,7 +394,7 @@ pub extern "C" fn txp_join(
     negative: u32,
     magnitude: u32,
     to: &mut i32,
-    answer: &mut [u32; 15],
+    answer: &mut [u32; 16],
 ) -> u32
     ensures answer { λ r. ⌜ Answers r (now (answer .exit)) (ofJoined (coefficient.joinedOf (signedOf negative magnitude))) ⌝ }
     ensures joined { λ r. ⌜ now (to .exit) ≡ joinedIn (coefficient.joinedOf (signedOf negative magnitude)) (now (to .entry)) ⌝ }
@@ -413,7 +413,7 @@ pub extern "C" fn txp_join(
 
 // A coefficient as a float, which is exactly that whole number.
 #[no_mangle]
-pub extern "C" fn txp_float(x: i32, to: &mut f32, answer: &mut [u32; 15]) -> u32
+pub extern "C" fn txp_float(x: i32, to: &mut f32, answer: &mut [u32; 16]) -> u32
     ensures answer { λ r. ⌜ Answers r (now (answer .exit)) (ofFloat (coefficient.floatOf x)) ⌝ }
     ensures floated { λ r. ⌜ now (to .exit) ≡ floatIn (coefficient.floatOf x) (now (to .entry)) ⌝ }
 {
@@ -430,25 +430,30 @@ pub extern "C" fn txp_float(x: i32, to: &mut f32, answer: &mut [u32; 15]) -> u32
 
 // Bit b of x: 1 or 0.
 #[no_mangle]
-pub extern "C" fn txp_bit(x: u32, b: u32, answer: &mut [u32; 15]) -> u32
+pub extern "C" fn txp_bit(x: u32, b: u32, answer: &mut [u32; 16]) -> u32
     ensures { λ r. ⌜ Answers r (now (answer .exit)) (ofValue (digit (bit x b))) ⌝ }
 {
     let done = bits::bit_of(x, b);
     put(answer, answers::of_bool(done))
 }
 
-// The bit with number `at` of those below `end`, if there is one.
+// The bit with number `at` of a body of `declared` bits, or why there is none.
 #[no_mangle]
-pub extern "C" fn txp_read_bit(body: &[u8], at: usize, end: usize, answer: &mut [u32; 15]) -> u32
-    ensures { λ r. ⌜ Answers r (now (answer .exit)) (ofNext (viewed (now (body .entry)) at end)) ⌝ }
+pub extern "C" fn txp_read_bit(
+    body: &[u8],
+    at: usize,
+    declared: usize,
+    answer: &mut [u32; 16],
+) -> u32
+    ensures { λ r. ⌜ Answers r (now (answer .exit)) (ofNext (viewed (now (body .entry)) at declared)) ⌝ }
 {
-    let done = view::read(body, at, end);
+    let done = view::read(body, at, declared);
     put(answer, answers::of_next(done))
 }
 
 // Puts a bit at number `at` and clears what lies below it in its byte. Any `x` but 0 is a 1.
 #[no_mangle]
-pub extern "C" fn txp_put_bit(body: &mut [u8], at: usize, x: u32, answer: &mut [u32; 15]) -> u32
+pub extern "C" fn txp_put_bit(body: &mut [u8], at: usize, x: u32, answer: &mut [u32; 16]) -> u32
     ensures answer { λ r. ⌜ Answers r (now (answer .exit)) blank ⌝ }
     ensures written { λ r. ⌜ now (body .exit) ≡ withBit (now (body .entry)) at (asBool x) ⌝ }
 {
@@ -460,7 +465,7 @@ pub extern "C" fn txp_put_bit(body: &mut [u8], at: usize, x: u32, answer: &mut [
 
 // Whether N is in range: 1 or 0.
 #[no_mangle]
-pub extern "C" fn txp_side_fits(n: u32, answer: &mut [u32; 15]) -> u32
+pub extern "C" fn txp_side_fits(n: u32, answer: &mut [u32; 16]) -> u32
     ensures { λ r. ⌜ Answers r (now (answer .exit)) (ofValue (digit (sideFits n))) ⌝ }
 {
     let done = sizes::side_fits(n);
@@ -479,7 +484,7 @@ fn sizes_fit(n: u32, l: u32) -> bool
 
 // Whether N and L are in range: 1 or 0.
 #[no_mangle]
-pub extern "C" fn txp_levels_fit(n: u32, l: u32, answer: &mut [u32; 15]) -> u32
+pub extern "C" fn txp_levels_fit(n: u32, l: u32, answer: &mut [u32; 16]) -> u32
     ensures { λ r. ⌜ Answers r (now (answer .exit)) (ofValue (digit (sideFits n && levelsFit n l))) ⌝ }
 {
     let done = sizes_fit(n, l);
@@ -488,7 +493,7 @@ pub extern "C" fn txp_levels_fit(n: u32, l: u32, answer: &mut [u32; 15]) -> u32
 
 // I, the number of coefficients; 0 for an N out of range.
 #[no_mangle]
-pub extern "C" fn txp_all(n: u32, answer: &mut [u32; 15]) -> u32
+pub extern "C" fn txp_all(n: u32, answer: &mut [u32; 16]) -> u32
     ensures { λ r. ⌜ Answers r (now (answer .exit)) (ofValue (cond (sideFits n) (allOf n) 0)) ⌝ }
 {
     let done = sizes::all_of(n);
@@ -497,7 +502,7 @@ pub extern "C" fn txp_all(n: u32, answer: &mut [u32; 15]) -> u32
 
 // D, the size of the coarsest band; 0 for sizes out of range.
 #[no_mangle]
-pub extern "C" fn txp_coarsest(n: u32, l: u32, answer: &mut [u32; 15]) -> u32
+pub extern "C" fn txp_coarsest(n: u32, l: u32, answer: &mut [u32; 16]) -> u32
     ensures { λ r. ⌜ Answers r (now (answer .exit)) (ofValue (cond (sideFits n && levelsFit n l) (coarsestOf n l) 0)) ⌝ }
 {
     let done = sizes::coarsest_of(n, l);

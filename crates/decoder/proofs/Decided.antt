@@ -15,38 +15,48 @@ use Rattle.nls.specs.Judging.{Verdict}
 use Rattle.nls.proofs.Verdicts.{judged-only}
 use Rattle.room.specs.Room.{readChecks, bodyBits}
 use Rattle.room.proofs.Laws.{decode-ready}
-use Rattle.decoder.specs.Body.{readAnswer, Tables, tables, ownTables, over, BodyRead, ReadsTo, Reads}
+use Rattle.decoder.specs.Body.{readAnswer, Tables, tables, ownTables, over, BodyRead, ReadsTo, ReadsBy}
+use Rattle.decoder.specs.Ending.{ending}
+use Rattle.decoder.specs.declared.ending.Ending.{Ending}
 use Rattle.decoder.specs.declared.body.ReadAnswer.{ReadAnswer}
 use Rattle.decoder.proofs.body.decode.Reads as decode
+use Rattle.decoder.proofs.ending.word_of.Reads as word-of
+use Rattle.decoder.proofs.ending.ending_of.Reads as ending-of
 use Rattle.decoder.proofs.finish.value_of.Reads as value-of
+
+pub word-of-decided : OneAnswer word-of.Learnt
+word-of-decided k args r r' s s' p q = p ∙ sym q
+
+pub ending-of-decided : OneAnswer ending-of.Learnt
+ending-of-decided k args r r' s s' p q = p ∙ sym q
 
 pub value-of-decided : OneAnswer value-of.Learnt
 value-of-decided k args r r' s s' p q = p ∙ sym q
 
 -- two readings of one body have one verdict
-decoded-one : (N L P : ℕ) (u : List Bool) (held : Tables) → Sized N L → (r r' : ReadAnswer) (t t' : Tables) → BodyRead N L P u held r t → BodyRead N L P u held r' t' → (r ≡ r') × (t ≡ t')
-decoded-one N L P u held z r r' t t' p q =
+decoded-one : (word : ℕ → ℕ → Ending) (N L P : ℕ) (u : List Bool) (held : Tables) → Sized N L → (r r' : ReadAnswer) (t t' : Tables) → BodyRead word N L P u held r t → BodyRead word N L P u held r' t' → (r ≡ r') × (t ≡ t')
+decoded-one word N L P u held z r r' t t' p q =
     let same : p .verdict ≡ q .verdict = judged-only N L z P u (p .verdict) (q .verdict) (p .judged) (q .judged) in (
-      p .answered ∙ ap (λ (v : Verdict). readAnswer N L P u v) same ∙ sym (q .answered),
+      p .answered ∙ ap (λ (v : Verdict). readAnswer word N L P u v) same ∙ sym (q .answered),
       p .filled ∙ ap (λ (v : Verdict). over (allOf N) (ownTables N L P u v) held) same ∙ sym (q .filled),
     )
 
-pub reads-one : (N L P usable : ℕ) (body : List ℕ) (held : Tables) (r r' : ReadAnswer) (t t' : Tables) → Reads N L P usable body held r t → Reads N L P usable body held r' t' → (r ≡ r') × (t ≡ t')
-reads-one N L P usable body held r r' t t' = go checks refl
+pub reads-one : (word : ℕ → ℕ → Ending) (N L P n : ℕ) (body : List ℕ) (held : Tables) (r r' : ReadAnswer) (t t' : Tables) → ReadsBy word N L P n body held r t → ReadsBy word N L P n body held r' t' → (r ≡ r') × (t ≡ t')
+reads-one word N L P n body held r r' t t' = go checks refl
   where
     checks : Outcome
     checks = firstOf (readChecks N L P (length (held .values)) (length (held .precisions)) (length (held .marks)))
 
     u : List Bool
-    u = bodyBits usable body
+    u = bodyBits n body
 
-    go : (o : Outcome) → checks ≡ o → ReadsTo o N L P u held r t → ReadsTo o N L P u held r' t' → (r ≡ r') × (t ≡ t')
-    go outcome.Done e p q = decoded-one N L P u held (sized N L (decode-ready N L P (length (held .values)) (length (held .precisions)) (length (held .marks)) (sym e) .levels)) r r' t t' p q
+    go : (o : Outcome) → checks ≡ o → ReadsTo o word N L P u held r t → ReadsTo o word N L P u held r' t' → (r ≡ r') × (t ≡ t')
+    go outcome.Done e p q = decoded-one word N L P u held (sized N L (decode-ready N L P (length (held .values)) (length (held .precisions)) (length (held .marks)) (sym e) .levels)) r r' t t' p q
     go (outcome.Refused why) e p q = (p .0 ∙ sym (q .0), p .1 ∙ sym (q .1))
 
 -- the sixth to the eighth parameter are the values, the precisions and the marks
 pub decode-decided : OneOutcome {Lent = Tables} decode.Learnt (λ k s. tables (now (s .1 .1 .1 .1 .1 .0)) (now (s .1 .1 .1 .1 .1 .1 .0)) (now (s .1 .1 .1 .1 .1 .1 .1 .0)))
 decode-decided k args r r' s s' p q =
-    reads-one (args .0) (args .1 .0) (args .1 .1 .0) (args .1 .1 .1 .1 .0) (now (args .1 .1 .1 .0)) (tables (now (args .1 .1 .1 .1 .1 .0)) (now (args .1 .1 .1 .1 .1 .1 .0)) (now (args .1 .1 .1 .1 .1 .1 .1 .0))) r r'
+    reads-one (ending (args .1 .1 .1 .1 .0) (now (args .1 .1 .1 .0))) (args .0) (args .1 .0) (args .1 .1 .0) (args .1 .1 .1 .1 .0) (now (args .1 .1 .1 .0)) (tables (now (args .1 .1 .1 .1 .1 .0)) (now (args .1 .1 .1 .1 .1 .1 .0)) (now (args .1 .1 .1 .1 .1 .1 .1 .0))) r r'
     (tables (now (s .1 .1 .1 .1 .1 .0)) (now (s .1 .1 .1 .1 .1 .1 .0)) (now (s .1 .1 .1 .1 .1 .1 .1 .0)))
     (tables (now (s' .1 .1 .1 .1 .1 .0)) (now (s' .1 .1 .1 .1 .1 .1 .0)) (now (s' .1 .1 .1 .1 .1 .1 .1 .0))) p q

@@ -31,6 +31,7 @@ use Rattle.reading.proofs.Received.{Matches, reads}
 use Rattle.decoder.specs.Finishing.{plainOf, Stood}
 use Rattle.decoder.specs.Body.{Tables, tables, zeros, ownTables, over, BodyRead}
 use Rattle.decoder.specs.Calls.{ReadReady}
+use Rattle.decoder.specs.declared.ending.Ending.{Ending}
 use Rattle.decoder.specs.declared.body.ReadAnswer.{ReadAnswer}
 use Rattle.decoder.specs.declared.body.ReadAnswer.the-variants.{Done, Refused}
 use Rattle.decoder.proofs.FinishLaws.{whole}
@@ -138,16 +139,16 @@ module _ (N L P values precisions marks : ℕ) (ready : ReadReady N L P values p
           go (beyond k) f j = absurd (omega (arith, h, f .1, f .2))
 
       -- refused: the tables are cleared
-      module _ (held : Tables) (hv : length (held .values) ≡ allOf N) (hp : length (held .precisions) ≡ allOf N) (hm : length (held .marks) ≡ allOf N)
+      module _ (word : ℕ → ℕ → Ending) (held : Tables) (hv : length (held .values) ≡ allOf N) (hp : length (held .precisions) ≡ allOf N) (hm : length (held .marks) ≡ allOf N)
           (w : List ℤ) (q o : List ℕ) (ew : w ≡ replicate (allOf N) (pos 0)) (eq : q ≡ replicate (allOf N) 0) (eo : o ≡ replicate (allOf N) 0) where
         cleared : tables w q o ≡ over (allOf N) (zeros (allOf N)) held
         cleared =
             same-tables w _ q _ o _ (ew ∙ sym (whole (allOf N) (replicate (allOf N) (pos 0)) (held .values) hv)) (eq ∙ sym (whole (allOf N) (replicate (allOf N) 0) (held .precisions) hp)) (eo ∙ sym (whole (allOf N) (replicate (allOf N) 0) (held .marks) hm))
 
-        pub refused-12 : bad ≡ true → BodyRead N L P (bitsOf usable body) held (Refused (Contradiction n)) (tables w q o)
+        pub refused-12 : bad ≡ true → BodyRead word N L P (bitsOf usable body) held (Refused (Contradiction n)) (tables w q o)
         refused-12 b = record { verdict = contradiction n; judged = judged-12 b; answered = refl; filled = cleared }
 
-        pub refused-13 : bad ≡ false → n < usable → BodyRead N L P (bitsOf usable body) held (Refused (Beyond n)) (tables w q o)
+        pub refused-13 : bad ≡ false → n < usable → BodyRead word N L P (bitsOf usable body) held (Refused (Beyond n)) (tables w q o)
         refused-13 b h = record { verdict = beyond n; judged = judged-13 b h; answered = refl; filled = cleared }
 
     -- taken
@@ -181,15 +182,15 @@ module _ (N L P values precisions marks : ℕ) (ready : ReadReady N L P values p
       power-one = omega (arith, power, one-le-pow left 2 (omega arith))
 
       -- and what it leaves
-      pub accepted : Judged N L P (bitsOf usable body) taken → (held : Tables) → length (held .values) ≡ allOf N → length (held .precisions) ≡ allOf N → length (held .marks) ≡ allOf N
+      pub accepted : Judged N L P (bitsOf usable body) taken → (word : ℕ → ℕ → Ending) (said : Ending) → said ≡ word n left → (held : Tables) → length (held .values) ≡ allOf N → length (held .precisions) ≡ allOf N → length (held .marks) ≡ allOf N
           → (w : List ℤ) (q : List ℕ) (all : ℕ) → all ≡ allOf N
           → w ≡ table all (λ i. valueBy midpoint (precisionBy all m left now i) (plainOf (at v i))) → q ≡ table all (λ i. precisionBy all m left now i)
-          → BodyRead N L P (bitsOf usable body) held (Done (record { used = n; finished = P - left; error = (1 * 2 ^ left) % 4294967296 - 1 })) (tables w q m)
-      accepted j held hv hp hm w q all ea ew eq =
+          → BodyRead word N L P (bitsOf usable body) held (Done (record { used = n; finished = P - left; error = (1 * 2 ^ left) % 4294967296 - 1; ending = said })) (tables w q m)
+      accepted j word said is held hv hp hm w q all ea ew eq =
           record {
             verdict = taken;
             judged = j;
-            answered = λ i. Done (record { used = used i; finished = P - t .lefts i; error = error i });
+            answered = λ i. Done (record { used = used i; finished = P - t .lefts i; error = error i; ending = spoken i });
             filled =
                 same-tables w _ q _ m _
                 (ew ∙ ap (λ (k : ℕ). table k (λ i. valueBy midpoint (precisionBy k m left now i) (plainOf (at v i)))) ea ∙ values-are (stood j) v (t .valued) ∙ sym (whole (allOf N) _ (held .values) hv))
@@ -200,11 +201,14 @@ module _ (N L P values precisions marks : ℕ) (ready : ReadReady N L P values p
           used : n ≡ length (bitsOf usable body)
           used = t .used ∙ sym (bitsOf-length usable body)
 
+          spoken : said ≡ word (length (bitsOf usable body)) (lastPlane N L P (bitsOf usable body))
+          spoken = is ∙ ap (λ (x : ℕ). word x left) used ∙ ap (λ (x : ℕ). word (length (bitsOf usable body)) x) (t .lefts)
+
           error : (1 * 2 ^ left) % 4294967296 - 1 ≡ 2 ^ lastPlane N L P (bitsOf usable body) - 1
           error = ap (λ (x : ℕ). x - 1) power ∙ ap (λ (x : ℕ). 2 ^ x - 1) (t .lefts)
 
 -- the lent parts put back into the wholes
-module _ (N L P most usable all : ℕ) (body : List ℕ) (v : List ℤ) (p m : List ℕ) (answer : ReadAnswer) (w : List ℤ) (q o : List ℕ) where
+module _ (word : ℕ → ℕ → Ending) (N L P most usable all : ℕ) (body : List ℕ) (v : List ℤ) (p m : List ℕ) (answer : ReadAnswer) (w : List ℤ) (q o : List ℕ) where
   part-back : {A : Type 0} (own part held : List A) → all ≡ allOf N → all ≤ length held → part ≡ own ++ drop (allOf N) (take all held)
       → part ++ drop all held ≡ own ++ drop (allOf N) held
   part-back {A} own part held e h is =
@@ -212,10 +216,10 @@ module _ (N L P most usable all : ℕ) (body : List ℕ) (v : List ℤ) (p m : L
       ap (λ (l : List A). l ++ drop all held) part-is ∙ ap (λ (k : ℕ). own ++ drop k held) e
 
   pub decoded-back : most ≡ min usable (8 * length body) → all ≡ allOf N → all ≤ length v → all ≤ length p → all ≤ length m
-      → BodyRead N L P (bitsOf most body) (tables (take all v) (take all p) (take all m)) answer (tables w q o)
-      → BodyRead N L P (bodyBits usable body) (tables v p m) answer (tables (w ++ drop all v) (q ++ drop all p) (o ++ drop all m))
+      → BodyRead word N L P (bitsOf most body) (tables (take all v) (take all p) (take all m)) answer (tables w q o)
+      → BodyRead word N L P (bodyBits usable body) (tables v p m) answer (tables (w ++ drop all v) (q ++ drop all p) (o ++ drop all m))
   decoded-back em ea hv hp hm d =
-      subst (λ (k : ℕ). BodyRead N L P (bitsOf k body) (tables v p m) answer (tables (w ++ drop all v) (q ++ drop all p) (o ++ drop all m))) em
+      subst (λ (k : ℕ). BodyRead word N L P (bitsOf k body) (tables v p m) answer (tables (w ++ drop all v) (q ++ drop all p) (o ++ drop all m))) em
       (record {
         verdict = d .verdict;
         judged = d .judged;

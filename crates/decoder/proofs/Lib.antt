@@ -1,4 +1,5 @@
 pub mod ValueLaws
+pub mod Endings
 pub mod FinishLaws
 pub mod StoodLaws
 pub mod DecodeLaws

@@ -1,3 +1,4 @@
 pub mod Finishing
+pub mod Ending
 pub mod Body
 pub mod Calls

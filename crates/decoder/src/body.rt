@@ -1,4 +1,6 @@
 // The call that reads a body.
+use crate::Ending;
+use bits::Next;
 use refusals::Outcome;
 use refusals::Refusal;
 ghost use mathlib.Core.Path.{_≡_};
@@ -7,12 +9,14 @@ ghost use lib.ListN.{length, replicate};
 ghost use Rattle.room.specs.Room.{bodyBits};
 ghost use Rattle.decoder.specs.Body.{tables, BodyRead, Reads};
 ghost use Rattle.decoder.specs.Calls.{ReadReady};
+ghost use Rattle.decoder.specs.Ending.{ending};
 
-// The bits used, the planes finished and the worst error.
+// The bits used, the planes finished, the worst error, and why the bits ended.
 pub struct ReadTo {
     pub used: u32,
     pub finished: u32,
     pub error: u32,
+    pub ending: Ending,
 }
 
 // What `decode` answers.
@@ -32,55 +36,59 @@ fn clear(values: &mut [i32], precisions: &mut [u8], marks: &mut [u8])
     marking::fill(marks, 0);
 }
 
-// Reads the first `usable` bits of a body, or all that it has, into tables of I entries each; the checks of the call hold.
+// Reads the first `declared` bits of a body, or all that it has, into tables of I entries each; the checks of the call hold.
 fn read(
     n: u32,
     l: u32,
     p: u32,
     body: &[u8],
-    usable: u32,
+    declared: u32,
     values: &mut [i32],
     precisions: &mut [u8],
     marks: &mut [u8],
 ) -> ReadAnswer
     requires { ⌜ ReadReady n l p (length (now values)) (length (now precisions)) (length (now marks)) ⌝ }
-    ensures { λ r. ⌜ BodyRead n l p (bodyBits usable (now (body .entry))) (tables (now (values .entry)) (now (precisions .entry)) (now (marks .entry))) r (tables (now (values .exit)) (now (precisions .exit)) (now (marks .exit))) ⌝ }
+    ensures { λ r. ⌜ BodyRead (ending declared (now (body .entry))) n l p (bodyBits declared (now (body .entry))) (tables (now (values .entry)) (now (precisions .entry)) (now (marks .entry))) r (tables (now (values .exit)) (now (precisions .exit)) (now (marks .exit))) ⌝ }
 {
     let coarsest = sizes::coarsest_of(n, l);
-    marking::start(marks, coarsest);
     crate::finish::clear(values);
-    let reached = reading::scan(body, marks, values, coarsest, p, usable);
-    let most = room::usable_of(usable, body.len());
+    marking::start(marks, coarsest);
+    let reached = reading::scan(body, marks, values, coarsest, p, declared);
     let bits = reached.bits as u32;
     if reached.bad {
         clear(values, precisions, marks);
         return ReadAnswer::Refused(Refusal::Contradiction(bits));
     }
-    if bits < most {
-        clear(values, precisions, marks);
-        return ReadAnswer::Refused(Refusal::Beyond(bits));
+    match view::read(body, reached.bits, declared as usize) {
+        Next::Bit(_) => {
+            clear(values, precisions, marks);
+            ReadAnswer::Refused(Refusal::Beyond(bits))
+        }
+        Next::NoMore(why) => {
+            let left = reached.left;
+            crate::finish::finish(values, precisions, marks, left, reached.stop);
+            ReadAnswer::Done(ReadTo {
+                used: bits,
+                finished: p - left,
+                error: (1u32 << left) - 1,
+                ending: crate::ending::ending_of(left, Next::NoMore(why)),
+            })
+        }
     }
-    let left = reached.left;
-    crate::finish::finish(values, precisions, marks, left, reached.stop);
-    ReadAnswer::Done(ReadTo {
-        used: bits,
-        finished: p - left,
-        error: (1u32 << left) - 1,
-    })
 }
 
-// Reads the first `usable` bits of a body, or all that it has, into the first I entries of the three tables.
+// Reads the first `declared` bits of a body, or all that it has, into the first I entries of the three tables.
 pub fn decode(
     n: u32,
     l: u32,
     p: u32,
     body: &[u8],
-    usable: u32,
+    declared: u32,
     values: &mut [i32],
     precisions: &mut [u8],
     marks: &mut [u8],
 ) -> ReadAnswer
-    ensures { λ r. ⌜ Reads n l p usable (now (body .entry)) (tables (now (values .entry)) (now (precisions .entry)) (now (marks .entry))) r (tables (now (values .exit)) (now (precisions .exit)) (now (marks .exit))) ⌝ }
+    ensures { λ r. ⌜ Reads n l p declared (now (body .entry)) (tables (now (values .entry)) (now (precisions .entry)) (now (marks .entry))) r (tables (now (values .exit)) (now (precisions .exit)) (now (marks .exit))) ⌝ }
 {
     match room::check_decode(n, l, p, values.len(), precisions.len(), marks.len()) {
         Outcome::Done => {
@@ -90,7 +98,7 @@ pub fn decode(
                 l,
                 p,
                 body,
-                usable,
+                declared,
                 &mut values[..all],
                 &mut precisions[..all],
                 &mut marks[..all],

@@ -13,9 +13,10 @@ use Rattle.sizes.specs.Sizes.{mostN, mostPlanes, allOf}
 use Rattle.sizes.proofs.Laws.{both-left, both-right}
 use Rattle.bits.specs.declared.Next.{Next}
 use Rattle.bits.specs.declared.Next.the-variants.{Bit, NoMore}
+use Rattle.bits.specs.declared.Why.{Why}
 use Rattle.bits.specs.Bits.{bitAt}
 use Rattle.view.specs.View.{viewed}
-use Rattle.view.proofs.Laws.{viewed-bit, viewed-within}
+use Rattle.view.proofs.Laws.{viewed-bit, viewed-within, viewed-past}
 use Rattle.coef.specs.Coef.{at}
 use Rattle.nls.specs.Scan.{Question, bitOf, signOf, inDesc, inGrand, pixels, sets}
 use Rattle.walk.specs.Scans.{Seen, halt, refuse, move}
@@ -193,15 +194,8 @@ module _ (body : List ℕ) (n usable : ℕ) {r : Next} (is : r ≡ viewed body n
       let z : Bit x ≡ Bit (bitAt body n) = sym e ∙ is ∙ viewed-bit body n usable h in
       (omega (arith, h), cc)
 
-  pub told-none : usable ≤ 8 * length body → r ≡ NoMore → usable ≤ n
-  told-none h e = tell (decLt n usable)
-    where
-      tell : Dec (n < usable) → usable ≤ n
-      tell (yes l) =
-          let z : NoMore ≡ Bit (bitAt body n) = sym e ∙ is ∙ viewed-bit body n usable (omega (arith, h, l)) in
-          let o : _≡_ {A = ℕ} 0 1 = cc in
-          absurd (omega (arith, o))
-      tell (no l) = omega (arith, l)
+  pub told-none : usable ≤ 8 * length body → {why : Why} → r ≡ NoMore why → usable ≤ n
+  told-none h {why} e = omega (arith, h, viewed-past body n usable why (sym is ∙ e))
 
 by-way : (s t : Seen (Sv Read)) (usable place n : ℕ) (r : Turn) (m : List ℕ) (v : List ℤ) → s ≡ t → Does t usable place n r m v → Does s usable place n r m v
 by-way s t usable place n r m v e d = subst (λ (x : Seen (Sv Read)). Does x usable place n r m v) (sym e) d

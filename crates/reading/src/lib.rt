@@ -232,7 +232,7 @@ fn coefficient(
                         marks[place] = marking::MNP;
                         Turn::Go(k + 1, place + 1)
                     }
-                    Next::NoMore => Turn::Stop(k, place),
+                    Next::NoMore(_) => Turn::Stop(k, place),
                 };
             }
             if one_clash(marks, all, place, in_sets) {
@@ -241,7 +241,7 @@ fn coefficient(
             marks[place] = marking::MIP;
             Turn::Go(k, place + 1)
         }
-        Next::NoMore => Turn::Stop(n, place),
+        Next::NoMore(_) => Turn::Stop(n, place),
     }
 }
 
@@ -288,7 +288,7 @@ fn refine(
                 refined(values, b, place, x);
                 Turn::Go(n + 1, place + 1)
             }
-            Next::NoMore => Turn::Stop(n, place),
+            Next::NoMore(_) => Turn::Stop(n, place),
         };
     }
     if marking::MSP < mark {
@@ -328,7 +328,7 @@ fn test_desc(
             }
             Turn::Go(n + 1, place + 4)
         }
-        Next::NoMore => Turn::Stop(n, place),
+        Next::NoMore(_) => Turn::Stop(n, place),
     }
 }
 
@@ -356,7 +356,7 @@ fn test_grand(
             }
             Turn::Go(n + 1, place + 16)
         }
-        Next::NoMore => Turn::Stop(n, place),
+        Next::NoMore(_) => Turn::Stop(n, place),
     }
 }
 

@@ -36,7 +36,7 @@ fn pattern_of(x: f32) -> u32 {
 }
 
 // A coefficient as a float; the pattern of the float, at first a half, is put into `to`.
-fn float(x: i32, to: &mut [u32], answer: &mut [u32; 15]) -> u32 {
+fn float(x: i32, to: &mut [u32], answer: &mut [u32; 16]) -> u32 {
     let mut value = 0.5f32;
     let result = ctxp::txp_float(x, &mut value, answer);
     if 0 < to.len() {
@@ -46,7 +46,7 @@ fn float(x: i32, to: &mut [u32], answer: &mut [u32; 15]) -> u32 {
 }
 
 // The coefficient of a sign and a magnitude, put into `to`.
-fn join(negative: u32, magnitude: u32, to: &mut [i32], answer: &mut [u32; 15]) -> u32 {
+fn join(negative: u32, magnitude: u32, to: &mut [i32], answer: &mut [u32; 16]) -> u32 {
     let mut x = first(to);
     let result = ctxp::txp_join(negative, magnitude, &mut x, answer);
     if 0 < to.len() {
@@ -56,7 +56,7 @@ fn join(negative: u32, magnitude: u32, to: &mut [i32], answer: &mut [u32; 15]) -
 }
 
 // The calls on numbers, which are lent nothing but the answer.
-fn number(case: Case, answer: &mut [u32; 15]) -> u32 {
+fn number(case: Case, answer: &mut [u32; 16]) -> u32 {
     let a = case.a;
     let b = case.b;
     let letter = case.letter;
@@ -74,7 +74,7 @@ fn number(case: Case, answer: &mut [u32; 15]) -> u32 {
 }
 
 // The calls that look at an array, and are lent nothing but the answer.
-fn look(case: Case, ints: &[i32], file: &[u8], answer: &mut [u32; 15]) -> u32 {
+fn look(case: Case, ints: &[i32], file: &[u8], answer: &mut [u32; 16]) -> u32 {
     let letter = case.letter;
     match letter {
         b'P' => ctxp::txp_planes(ints, answer),
@@ -93,7 +93,7 @@ fn sums(
     ints: &[i32],
     desc: &mut [u32],
     grand: &mut [u32],
-    answer: &mut [u32; 15],
+    answer: &mut [u32; 16],
 ) -> u32 {
     if case.letter == b'S' {
         return ctxp::txp_summaries(case.a, case.b, ints, desc, grand, answer);
@@ -102,7 +102,7 @@ fn sums(
 }
 
 // The calls that change the order of an array.
-fn order(case: Case, ints: &[i32], values: &mut [i32], answer: &mut [u32; 15]) -> u32 {
+fn order(case: Case, ints: &[i32], values: &mut [i32], answer: &mut [u32; 16]) -> u32 {
     if case.letter == b'O' {
         return ctxp::txp_to_linear(case.a, ints, values, answer);
     }
@@ -118,7 +118,7 @@ fn array(
     grand: &mut [u32],
     bytes: &mut [u8],
     values: &mut [i32],
-    answer: &mut [u32; 15],
+    answer: &mut [u32; 16],
 ) -> u32 {
     let letter = case.letter;
     match letter {
@@ -140,7 +140,7 @@ fn encode(
     grand: &mut [u32],
     marks: &mut [u8],
     bytes: &mut [u8],
-    answer: &mut [u32; 15],
+    answer: &mut [u32; 16],
 ) -> u32 {
     let a = case.a;
     let b = case.b;
@@ -169,7 +169,7 @@ fn decode(
     marks: &mut [u8],
     bytes: &mut [u8],
     values: &mut [i32],
-    answer: &mut [u32; 15],
+    answer: &mut [u32; 16],
 ) -> u32 {
     if case.letter == b'D' {
         return ctxp::txp_decode(file, values, bytes, marks, answer);
@@ -197,7 +197,7 @@ pub fn call(
     marks: &mut [u8],
     bytes: &mut [u8],
     values: &mut [i32],
-    answer: &mut [u32; 15],
+    answer: &mut [u32; 16],
 ) -> u32 {
     let letter = case.letter;
     match letter {

@@ -103,7 +103,7 @@ fn past(lent: usize) -> usize {
 }
 
 // Reads a case: the numbers that go in, and those expected.
-fn read(line: &[u8], expected: &mut [u32; 16]) -> Case {
+fn read(line: &[u8], expected: &mut [u32; 17]) -> Case {
     let mut numbers = [0u32; 4];
     let first = text::list(line, 1, &mut numbers);
     let second = text::list(line, first.at, expected);
@@ -151,9 +151,9 @@ fn arrays(
 }
 
 // Whether the result of a call and its answer are the numbers that are expected.
-fn answers(result: u32, answer: &mut [u32; 15], expected: &[u32; 16]) -> bool {
+fn answers(result: u32, answer: &mut [u32; 16], expected: &[u32; 17]) -> bool {
     let numbers = &expected[..];
-    tables::words_held(answer, 15, &numbers[1..], 15, result == expected[0])
+    tables::words_held(answer, 16, &numbers[1..], 16, result == expected[0])
 }
 
 // Makes the call of a case, with as much of each array and table as it says.
@@ -161,7 +161,7 @@ fn make(
     case: Case,
     given: Given,
     lent: Loan,
-    expected: &[u32; 16],
+    expected: &[u32; 17],
     ints: &[i32],
     file: &[u8],
     desc: &mut [u32],
@@ -170,8 +170,8 @@ fn make(
     bytes: &mut [u8],
     values: &mut [i32],
 ) -> Made {
-    let mut answer = [0u32; 15];
-    tables::fill_words(&mut answer, 15, expected, 0);
+    let mut answer = [0u32; 16];
+    tables::fill_words(&mut answer, 16, expected, 0);
     let a = least(given.ints, ints.len());
     let b = least(given.file, file.len());
     let c = least(lent.desc, desc.len());
@@ -299,7 +299,7 @@ fn one(
     places: &mut [u8; ALL],
     values: &mut [i32; ALL],
 ) -> Verdict {
-    let mut expected = [0u32; 16];
+    let mut expected = [0u32; 17];
     let case = read(line, &mut expected);
     let lent = lengths(line, case.at);
     let given = arrays(line, lent.at, list, coefs, file);

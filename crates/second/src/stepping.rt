@@ -19,16 +19,25 @@ fn step(
     to: u32,
     record: &mut [u32; 8],
     body: &[u8],
-    usable: u32,
+    declared: u32,
     values: &mut [i32],
     precisions: &mut [u8],
     marks: &mut [u8],
-    answer: &mut [u32; 15],
+    answer: &mut [u32; 16],
 ) -> u32 {
     match letter {
-        b'f' => ctxp::txp_forward(record, body, usable, values, precisions, marks, answer),
-        b'b' => ctxp::txp_back(record, body, usable, values, precisions, marks, answer),
-        _ => ctxp::txp_turn(record, body, usable, to, values, precisions, marks, answer),
+        b'f' => ctxp::txp_forward(record, body, declared, values, precisions, marks, answer),
+        b'b' => ctxp::txp_back(record, body, declared, values, precisions, marks, answer),
+        _ => ctxp::txp_turn(
+            record,
+            body,
+            declared,
+            to,
+            values,
+            precisions,
+            marks,
+            answer,
+        ),
     }
 }
 
@@ -50,9 +59,9 @@ fn dial(
     values: &mut [i32],
     precisions: &mut [u8],
     marks: &mut [u8],
-    answer: &mut [u32; 15],
+    answer: &mut [u32; 16],
 ) -> u32 {
-    let usable = case.d;
+    let declared = case.d;
     let mut result = ctxp::txp_start(
         record,
         case.a,
@@ -72,7 +81,7 @@ fn dial(
             to,
             record,
             body,
-            usable,
+            declared,
             values,
             precisions,
             marks,
@@ -137,7 +146,7 @@ fn may_be(result: u32) -> bool {
 }
 
 // The result that is compared: where no prefix leaves the tables, 0 for all that a step may have, and the answer is then blank.
-fn compared(own: u32, result: u32, answer: &mut [u32; 15]) -> u32 {
+fn compared(own: u32, result: u32, answer: &mut [u32; 16]) -> u32 {
     if own == 0 {
         return result;
     }
@@ -145,7 +154,7 @@ fn compared(own: u32, result: u32, answer: &mut [u32; 15]) -> u32 {
         return BROKEN;
     }
     if may_be(result) {
-        *answer = [0u32; 15];
+        *answer = [0u32; 16];
         return 0;
     }
     BROKEN
@@ -160,7 +169,7 @@ fn given(
     values: &mut [i32],
     precisions: &mut [u8],
     marks: &mut [u8],
-    answer: &mut [u32; 15],
+    answer: &mut [u32; 16],
 ) -> u32 {
     give(EVERY, ints, record, values, precisions, marks);
     let result = step(
@@ -194,7 +203,7 @@ fn calls(
     values: &mut [i32],
     precisions: &mut [u8],
     marks: &mut [u8],
-    answer: &mut [u32; 15],
+    answer: &mut [u32; 16],
 ) -> u32 {
     if case.letter == b'Y' {
         return dial(case, ints, record, body, values, precisions, marks, answer);
@@ -211,7 +220,7 @@ pub fn call(
     values: &mut [i32],
     precisions: &mut [u8],
     marks: &mut [u8],
-    answer: &mut [u32; 15],
+    answer: &mut [u32; 16],
 ) -> u32 {
     let mut record = [0u32; 8];
     let held = desc.len();

@@ -12,7 +12,7 @@ fn change(
     ints: &[i32],
     values: &mut [i32],
     work: &mut [i32],
-    answer: &mut [u32; 15],
+    answer: &mut [u32; 16],
 ) -> u32 {
     if case.letter == b'x' {
         return ctxp::txp_transform(case.a, case.b, ints, values, work, answer);
@@ -27,7 +27,7 @@ fn lent(
     values: &mut [i32],
     work: &mut [i32],
     n: usize,
-    answer: &mut [u32; 15],
+    answer: &mut [u32; 16],
 ) -> u32 {
     if n <= work.len() {
         return change(case, ints, values, &mut work[..n], answer);
@@ -41,7 +41,7 @@ pub fn call(
     ints: &[i32],
     desc: &mut [u32],
     values: &mut [i32],
-    answer: &mut [u32; 15],
+    answer: &mut [u32; 16],
 ) -> u32 {
     let mut work = [0i32; FEW];
     let held = desc.len();

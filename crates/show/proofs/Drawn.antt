@@ -22,7 +22,7 @@ use Rattle.places.specs.Order.{rasterly}
 use Rattle.places.specs.Answers.{reorderChecks}
 use Rattle.coef.specs.Coef.{at, magnitude, within, firstOver}
 use Rattle.coef.proofs.Laws.{first-none}
-use Rattle.nls.specs.Reading.{known, midpoint, valueBy, precisionAt, valuesBy, planesFinished, worstError}
+use Rattle.nls.specs.Reading.{lastPlane, known, midpoint, valueBy, precisionAt, valuesBy, planesFinished, worstError}
 use Rattle.nls.specs.Judging.{Verdict, taken, contradiction, beyond}
 use Rattle.nls.proofs.Values.{midpoint-between, value-range}
 use Rattle.figures.specs.Figures.{figuresChecks}
@@ -31,7 +31,7 @@ use Rattle.txp.specs.declared.Header.{Header}
 use Rattle.txp.specs.declared.Decoded.{Decoded}
 use Rattle.txp.specs.declared.DecodeAnswer.the-variants as decode
 use Rattle.txp.specs.Header.{headerOf}
-use Rattle.txp.specs.File.{usableBits}
+use Rattle.txp.specs.File.{usableBits, endingOf}
 use Rattle.txp.specs.Calls.{decodeChecks, decodeAnswer, DecodesTo, Decodes}
 use Rattle.txp.proofs.CallLaws.{decode-passed}
 use Rattle.show.specs.Text.{mostShownN}
@@ -77,11 +77,13 @@ module _ (file : List ℕ) (held left : Tables) (d : Decoded) (most : length (he
   Can x =
       Drawn (x .n) (x .l) (take (allOf (x .n)) (left .values)) × (x .p ≤ mostPlanes) × (x .finished ≤ x .p) × (allOf (x .n) ≤ length (held .values))
 
-  by-verdict : checks ≡ outcome.Done → (v : Verdict) → decode.Done d ≡ decodeAnswer h u v → left ≡ over (allOf (h .n)) (ownTables (h .n) (h .l) (h .p) u v) held → Can d
+  by-verdict : checks ≡ outcome.Done → (v : Verdict) → decode.Done d ≡ decodeAnswer (endingOf file) h u v → left ≡ over (allOf (h .n)) (ownTables (h .n) (h .l) (h .p) u v) held → Can d
   by-verdict e taken answered filled =
       let ready = decode-passed file (length (held .values)) (length (held .precisions)) (length (held .marks)) e in
-      let told : decode.Done d ≡ decode.Done (record { n = h .n; l = h .l; p = h .p; declared = h .declared; used = length u; finished = planesFinished (h .n) (h .l) (h .p) u; error = worstError (h .n) (h .l) (h .p) u }) = answered in
-      let is : d ≡ record { n = h .n; l = h .l; p = h .p; declared = h .declared; used = length u; finished = planesFinished (h .n) (h .l) (h .p) u; error = worstError (h .n) (h .l) (h .p) u } = cc in
+      let mine : Decoded =
+      record { n = h .n; l = h .l; p = h .p; declared = h .declared; used = length u; finished = planesFinished (h .n) (h .l) (h .p) u; error = worstError (h .n) (h .l) (h .p) u; ending = endingOf file (length u) (lastPlane (h .n) (h .l) (h .p) u) } in
+      let told : decode.Done d ≡ decode.Done mine = answered in
+      let is : d ≡ mine = cc in
       let own = valuesBy (h .n) (h .l) (h .p) u midpoint in
       let few : h .p ≤ mostPlanes = ready .planes in
       let room : allOf (h .n) ≤ length (held .values) = ready .valuesRoom in
@@ -104,7 +106,7 @@ module _ (file : List ℕ) (held left : Tables) (d : Decoded) (most : length (he
   by-verdict e (contradiction bit) answered filled = let z : _≡_ {A = ℕ} 0 1 = cc in absurd (omega arith)
   by-verdict e (beyond bit) answered filled = let z : _≡_ {A = ℕ} 0 1 = cc in absurd (omega arith)
 
-  by-outcome : (o : Outcome) → checks ≡ o → DecodesTo o h u held (decode.Done d) left → Can d
+  by-outcome : (o : Outcome) → checks ≡ o → DecodesTo o (endingOf file) h u held (decode.Done d) left → Can d
   by-outcome outcome.Done e q = by-verdict e (q .verdict) (q .answered) (q .filled)
   by-outcome (outcome.Refused why) e q = let f = q .0 in let z : _≡_ {A = ℕ} 0 1 = cc in absurd (omega arith)
 

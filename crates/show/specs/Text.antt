@@ -15,6 +15,8 @@ use Rattle.decimal.specs.Decimal.{signedDecimal}
 use Rattle.figures.specs.declared.Figures.{Figures}
 use Rattle.figures.specs.Figures.{figuresOf}
 use Rattle.decoder.specs.Body.{Tables, zeros}
+use Rattle.decoder.specs.declared.ending.Ending.{Ending}
+use Rattle.decoder.specs.declared.ending.Ending.the-variants.{Whole, Budget, Cut, GoesOn}
 use Rattle.txp.specs.declared.Decoded.{Decoded}
 use Rattle.txp.specs.declared.DecodeAnswer.{DecodeAnswer}
 use Rattle.txp.specs.declared.DecodeAnswer.the-variants as decode
@@ -62,10 +64,19 @@ unfoldable pub refusedLine : Refusal → List Word
 refusedLine why =
     letters (0x72 ∷ 0x65 ∷ 0x66 ∷ 0x75 ∷ 0x73 ∷ 0x65 ∷ 0x64 ∷ []) ∷ count (numberOf why) ∷ count (placeOf why) ∷ []
 
--- "First line: letters, version, N, L, P, declared bits, used bits."
+-- why the bits ended, in letters; decoding never answers that bits go on (`one-of-three` of txp/proofs/Demands.antt)
+abbrev pub endingLetters : Ending → List ℕ
+endingLetters Whole = 0x77 ∷ 0x68 ∷ 0x6F ∷ 0x6C ∷ 0x65 ∷ []
+endingLetters Budget = 0x62 ∷ 0x75 ∷ 0x64 ∷ 0x67 ∷ 0x65 ∷ 0x74 ∷ []
+endingLetters Cut = 0x63 ∷ 0x75 ∷ 0x74 ∷ []
+endingLetters GoesOn = []
+
+-- "First line: letters, version, N, L, P, declared bits, used bits."; document 02, T-06: "the first line gains a last word, `whole`, `budget`
+-- or `cut`"
 unfoldable pub firstLine : Decoded → List Word
 firstLine d =
-    letters (0x54 ∷ 0x58 ∷ 0x50 ∷ []) ∷ count version ∷ count (d .n) ∷ count (d .l) ∷ count (d .p) ∷ count (d .declared) ∷ count (d .used) ∷ []
+    letters (0x54 ∷ 0x58 ∷ 0x50 ∷ []) ∷ count version ∷ count (d .n) ∷ count (d .l) ∷ count (d .p) ∷ count (d .declared) ∷ count (d .used)
+    ∷ letters (endingLetters (d .ending)) ∷ []
 
 -- "A line for each finished plane: plane, bits read in it, parts standing, sets split in it."
 unfoldable pub planeLine : ℕ → Figures → List Word

@@ -1,4 +1,5 @@
 // What is shown of a file, as text in a lent buffer. Each inner function puts its text from entry `at` on, as far as there is room, and answers the entry behind it.
+use decoder::Ending;
 use figures::Figures;
 use figures::FiguresAnswer;
 use refusals::Outcome;
@@ -14,7 +15,7 @@ ghost use Rattle.sizes.specs.Sizes.{allOf, mostPlanes};
 ghost use Rattle.places.specs.Order.{rasterly};
 ghost use Rattle.decimal.specs.Decimal.{decimal, signedDecimal};
 ghost use Rattle.figures.specs.Figures.{figuresOf};
-ghost use Rattle.show.specs.Text.{number, space, newline, wordsAfter, lineText, textOf, refusedLine, firstLine, planeLine, planeLines, rowLines, pictureLines, mostShownN, tooLarge, tooLargeLine, mostText, Rendered};
+ghost use Rattle.show.specs.Text.{number, space, newline, wordsAfter, lineText, textOf, refusedLine, endingLetters, firstLine, planeLine, planeLines, rowLines, pictureLines, mostShownN, tooLarge, tooLargeLine, mostText, Rendered};
 ghost use Rattle.show.specs.Putting.{Puts, Drawn};
 
 // The largest file, and the largest N, that is shown.
@@ -121,7 +122,20 @@ fn put_refusal(out: &mut [u8], why: Refusal) -> usize
     put_byte(out, place, b'\n')
 }
 
-// The first line: letters, version, N, L, P, declared bits, used bits.
+// A space, and why the bits ended.
+fn put_ending(out: &mut [u8], at: usize, ending: Ending) -> usize
+    requires { ⌜ at < 2 ^ 31 ⌝ }
+    ensures { λ r. ⌜ Puts (now (out .entry)) at (space ∷ endingLetters ending) (now (out .exit)) r × (r ≤ at + 7) ⌝ }
+{
+    match ending {
+        Ending::Whole => put_letters(out, at, b" whole"),
+        Ending::Budget => put_letters(out, at, b" budget"),
+        Ending::Cut => put_letters(out, at, b" cut"),
+        Ending::GoesOn => put_letters(out, at, b" "),
+    }
+}
+
+// The first line: letters, version, N, L, P, declared bits, used bits, and why the bits ended.
 fn put_first(out: &mut [u8], d: Decoded) -> usize
     ensures { λ r. ⌜ Puts (now (out .entry)) 0 (lineText (firstLine d)) (now (out .exit)) r × (r < 100) ⌝ }
 {
@@ -131,7 +145,9 @@ fn put_first(out: &mut [u8], d: Decoded) -> usize
     let p = put_number(out, l, d.p);
     let declared = put_number(out, p, d.declared);
     let used = put_number(out, declared, d.used);
-    put_byte(out, used, b'\n')
+    let why = d.ending;
+    let ending = put_ending(out, used, why);
+    put_byte(out, ending, b'\n')
 }
 
 // Four numbers that end a line.

@@ -18,13 +18,18 @@ use Rattle.refusals.specs.declared.Outcome.{Outcome}
 use Rattle.refusals.specs.declared.Outcome.the-variants as outcome
 use Rattle.refusals.proofs.Laws.{first-holds, first-fails, first-none, AllHold, passed, first-then-done, first-then-refused}
 use Rattle.sizes.specs.Sizes.{allOf, coarsestOf}
-use Rattle.sizes.proofs.Laws.{both, both-left, both-right}
+use Rattle.sizes.proofs.Laws.{both, both-left, both-right, sized}
 use Rattle.sizes.specs.Tables.{table}
 use Rattle.bits.specs.Bits.{bitAt}
 use Rattle.nls.specs.Scan.{State}
+use Rattle.nls.specs.Reading.{lastPlane, planesFinished, worstError}
+use Rattle.nls.specs.Judging.{Verdict, taken, contradiction, beyond}
 use Rattle.room.specs.Room.{roomIn, tableChecks, readChecks, bodyBits}
 use Rattle.room.proofs.Laws.{DecodeReady, decode-ready}
-use Rattle.decoder.specs.Body.{Tables, tables, over, ReadsTo, Reads}
+use Rattle.decoder.specs.Body.{Tables, tables, readAnswer, over, ReadsTo, Reads}
+use Rattle.decoder.specs.Ending.{wholeOr, ending}
+use Rattle.decoder.specs.declared.ending.Ending.{Ending}
+use Rattle.decoder.specs.declared.ending.Ending.the-variants.{GoesOn}
 use Rattle.decoder.specs.declared.body.ReadAnswer.{ReadAnswer}
 use Rattle.decoder.specs.declared.body.ReadAnswer.the-variants as decode
 use Rattle.decoder.specs.declared.body.ReadTo.{ReadTo}
@@ -35,8 +40,9 @@ use Rattle.undo.specs.Back.{bigIn, back}
 use Rattle.steps.specs.Records.{recordOf, recordAfter, inRange, standIn, stateIn, Step, step, stays}
 use Rattle.steps.specs.Moved.{askedIn, heard, unheard, noted, movedTo, barred, raised, raisedTo, lowered, loweredTo}
 use Rattle.steps.specs.Ready.{Ready, CallReady, Stood, forwardIn, backIn, ownSteps}
-use Rattle.steps.specs.Steps.{usableBits, recordChecks, ownOf, within, forwardTo, forwardOf, backTo, backOf, stepsOf, positionOf, turnTo, turnOf, Starts}
+use Rattle.steps.specs.Steps.{usableBits, recordChecks, ownOf, within, forwardTo, forwardOf, backTo, backOf, stepsOf, positionOf, turnTo, turnOf, unended, Starts}
 use Rattle.steps.specs.declared.Record.{Record}
+use Rattle.steps.proofs.RecordLaws.{begin-left}
 use Rattle.steps.proofs.Standing.{stood-first, stood-onward, stood-back, record-range, record-n, record-used}
 use Rattle.steps.proofs.Lengths.{heard-length, unheard-length, noted-length, onward-length, back-length}
 use Rattle.steps.proofs.Good.{Own, own-over, over-over}
@@ -78,10 +84,10 @@ own-ready r most held w I ei =
       marksSize = length-take-le I (held .marks) (omega (arith, ei, w .marksRoom)) ∙ ei;
     }
 
-pub own-steps : (f : Record → Tables → Step) (k : ℕ) (r : Record) (held : Tables) (I : ℕ) → I ≡ allOf (r .n) → (x : Step) → x ≡ stepsOf f k (step (positionOf r) r (ownOf I held))
-    → within I held x ≡ ownSteps f k r held
-own-steps f k r held I ei x e =
-    ap (λ (s : Step). within I held s) e ∙ ap (λ (n : ℕ). within n held (stepsOf f k (step (positionOf r) r (ownOf n held)))) ei
+pub own-steps : (word : ℕ → ℕ → Ending) (f : Record → Tables → Step) (k : ℕ) (r : Record) (held : Tables) (I : ℕ) → I ≡ allOf (r .n) → (x : Step) → x ≡ stepsOf f k (step (positionOf word r) r (ownOf I held))
+    → within I held x ≡ ownSteps word f k r held
+own-steps word f k r held I ei x e =
+    ap (λ (s : Step). within I held s) e ∙ ap (λ (n : ℕ). within n held (stepsOf f k (step (positionOf word r) r (ownOf n held)))) ei
 
 -- ---- one step, over the first I entries
 
@@ -119,44 +125,48 @@ module _ (r : Record) (held : Tables) where
   abbrev pub outcomeFor : ℕ → Outcome
   outcomeFor most = firstOf (recordChecks r most (length (held .values)) (length (held .precisions)) (length (held .marks)))
 
-module _ (usable : ℕ) (body : List ℕ) (r : Record) (held : Tables) (most : ℕ) (em : most ≡ usableBits usable body) where
+module _ (declared : ℕ) (body : List ℕ) (r : Record) (held : Tables) (most : ℕ) (em : most ≡ usableBits declared body) where
   abbrev checks : List Check
-  checks = recordChecks r (usableBits usable body) (length (held .values)) (length (held .precisions)) (length (held .marks))
+  checks = recordChecks r (usableBits declared body) (length (held .values)) (length (held .precisions)) (length (held .marks))
 
   abbrev raise : Tables → Step
-  raise t = raised r (stateIn r (t .marks)) (bitAt body (r .used)) t
+  raise t = raised r (ending declared body) (stateIn r (t .marks)) (bitAt body (r .used)) t
 
   abbrev lower : Tables → Step
-  lower t = lowered r (stateIn r (t .marks)) (bitAt body (r .used - 1)) t
+  lower t = lowered r (ending declared body) (stateIn r (t .marks)) (bitAt body (r .used - 1)) t
 
   so : (o : Outcome) → o ≡ outcomeFor r held most → o ≡ firstOf checks
   so o is = is ∙ ap (λ (k : ℕ). outcomeFor r held k) em
 
-  pub forward-refused : (cause : Refusal) → outcome.Refused cause ≡ outcomeFor r held most → stays cause r held ≡ forwardOf usable body r held
+  pub forward-refused : (cause : Refusal) → outcome.Refused cause ≡ outcomeFor r held most → stays cause r held ≡ forwardOf declared body r held
   forward-refused cause is =
-      call-refused checks (ltb (r .used) (usableBits usable body)) Spent r held (λ o. forwardTo o body r held) cause (so _ is) refl
+      call-refused checks (ltb (r .used) (usableBits declared body)) Spent r held (λ o. forwardTo o declared body r held) cause (so _ is) refl
 
-  pub back-refused : (cause : Refusal) → outcome.Refused cause ≡ outcomeFor r held most → stays cause r held ≡ backOf usable body r held
-  back-refused cause is = call-refused checks (ltb 0 (r .used)) First r held (λ o. backTo o body r held) cause (so _ is) refl
+  pub back-refused : (cause : Refusal) → outcome.Refused cause ≡ outcomeFor r held most → stays cause r held ≡ backOf declared body r held
+  back-refused cause is = call-refused checks (ltb 0 (r .used)) First r held (λ o. backTo o declared body r held) cause (so _ is) refl
 
   module _ (is : outcome.Done ≡ outcomeFor r held most) where
-    -- where no usable bit is left, and where no bit is used
-    pub forward-at-end : r .used ≡ most → stays Spent r held ≡ forwardOf usable body r held
-    forward-at-end h =
-        call-barred checks (ltb (r .used) (usableBits usable body)) Spent r held (λ o. forwardTo o body r held) (so _ is) (le-ltb (r .used) (usableBits usable body) (omega (arith, h, em))) refl
+    -- all hold for the usable bits of the body
+    pub usable-ready : CallReady r (usableBits declared body) (length (held .values)) (length (held .precisions)) (length (held .marks))
+    usable-ready = call-ready r (usableBits declared body) (length (held .values)) (length (held .precisions)) (length (held .marks)) (so outcome.Done is)
 
-    pub back-at-first : r .used ≡ 0 → stays First r held ≡ backOf usable body r held
-    back-at-first h = call-barred checks (ltb 0 (r .used)) First r held (λ o. backTo o body r held) (so _ is) (le-ltb 0 (r .used) (omega (arith, h))) refl
+    -- where no usable bit is left, and where no bit is used
+    pub forward-at-end : r .used ≡ most → stays Spent r held ≡ forwardOf declared body r held
+    forward-at-end h =
+        call-barred checks (ltb (r .used) (usableBits declared body)) Spent r held (λ o. forwardTo o declared body r held) (so _ is) (le-ltb (r .used) (usableBits declared body) (omega (arith, h, em))) refl
+
+    pub back-at-first : r .used ≡ 0 → stays First r held ≡ backOf declared body r held
+    back-at-first h = call-barred checks (ltb 0 (r .used)) First r held (λ o. backTo o declared body r held) (so _ is) (le-ltb 0 (r .used) (omega (arith, h))) refl
 
     module _ (I : ℕ) (ei : I ≡ allOf (r .n)) where
-      forward-once : within I held (forwardIn most body r (ownOf I held)) ≡ forwardOf usable body r held
+      forward-once : within I held (forwardIn (ending declared body) most body r (ownOf I held)) ≡ forwardOf declared body r held
       forward-once =
-          ap (λ (k : ℕ). within I held (forwardIn k body r (ownOf I held))) em
-          ∙ call-moved checks (ltb (r .used) (usableBits usable body)) Spent r held (λ o. forwardTo o body r held) (so _ is) I raise (ap (λ (k : ℕ). within k held (raise (ownOf k held))) (sym ei)) refl
+          ap (λ (k : ℕ). within I held (forwardIn (ending declared body) k body r (ownOf I held))) em
+          ∙ call-moved checks (ltb (r .used) (usableBits declared body)) Spent r held (λ o. forwardTo o declared body r held) (so _ is) I raise (ap (λ (k : ℕ). within k held (raise (ownOf k held))) (sym ei)) refl
 
-      back-once : within I held (backIn body r (ownOf I held)) ≡ backOf usable body r held
+      back-once : within I held (backIn (ending declared body) body r (ownOf I held)) ≡ backOf declared body r held
       back-once =
-          call-moved checks (ltb 0 (r .used)) First r held (λ o. backTo o body r held) (so _ is) I lower (ap (λ (k : ℕ). within k held (lower (ownOf k held))) (sym ei)) refl
+          call-moved checks (ltb 0 (r .used)) First r held (λ o. backTo o declared body r held) (so _ is) I lower (ap (λ (k : ℕ). within k held (lower (ownOf k held))) (sym ei)) refl
 
 -- ---- many steps of one kind
 
@@ -246,9 +256,9 @@ abbrev Keeps : ℕ → ℕ → ReadAnswer → Record → Tables → Type 0
 Keeps N most (decode.Done d) dial own = (dial .n ≡ N) × (inRange dial ≡ true) × (dial .used ≤ most) × Own (allOf N) own
 Keeps N most (decode.Refused why) dial own = Unit {0}
 
-module _ (r : Record) (most : ℕ) (t : Tables) (w : Ready r (length (t .values)) (length (t .precisions)) (length (t .marks))) where
+module _ (word : ℕ → ℕ → Ending) (r : Record) (most : ℕ) (t : Tables) (w : Ready r (length (t .values)) (length (t .precisions)) (length (t .marks))) where
   moved-keeps : (used : ℕ) (s : State) (v : List ℤ) (k : List ℕ) → used ≤ most → Stood r (standOf s) → Own (allOf (r .n)) (tables v k (s .marks))
-      → let x = movedTo r used s v k in Keeps (r .n) most (x .answer) (x .dial) (x .held)
+      → let x = movedTo r word used s v k in Keeps (r .n) most (x .answer) (x .dial) (x .held)
   moved-keeps used s v k h at o = (
     record-n (r .n) (r .l) (r .p) used s,
     subst (λ (t : State). inRange (recordOf (r .n) (r .l) (r .p) used t) ≡ true) (state-stand s) (record-range r (w .range) used (standOf s) (s .marks) at),
@@ -261,10 +271,10 @@ module _ (r : Record) (most : ℕ) (t : Tables) (w : Ready r (length (t .values)
     here = stateIn r (t .marks)
 
     abbrev forth : Step
-    forth = forwardIn most body r t
+    forth = forwardIn word most body r t
 
     abbrev hence : Step
-    hence = backIn body r t
+    hence = backIn word body r t
 
     forward-keeps : Keeps (r .n) most (forth .answer) (forth .dial) (forth .held)
     forward-keeps = on (ltb (r .used) most) (eqb (here .left) 0) (barred r here a) refl refl
@@ -273,7 +283,7 @@ module _ (r : Record) (most : ℕ) (t : Tables) (w : Ready r (length (t .values)
         a = bitAt body (r .used)
 
         on : (x y z : Bool) → ltb (r .used) most ≡ x → eqb (here .left) 0 ≡ y
-            → let s = cond x (cond y (stays (Beyond (r .used)) r t) (cond z (stays (Contradiction (r .used)) r t) (raisedTo r here a t))) (stays Spent r t) in Keeps (r .n) most (s .answer) (s .dial) (s .held)
+            → let s = cond x (cond y (stays (Beyond (r .used)) r t) (cond z (stays (Contradiction (r .used)) r t) (raisedTo r word here a t))) (stays Spent r t) in Keeps (r .n) most (s .answer) (s .dial) (s .held)
         on false y z e f = tt
         on true true z e f = tt
         on true false true e f = tt
@@ -296,7 +306,7 @@ module _ (r : Record) (most : ℕ) (t : Tables) (w : Ready r (length (t .values)
         s : State
         s = back (allOf (r .n)) (coarsestOf (r .n) (r .l)) (r .p) (bigIn (t .values)) here
 
-        on : (x : Bool) → let z = cond x (loweredTo r s a t) (stays First r t) in Keeps (r .n) most (z .answer) (z .dial) (z .held)
+        on : (x : Bool) → let z = cond x (loweredTo r word s a t) (stays First r t) in Keeps (r .n) most (z .answer) (z .dial) (z .held)
         on false = tt
         on true =
             moved-keeps (r .used - 1) s (unheard (askedIn (allOf (r .n)) s) (s .place) (s .left) (t .values)) (noted (r .n) (r .l) (askedIn (allOf (r .n)) s) (s .place) (s .left) a (t .precisions))
@@ -342,64 +352,64 @@ module _ (N most : ℕ) (r : Record) (held : Tables) (h : Checked N most r held)
         },
       )
 
-module _ (body : List ℕ) (most N : ℕ) where
-  forward-on : (r : Record) (held : Tables) → Checked N most r held → (d : ReadTo) → let x = forwardIn most body r (ownOf (allOf N) held) in x .answer ≡ decode.Done d
+module _ (word : ℕ → ℕ → Ending) (body : List ℕ) (most N : ℕ) where
+  forward-on : (r : Record) (held : Tables) → Checked N most r held → (d : ReadTo) → let x = forwardIn word most body r (ownOf (allOf N) held) in x .answer ≡ decode.Done d
       → Own (allOf N) (x .held) × Checked N most (x .dial) (over (allOf N) (x .held) held)
   forward-on r held h d e =
-      checked-on N most r held h (forwardIn most body r (ownOf (allOf N) held))
-      (forward-keeps r most (ownOf (allOf N) held) (as-long N most r held h) body) d e
+      checked-on N most r held h (forwardIn word most body r (ownOf (allOf N) held))
+      (forward-keeps word r most (ownOf (allOf N) held) (as-long N most r held h) body) d e
 
-  back-on : (r : Record) (held : Tables) → Checked N most r held → (d : ReadTo) → let x = backIn body r (ownOf (allOf N) held) in x .answer ≡ decode.Done d
+  back-on : (r : Record) (held : Tables) → Checked N most r held → (d : ReadTo) → let x = backIn word body r (ownOf (allOf N) held) in x .answer ≡ decode.Done d
       → Own (allOf N) (x .held) × Checked N most (x .dial) (over (allOf N) (x .held) held)
   back-on r held h d e =
-      checked-on N most r held h (backIn body r (ownOf (allOf N) held))
-      (back-keeps r most (ownOf (allOf N) held) (as-long N most r held h) body (ready N most r held h .few)) d e
+      checked-on N most r held h (backIn word body r (ownOf (allOf N) held))
+      (back-keeps word r most (ownOf (allOf N) held) (as-long N most r held h) body (ready N most r held h .few)) d e
 
-module _ (usable : ℕ) (body : List ℕ) (r : Record) (held : Tables) (most : ℕ) (em : most ≡ usableBits usable body) (is : outcome.Done ≡ outcomeFor r held most) (k : ℕ) where
-  forward-all : ownSteps (forwardIn most body) k r held ≡ stepsOf (forwardOf usable body) k (step (positionOf r) r held)
+module _ (declared : ℕ) (body : List ℕ) (r : Record) (held : Tables) (most : ℕ) (em : most ≡ usableBits declared body) (is : outcome.Done ≡ outcomeFor r held most) (k : ℕ) where
+  forward-all : ownSteps (ending declared body) (forwardIn (ending declared body) (usableBits declared body) body) k r held ≡ stepsOf (forwardOf declared body) k (step (positionOf (ending declared body) r) r held)
   forward-all =
-      steps-within (allOf (r .n)) (forwardOf usable body) (forwardIn most body) (Checked (r .n) most)
-      (λ s t h. forward-once usable body s t most em (h .done) (allOf (r .n)) (ap allOf (sym (h .side)))) (forward-on body most (r .n))
-      k (positionOf r) r held (record { side = refl; done = is })
+      steps-within (allOf (r .n)) (forwardOf declared body) (forwardIn (ending declared body) (usableBits declared body) body) (Checked (r .n) (usableBits declared body))
+      (λ s t h. forward-once declared body s t (usableBits declared body) refl (h .done) (allOf (r .n)) (ap allOf (sym (h .side)))) (forward-on (ending declared body) body (usableBits declared body) (r .n))
+      k (positionOf (ending declared body) r) r held (record { side = refl; done = so declared body r held most em outcome.Done is })
 
-  back-all : ownSteps (backIn body) k r held ≡ stepsOf (backOf usable body) k (step (positionOf r) r held)
+  back-all : ownSteps (ending declared body) (backIn (ending declared body) body) k r held ≡ stepsOf (backOf declared body) k (step (positionOf (ending declared body) r) r held)
   back-all =
-      steps-within (allOf (r .n)) (backOf usable body) (backIn body) (Checked (r .n) most)
-      (λ s t h. back-once usable body s t most em (h .done) (allOf (r .n)) (ap allOf (sym (h .side)))) (back-on body most (r .n))
-      k (positionOf r) r held (record { side = refl; done = is })
+      steps-within (allOf (r .n)) (backOf declared body) (backIn (ending declared body) body) (Checked (r .n) most)
+      (λ s t h. back-once declared body s t most em (h .done) (allOf (r .n)) (ap allOf (sym (h .side)))) (back-on (ending declared body) body most (r .n))
+      k (positionOf (ending declared body) r) r held (record { side = refl; done = is })
 
   -- only one
   module _ (one : k ≡ 1) (x : Step) where
-    pub forward-moved : x ≡ ownSteps (forwardIn most body) k r held → x ≡ forwardOf usable body r held
-    forward-moved e = e ∙ forward-all ∙ steps-one (forwardOf usable body) k (step (positionOf r) r held) one
+    pub forward-moved : x ≡ ownSteps (ending declared body) (forwardIn (ending declared body) (usableBits declared body) body) k r held → x ≡ forwardOf declared body r held
+    forward-moved e = e ∙ forward-all ∙ steps-one (forwardOf declared body) k (step (positionOf (ending declared body) r) r held) one
 
-    pub back-moved : x ≡ ownSteps (backIn body) k r held → x ≡ backOf usable body r held
-    back-moved e = e ∙ back-all ∙ steps-one (backOf usable body) k (step (positionOf r) r held) one
+    pub back-moved : x ≡ ownSteps (ending declared body) (backIn (ending declared body) body) k r held → x ≡ backOf declared body r held
+    back-moved e = e ∙ back-all ∙ steps-one (backOf declared body) k (step (positionOf (ending declared body) r) r held) one
 
 -- ---- a turn
 
-module _ (usable to : ℕ) (body : List ℕ) (r : Record) (held : Tables) (most : ℕ) (em : most ≡ usableBits usable body) where
-  by-checks : (o : Outcome) → o ≡ outcomeFor r held most → turnTo o usable to body r held ≡ turnOf usable to body r held
-  by-checks o is = ap (λ (q : Outcome). turnTo q usable to body r held) (so usable body r held most em o is)
+module _ (declared to : ℕ) (body : List ℕ) (r : Record) (held : Tables) (most : ℕ) (em : most ≡ usableBits declared body) where
+  by-checks : (o : Outcome) → o ≡ outcomeFor r held most → turnTo o declared to body r held ≡ turnOf declared to body r held
+  by-checks o is = ap (λ (q : Outcome). turnTo q declared to body r held) (so declared body r held most em o is)
 
-  pub turn-refused : (why : Refusal) → outcome.Refused why ≡ outcomeFor r held most → stays why r held ≡ turnOf usable to body r held
+  pub turn-refused : (why : Refusal) → outcome.Refused why ≡ outcomeFor r held most → stays why r held ≡ turnOf declared to body r held
   turn-refused why is = by-checks (outcome.Refused why) is
 
   module _ (is : outcome.Done ≡ outcomeFor r held most) (x : Step) where
     abbrev down : Step
-    down = stepsOf (backOf usable body) (r .used - to) (step (positionOf r) r held)
+    down = stepsOf (backOf declared body) (r .used - to) (step (positionOf (ending declared body) r) r held)
 
     abbrev up : Step
-    up = stepsOf (forwardOf usable body) (to - r .used) (step (positionOf r) r held)
+    up = stepsOf (forwardOf declared body) (to - r .used) (step (positionOf (ending declared body) r) r held)
 
-    by-test : (b : Bool) → leb to (r .used) ≡ b → cond b down up ≡ turnOf usable to body r held
+    by-test : (b : Bool) → leb to (r .used) ≡ b → cond b down up ≡ turnOf declared to body r held
     by-test b e = ap (λ (t : Bool). cond t down up) (sym e) ∙ by-checks outcome.Done is
 
-    pub turn-down : to ≤ r .used → x ≡ ownSteps (backIn body) (r .used - to) r held → x ≡ turnOf usable to body r held
-    turn-down h e = e ∙ back-all usable body r held most em is (r .used - to) ∙ by-test true (le-leb to (r .used) h)
+    pub turn-down : to ≤ r .used → x ≡ ownSteps (ending declared body) (backIn (ending declared body) body) (r .used - to) r held → x ≡ turnOf declared to body r held
+    turn-down h e = e ∙ back-all declared body r held most em is (r .used - to) ∙ by-test true (le-leb to (r .used) h)
 
-    pub turn-up : r .used < to → x ≡ ownSteps (forwardIn most body) (to - r .used) r held → x ≡ turnOf usable to body r held
-    turn-up h e = e ∙ forward-all usable body r held most em is (to - r .used) ∙ by-test false (lt-leb to (r .used) h)
+    pub turn-up : r .used < to → x ≡ ownSteps (ending declared body) (forwardIn (ending declared body) (usableBits declared body) body) (to - r .used) r held → x ≡ turnOf declared to body r held
+    turn-up h e = e ∙ forward-all declared body r held most em is (to - r .used) ∙ by-test false (lt-leb to (r .used) h)
 
 -- ---- the start
 
@@ -411,23 +421,53 @@ module _ (N L P : ℕ) (body : List ℕ) (held : Tables) (answer : ReadAnswer) (
   unfolding table
   none-read = let e : min 0 (8 * length body) ≡ 0 = omega arith in rw e
 
-  read-so : (a : ReadAnswer) → answer ≡ a → ReadsTo checked N L P [] held a left
+  read-so : (a : ReadAnswer) → answer ≡ a → ReadsTo checked (ending 0 body) N L P [] held a left
   read-so a e =
-      subst (λ (b : ReadAnswer). ReadsTo checked N L P [] held b left) e (subst (λ (u : List Bool). ReadsTo checked N L P u held answer left) none-read read)
+      subst (λ (b : ReadAnswer). ReadsTo checked (ending 0 body) N L P [] held b left) e (subst (λ (u : List Bool). ReadsTo checked (ending 0 body) N L P u held answer left) none-read read)
 
   -- a call that is done passed its checks
   pub start-ready : (d : ReadTo) → answer ≡ decode.Done d → DecodeReady N L P (length (held .values)) (length (held .precisions)) (length (held .marks))
   start-ready d e = tell checked refl (read-so (decode.Done d) e)
     where
-      tell : (o : Outcome) → checked ≡ o → ReadsTo o N L P [] held (decode.Done d) left → DecodeReady N L P (length (held .values)) (length (held .precisions)) (length (held .marks))
+      tell : (o : Outcome) → checked ≡ o → ReadsTo o (ending 0 body) N L P [] held (decode.Done d) left → DecodeReady N L P (length (held .values)) (length (held .precisions)) (length (held .marks))
       tell outcome.Done h k = decode-ready N L P (length (held .values)) (length (held .precisions)) (length (held .marks)) (sym h)
       tell (outcome.Refused why) h k =
           let f : decode.Done d ≡ decode.Refused why = k .0 in
           let z : _≡_ {A = ℕ} 0 1 = cc in
           absurd (omega arith)
 
-  pub start-done : (r : Record) (d : ReadTo) → answer ≡ decode.Done d → (dial : Record) → dial ≡ recordAfter N L P [] → Starts N L P r held (decode.Done d) dial left
-  start-done r d e dial is = record { reads = read-so (decode.Done d) e; recorded = is }
+  -- the same reading, with the word of a start
+  start-as : (a : ReadAnswer) → ((v : Verdict) → answer ≡ readAnswer (ending 0 body) N L P [] v → a ≡ readAnswer unended N L P [] v)
+      → ((why : Refusal) → answer ≡ decode.Refused why → a ≡ decode.Refused why) → ReadsTo checked unended N L P [] held a left
+  start-as a f g = tell checked (read-so answer refl)
+    where
+      tell : (o : Outcome) → ReadsTo o (ending 0 body) N L P [] held answer left → ReadsTo o unended N L P [] held a left
+      tell outcome.Done k = record { verdict = k .verdict; judged = k .judged; answered = f (k .verdict) (k .answered); filled = k .filled }
+      tell (outcome.Refused why) k = (g why (k .0), k .1)
+
+  pub start-done : (r : Record) (d : ReadTo) → answer ≡ decode.Done d → (said : Ending) → said ≡ wholeOr P GoesOn → (dial : Record) → dial ≡ recordAfter N L P []
+      → Starts N L P r held (decode.Done (record { used = d .used; finished = d .finished; error = d .error; ending = said })) dial left
+  start-done r d e said is dial first = record { reads = start-as started read-in refused-in; recorded = first }
+    where
+      started : ReadAnswer
+      started = decode.Done (record { used = d .used; finished = d .finished; error = d .error; ending = said })
+
+      read-in : (v : Verdict) → answer ≡ readAnswer (ending 0 body) N L P [] v → started ≡ readAnswer unended N L P [] v
+      read-in taken q =
+          let a : decode.Done d ≡ readAnswer (ending 0 body) N L P [] taken = sym e ∙ q in
+          let same : d ≡ record { used = 0; finished = planesFinished N L P []; error = worstError N L P []; ending = ending 0 body 0 (lastPlane N L P []) } = cc in
+          let word : said ≡ unended 0 (lastPlane N L P []) = is ∙ ap (λ (x : ℕ). wholeOr x GoesOn) (sym (begin-left N L P (sized N L (start-ready d e .levels)))) in
+          λ i. decode.Done (record { used = same i .used; finished = same i .finished; error = same i .error; ending = word i })
+      read-in (contradiction k) q = let z : _≡_ {A = ℕ} 0 1 = cc in absurd (omega (arith, z))
+      read-in (beyond k) q = let z : _≡_ {A = ℕ} 0 1 = cc in absurd (omega (arith, z))
+
+      refused-in : (why : Refusal) → answer ≡ decode.Refused why → started ≡ decode.Refused why
+      refused-in why q = let z : _≡_ {A = ℕ} 0 1 = cc in absurd (omega (arith, z))
 
   pub start-refused : (r : Record) (why : Refusal) → answer ≡ decode.Refused why → Starts N L P r held (decode.Refused why) r left
-  start-refused r why e = record { reads = read-so (decode.Refused why) e; recorded = refl }
+  start-refused r why e = record { reads = start-as (decode.Refused why) read-in (λ w q. sym e ∙ q); recorded = refl }
+    where
+      read-in : (v : Verdict) → answer ≡ readAnswer (ending 0 body) N L P [] v → decode.Refused why ≡ readAnswer unended N L P [] v
+      read-in taken q = let z : _≡_ {A = ℕ} 0 1 = cc in absurd (omega (arith, z))
+      read-in (contradiction k) q = sym e ∙ q
+      read-in (beyond k) q = sym e ∙ q

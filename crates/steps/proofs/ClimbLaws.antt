@@ -11,6 +11,10 @@ use Rattle.refusals.specs.declared.Refusal.{Refusal, the-variants.Contradiction
 use Rattle.sizes.specs.Sizes.{mostN, mostPlanes, allOf, coarsestOf}
 use Rattle.sizes.proofs.Laws.{both, side-most, all-most}
 use Rattle.bits.specs.Bits.{bitAt}
+use Rattle.bits.specs.declared.Next.{Next}
+use Rattle.bits.specs.declared.Next.the-variants.{Bit}
+use Rattle.view.specs.View.{viewed}
+use Rattle.view.proofs.Laws.{viewed-within}
 use Rattle.nls.specs.Scan.{State}
 use Rattle.marking.proofs.Laws.{in-true}
 use Rattle.moves.specs.Stands.{stateOf, standOf}
@@ -18,15 +22,20 @@ use Rattle.moves.specs.Moves.{onward, standFits}
 use Rattle.moves.specs.declared.Stand.{Stand}
 use Rattle.moves.proofs.Laws.{state-stand}
 use Rattle.reading.specs.Reading.{barsZero}
-use Rattle.decoder.specs.{Body.Tables, Body.tables, declared.body.ReadAnswer.ReadAnswer}
+use Rattle.reading.proofs.ReadLaws.{told-bit}
+use Rattle.decoder.specs.{Body.Tables, Body.tables, declared.body.ReadAnswer.ReadAnswer, declared.ending.Ending.Ending}
 use Rattle.steps.specs.declared.{Record.Record, Asked.Asked}
 use Rattle.steps.specs.Records.{recordAt, recordOf, inRange, standIn, stateIn, Step, step, stays}
 use Rattle.steps.specs.Moved.{askedIn, noted, heard, reached, movedTo, raisedTo, barred}
 use Rattle.steps.specs.Ready.{Stood, forwardIn}
-use Rattle.steps.specs.Steps.{stepsOf, positionOf}
+use Rattle.steps.specs.Steps.{usableBits, stepsOf, positionOf}
 use Rattle.steps.proofs.RecordLaws.{range-sizes}
 use Rattle.steps.proofs.Standing.{record-n, record-l, record-p, record-used, record-stand, record-same}
 use Rattle.steps.proofs.CallLaws.{steps-on, steps-end}
+
+-- what a bit read through the view tells
+pub read-bit : (body : List ℕ) (n declared : ℕ) {next : Next} → next ≡ viewed body n declared → (x : Bool) → next ≡ Bit x → (n < usableBits declared body) × (x ≡ bitAt body n)
+read-bit body n declared is x e = (viewed-within body n declared x (sym is ∙ e), told-bit body n declared is x e .1)
 
 module _ (r : Record) (range : inRange r ≡ true) where
   abbrev I : ℕ
@@ -73,7 +82,7 @@ module _ (r : Record) (range : inRange r ≡ true) where
 
     -- ---- one step from there, after `used` bits
 
-    module _ (most : ℕ) (body : List ℕ) (used : ℕ) (v : List ℤ) (k m : List ℕ) where
+    module _ (word : ℕ → ℕ → Ending) (most : ℕ) (body : List ℕ) (used : ℕ) (v : List ℤ) (k m : List ℕ) where
       abbrev s : State
       s = stateOf at m
 
@@ -87,66 +96,66 @@ module _ (r : Record) (range : inRange r ≡ true) where
       abbrev byParts : ℕ → ℕ → ℕ → ℕ → State → Step
       byParts N L P u x =
           let plain = recordAt N L P 0 0 0 u 0 in
-          cond (ltb u most) (cond (eqb (x .left) 0) (stays (Beyond u) here t) (cond (barred plain x (bitAt body u)) (stays (Contradiction u) here t) (raisedTo plain x (bitAt body u) t))) (stays Spent here t)
+          cond (ltb u most) (cond (eqb (x .left) 0) (stays (Beyond u) here t) (cond (barred plain x (bitAt body u)) (stays (Contradiction u) here t) (raisedTo plain word x (bitAt body u) t))) (stays Spent here t)
 
-      forward-parts : forwardIn most body here t ≡ byParts (r .n) (r .l) (r .p) used s
+      forward-parts : forwardIn word most body here t ≡ byParts (r .n) (r .l) (r .p) used s
       forward-parts =
           let stand : stateIn here m ≡ s = ap (λ (x : Stand). stateOf x m) (record-stand r range used at m stood) in
           λ i. byParts (record-n (r .n) (r .l) (r .p) used s i) (record-l (r .n) (r .l) (r .p) used s i) (record-p (r .n) (r .l) (r .p) used s i) (record-used (r .n) (r .l) (r .p) used s i) (stand i)
 
-      pub forward-spent : most ≤ used → forwardIn most body here t ≡ stays Spent here t
+      pub forward-spent : most ≤ used → forwardIn word most body here t ≡ stays Spent here t
       forward-spent h = forward-parts ∙ rw (le-ltb used most h)
 
       module _ (a : Bool) (bit : (used < most) × (a ≡ bitAt body used)) where
-        pub forward-beyond : at .left ≡ 0 → forwardIn most body here t ≡ stays (Beyond used) here t
+        pub forward-beyond : at .left ≡ 0 → forwardIn word most body here t ≡ stays (Beyond used) here t
         forward-beyond h = forward-parts ∙ rw (lt-ltb used most (bit .0), eq-eqb (at .left) 0 h)
 
         -- whether the bit fits no array, as code tells it
         module _ (more : at .left ≡ 0 → ⊥) (no : Bool) (told : no ≡ (not a && (not (at .pending) && barsZero I D (r .p) (at .left) used (at .place) m))) where
-          pub forward-barred : no ≡ true → forwardIn most body here t ≡ stays (Contradiction used) here t
+          pub forward-barred : no ≡ true → forwardIn word most body here t ≡ stays (Contradiction used) here t
           forward-barred h = forward-parts ∙ rw (lt-ltb used most (bit .0), ne-eqb (at .left) 0 more, sym (bit .1), sym told ∙ h)
 
           pub forward-on : no ≡ false
-              → forwardIn most body here t ≡ movedTo r (used + 1) (onward I s a) (heard (askedIn I s) (at .place) (at .left - 1) a v) (noted (r .n) (r .l) (askedIn I s) (at .place) (at .left - 1) a k)
+              → forwardIn word most body here t ≡ movedTo r word (used + 1) (onward I s a) (heard (askedIn I s) (at .place) (at .left - 1) a v) (noted (r .n) (r .l) (askedIn I s) (at .place) (at .left - 1) a k)
           forward-on h = forward-parts ∙ rw (lt-ltb used most (bit .0), ne-eqb (at .left) 0 more, sym (bit .1), sym told ∙ h)
 
       -- ---- many
 
       abbrev now : Step
-      now = step (reached (r .p) used (at .left)) here t
+      now = step (reached word (r .p) used (at .left)) here t
 
       -- one is refused
-      pub climb-ends : (to : ℕ) (why : Refusal) → used < to → forwardIn most body here t ≡ stays why here t → stays why here t ≡ stepsOf (forwardIn most body) (to - used) now
-      climb-ends to why h e = steps-end (forwardIn most body) now (stays why here t) (sym e) (to - used) (to - used - 1) (omega (arith, h)) why refl
+      pub climb-ends : (to : ℕ) (why : Refusal) → used < to → forwardIn word most body here t ≡ stays why here t → stays why here t ≡ stepsOf (forwardIn word most body) (to - used) now
+      climb-ends to why h e = steps-end (forwardIn word most body) now (stays why here t) (sym e) (to - used) (to - used - 1) (omega (arith, h)) why refl
 
       -- one is done, where `on`, v', k' and m' are what its answer leaves
       pub climb-goes : (to : ℕ) (a : Bool) (on : Stand) (v' : List ℤ) (k' m' : List ℕ) → used < to
-          → forwardIn most body here t ≡ movedTo r (used + 1) (onward I s a) (heard (askedIn I s) (at .place) (at .left - 1) a v) (noted (r .n) (r .l) (askedIn I s) (at .place) (at .left - 1) a k)
+          → forwardIn word most body here t ≡ movedTo r word (used + 1) (onward I s a) (heard (askedIn I s) (at .place) (at .left - 1) a v) (noted (r .n) (r .l) (askedIn I s) (at .place) (at .left - 1) a k)
           → on ≡ standOf (onward I s a)
           → tables v' k' m' ≡ tables (heard (askedIn I s) (at .place) (at .left - 1) a v) (noted (r .n) (r .l) (askedIn I s) (at .place) (at .left - 1) a k) (onward I s a .marks)
-          → stepsOf (forwardIn most body) (to - (used + 1)) (step (reached (r .p) (used + 1) (on .left)) (recordOf (r .n) (r .l) (r .p) (used + 1) (stateOf on m')) (tables v' k' m')) ≡ stepsOf (forwardIn most body) (to - used) now
+          → stepsOf (forwardIn word most body) (to - (used + 1)) (step (reached word (r .p) (used + 1) (on .left)) (recordOf (r .n) (r .l) (r .p) (used + 1) (stateOf on m')) (tables v' k' m')) ≡ stepsOf (forwardIn word most body) (to - used) now
       climb-goes to a on v' k' m' h e f g =
           let state : stateOf on m' ≡ onward I s a = (λ i. stateOf (f i) (g i .marks)) ∙ state-stand (onward I s a) in
-          let x : Step = step (reached (r .p) (used + 1) (on .left)) (recordOf (r .n) (r .l) (r .p) (used + 1) (stateOf on m')) (tables v' k' m') in
-          let moved : x ≡ forwardIn most body here t = (λ i. step (reached (r .p) (used + 1) (state i .left)) (recordOf (r .n) (r .l) (r .p) (used + 1) (state i)) (g i)) ∙ sym e in
-          steps-on (forwardIn most body) now x moved (to - used) (to - (used + 1)) (omega (arith, h)) _ refl
+          let x : Step = step (reached word (r .p) (used + 1) (on .left)) (recordOf (r .n) (r .l) (r .p) (used + 1) (stateOf on m')) (tables v' k' m') in
+          let moved : x ≡ forwardIn word most body here t = (λ i. step (reached word (r .p) (used + 1) (state i .left)) (recordOf (r .n) (r .l) (r .p) (used + 1) (state i)) (g i)) ∙ sym e in
+          steps-on (forwardIn word most body) now x moved (to - used) (to - (used + 1)) (omega (arith, h)) _ refl
 
   -- where a climb begins
-  pub climb-begins : (at : Stand) → at ≡ standIn r → (v : List ℤ) (k m : List ℕ) (f : Record → Tables → Step) (n : ℕ)
-      → stepsOf f n (step (reached (r .p) (r .used) (at .left)) (recordOf (r .n) (r .l) (r .p) (r .used) (stateOf at m)) (tables v k m)) ≡ stepsOf f n (step (positionOf r) r (tables v k m))
-  climb-begins at e v k m f n =
-      (λ i. stepsOf f n (step (reached (r .p) (r .used) (e i .left)) (recordOf (r .n) (r .l) (r .p) (r .used) (stateOf (e i) m)) (tables v k m)))
-      ∙ ap (λ (x : Record). stepsOf f n (step (positionOf r) x (tables v k m))) (record-same r range m)
+  pub climb-begins : (word : ℕ → ℕ → Ending) (at : Stand) → at ≡ standIn r → (v : List ℤ) (k m : List ℕ) (f : Record → Tables → Step) (n : ℕ)
+      → stepsOf f n (step (reached word (r .p) (r .used) (at .left)) (recordOf (r .n) (r .l) (r .p) (r .used) (stateOf at m)) (tables v k m)) ≡ stepsOf f n (step (positionOf word r) r (tables v k m))
+  climb-begins word at e v k m f n =
+      (λ i. stepsOf f n (step (reached word (r .p) (r .used) (e i .left)) (recordOf (r .n) (r .l) (r .p) (r .used) (stateOf (e i) m)) (tables v k m)))
+      ∙ ap (λ (x : Record). stepsOf f n (step (positionOf word r) x (tables v k m))) (record-same r range m)
 
 -- ---- each way through the code
 
 module _ (r : Record) where
   -- where the scan has arrived
-  pub arrived : (used : ℕ) (at : Stand) (answer : ReadAnswer) (dial : Record) → answer ≡ reached (r .p) used (at .left)
+  pub arrived : (word : ℕ → ℕ → Ending) (used : ℕ) (at : Stand) (answer : ReadAnswer) (dial : Record) → answer ≡ reached word (r .p) used (at .left)
       → ((m : List ℕ) → dial ≡ recordOf (r .n) (r .l) (r .p) used (stateOf at m)) → (v : List ℤ) (k m : List ℕ)
-      → step answer dial (tables v k m) ≡ movedTo r used (stateOf at m) v k
-  arrived used at answer dial e f v k m =
-      ap (λ (x : ReadAnswer). step x dial (tables v k m)) e ∙ ap (λ (x : Record). step (reached (r .p) used (at .left)) x (tables v k m)) (f m)
+      → step answer dial (tables v k m) ≡ movedTo r word used (stateOf at m) v k
+  arrived word used at answer dial e f v k m =
+      ap (λ (x : ReadAnswer). step x dial (tables v k m)) e ∙ ap (λ (x : Record). step (reached word (r .p) used (at .left)) x (tables v k m)) (f m)
 
   -- whether a 0 fits no array
   pub bars-zero : (at : Stand) (used : ℕ) (m : List ℕ) (a z : Bool) (J d : ℕ) → a ≡ false → at .pending ≡ false → J ≡ allOf (r .n) → d ≡ coarsestOf (r .n) (r .l)

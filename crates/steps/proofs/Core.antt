@@ -33,7 +33,7 @@ use Rattle.nls.proofs.Precision.ValueSteps.{adds, bit-other, Refined, midpoint-
 use Rattle.moves.specs.{Moves.onward, Stands.passNumber}
 use Rattle.moves.proofs.Laws.{told-next}
 use Rattle.undo.proofs.ByValues.{back-by-values}
-use Rattle.decoder.specs.{Body.Tables, Body.tables, Body.readAnswer, Body.ownTables, Finishing.joinedOr0}
+use Rattle.decoder.specs.{Body.Tables, Body.tables, Body.readAnswer, Body.ownTables, Finishing.joinedOr0, declared.ending.Ending.Ending}
 use Rattle.steps.specs.Records.{recordAt, recordOf, recordAfter, step}
 use Rattle.steps.specs.declared.Record.{Record}
 use Rattle.steps.specs.Moved.{kindOf, askedIn, noted, foundIn, finer, coarser, heard, unheard, reached, raisedTo, loweredTo, lowered}
@@ -147,23 +147,23 @@ module _ (N L c : ℕ) (k : List ℕ) (I b i : ℕ) where
 abbrev plain : ℕ → ℕ → ℕ → ℕ → Record
 plain N L P used = recordAt N L P 0 0 0 used 0
 
-module _ (N L P used : ℕ) (r t : State) (a : Bool) (x : Tables) where
+module _ (word : ℕ → ℕ → Ending) (N L P used : ℕ) (r t : State) (a : Bool) (x : Tables) where
   abbrev either : Bool → Record
   either z = cond z (recordAt N L P 0 2 (allOf N) used 0) (recordAt N L P (r .left - 1) (passNumber (r .pass)) (r .place) used (digit (r .pending)))
 
-  raised-plain : raisedTo (recordOf N L P used r) t a x ≡ raisedTo (plain N L P used) t a x
+  raised-plain : raisedTo (recordOf N L P used r) word t a x ≡ raisedTo (plain N L P used) word t a x
   unfolding recordOf
   raised-plain = on (eqb (r .left) 0)
     where
-      on : (z : Bool) → raisedTo (either z) t a x ≡ raisedTo (plain N L P used) t a x
+      on : (z : Bool) → raisedTo (either z) word t a x ≡ raisedTo (plain N L P used) word t a x
       on true = refl
       on false = refl
 
-  lowered-plain : lowered (recordOf N L P used r) t a x ≡ lowered (plain N L P used) t a x
+  lowered-plain : lowered (recordOf N L P used r) word t a x ≡ lowered (plain N L P used) word t a x
   unfolding recordOf
   lowered-plain = on (eqb (r .left) 0)
     where
-      on : (z : Bool) → lowered (either z) t a x ≡ lowered (plain N L P used) t a x
+      on : (z : Bool) → lowered (either z) word t a x ≡ lowered (plain N L P used) word t a x
       on true = refl
       on false = refl
 
@@ -270,22 +270,22 @@ module _ (N L : ℕ) (sized : Sized N L) (most : N ≤ mostN) (P : ℕ) (planes 
   used-more = length-append u (a ∷ [])
 
   -- a step, where q is asked
-  raised-asked : (q : Question) → ask I s ≡ some q
-      → raisedTo (plain N L P (length u)) s a (ownTables N L P u taken) ≡ step (readAnswer N L P (u ++ (a ∷ [])) taken) (recordAfter N L P (u ++ (a ∷ []))) (ownTables N L P (u ++ (a ∷ [])) taken)
-  raised-asked q e =
+  raised-asked : (word : ℕ → ℕ → Ending) (q : Question) → ask I s ≡ some q
+      → raisedTo (plain N L P (length u)) word s a (ownTables N L P u taken) ≡ step (readAnswer word N L P (u ++ (a ∷ [])) taken) (recordAfter N L P (u ++ (a ∷ []))) (ownTables N L P (u ++ (a ∷ [])) taken)
+  raised-asked word q e =
       let used : length u + 1 ≡ length (u ++ (a ∷ [])) = sym used-more in
       let state : onward I s a ≡ after N L P (u ++ (a ∷ [])) = told-next N L P sized most u a ∙ sym one-more in
       let values : heard (askedIn I s) (s .place) (s .left - 1) a v ≡ w = ap (λ k. heard k (s .place) (s .left - 1) a v) (kind q e) ∙ heard-is (s .pass) refl q e .0 in
       let planes : noted N L (askedIn I s) (s .place) (s .left - 1) a (precisions N L P u) ≡ precisions N L P (u ++ (a ∷ [])) = precisions-next q e in
-      λ i. step (reached P (used i) (state i .left)) (recordOf N L P (used i) (state i)) (tables (values i) (planes i) (state i .marks))
+      λ i. step (reached word P (used i) (state i .left)) (recordOf N L P (used i) (state i)) (tables (values i) (planes i) (state i .marks))
 
-  lowered-asked : (q : Question) → ask I s ≡ some q
-      → loweredTo (plain N L P (length (u ++ (a ∷ [])))) s a (ownTables N L P (u ++ (a ∷ [])) taken) ≡ step (readAnswer N L P u taken) (recordAfter N L P u) (ownTables N L P u taken)
-  lowered-asked q e =
+  lowered-asked : (word : ℕ → ℕ → Ending) (q : Question) → ask I s ≡ some q
+      → loweredTo (plain N L P (length (u ++ (a ∷ [])))) word s a (ownTables N L P (u ++ (a ∷ [])) taken) ≡ step (readAnswer word N L P u taken) (recordAfter N L P u) (ownTables N L P u taken)
+  lowered-asked word q e =
       let used : length (u ++ (a ∷ [])) - 1 ≡ length u = omega (arith, used-more) in
       let values : unheard (askedIn I s) (s .place) (s .left) w ≡ v = ap (λ k. unheard k (s .place) (s .left) w) (kind q e) ∙ heard-is (s .pass) refl q e .1 in
       let planes : noted N L (askedIn I s) (s .place) (s .left) a (precisions N L P (u ++ (a ∷ []))) ≡ precisions N L P u = precisions-prior q e in
-      λ i. step (reached P (used i) (s .left)) (recordOf N L P (used i) s) (tables (values i) (planes i) (s .marks))
+      λ i. step (reached word P (used i) (s .left)) (recordOf N L P (used i) s) (tables (values i) (planes i) (s .marks))
 
   -- one bit more was asked for
   some-asked : (q : Question) × (ask I s ≡ some q)
@@ -296,17 +296,17 @@ module _ (N L : ℕ) (sized : Sized N L) (most : N ≤ mostN) (P : ℕ) (planes 
       on (some q) e t = (q, e)
 
 -- One bit forward from what decoding u leaves is what decoding u and that bit leaves,
-pub raised-next : (N L : ℕ) → Sized N L → N ≤ mostN → (P : ℕ) → P ≤ mostPlanes → (A : List ℤ) (u : List Bool) (a : Bool) → Begins N L P A (u ++ (a ∷ []))
-    → raisedTo (recordAfter N L P u) (after N L P u) a (ownTables N L P u taken) ≡ step (readAnswer N L P (u ++ (a ∷ [])) taken) (recordAfter N L P (u ++ (a ∷ []))) (ownTables N L P (u ++ (a ∷ [])) taken)
-raised-next N L sized most P planes A u a begins =
+pub raised-next : (word : ℕ → ℕ → Ending) (N L : ℕ) → Sized N L → N ≤ mostN → (P : ℕ) → P ≤ mostPlanes → (A : List ℤ) (u : List Bool) (a : Bool) → Begins N L P A (u ++ (a ∷ []))
+    → raisedTo (recordAfter N L P u) word (after N L P u) a (ownTables N L P u taken) ≡ step (readAnswer word N L P (u ++ (a ∷ [])) taken) (recordAfter N L P (u ++ (a ∷ []))) (ownTables N L P (u ++ (a ∷ [])) taken)
+raised-next word N L sized most P planes A u a begins =
     let o = some-asked N L sized most P planes A u a begins in
-    raised-plain N L P (length u) (after N L P u) (after N L P u) a (ownTables N L P u taken) ∙ raised-asked N L sized most P planes A u a begins (o .0) (o .1)
+    raised-plain word N L P (length u) (after N L P u) (after N L P u) a (ownTables N L P u taken) ∙ raised-asked N L sized most P planes A u a begins word (o .0) (o .1)
 
 -- and one bit back from there is what decoding u leaves.
-pub lowered-prior : (N L : ℕ) → Sized N L → N ≤ mostN → (P : ℕ) → P ≤ mostPlanes → (A : List ℤ) (u : List Bool) (a : Bool) → Begins N L P A (u ++ (a ∷ []))
-    → lowered (recordAfter N L P (u ++ (a ∷ []))) (after N L P (u ++ (a ∷ []))) a (ownTables N L P (u ++ (a ∷ [])) taken) ≡ step (readAnswer N L P u taken) (recordAfter N L P u) (ownTables N L P u taken)
-lowered-prior N L sized most P planes A u a begins =
+pub lowered-prior : (word : ℕ → ℕ → Ending) (N L : ℕ) → Sized N L → N ≤ mostN → (P : ℕ) → P ≤ mostPlanes → (A : List ℤ) (u : List Bool) (a : Bool) → Begins N L P A (u ++ (a ∷ []))
+    → lowered (recordAfter N L P (u ++ (a ∷ []))) word (after N L P (u ++ (a ∷ []))) a (ownTables N L P (u ++ (a ∷ [])) taken) ≡ step (readAnswer word N L P u taken) (recordAfter N L P u) (ownTables N L P u taken)
+lowered-prior word N L sized most P planes A u a begins =
     let o = some-asked N L sized most P planes A u a begins in
-    lowered-plain N L P (length (u ++ (a ∷ []))) (after N L P (u ++ (a ∷ []))) (after N L P (u ++ (a ∷ []))) a (ownTables N L P (u ++ (a ∷ [])) taken)
-    ∙ ap (λ (t : State). loweredTo (plain N L P (length (u ++ (a ∷ [])))) t a (ownTables N L P (u ++ (a ∷ [])) taken)) (back-by-values N L sized most P A u a begins)
-    ∙ lowered-asked N L sized most P planes A u a begins (o .0) (o .1)
+    lowered-plain word N L P (length (u ++ (a ∷ []))) (after N L P (u ++ (a ∷ []))) (after N L P (u ++ (a ∷ []))) a (ownTables N L P (u ++ (a ∷ [])) taken)
+    ∙ ap (λ (t : State). loweredTo (plain N L P (length (u ++ (a ∷ [])))) word t a (ownTables N L P (u ++ (a ∷ [])) taken)) (back-by-values N L sized most P A u a begins)
+    ∙ lowered-asked N L sized most P planes A u a begins word (o .0) (o .1)

@@ -19,7 +19,7 @@ use Rattle.moves.specs.declared.Stand.{Stand}
 use Rattle.moves.proofs.Laws.{state-stand}
 use Rattle.undo.specs.Back.{bigIn, back}
 use Rattle.undo.specs.Undoing.{tableFits, standFits, backFits}
-use Rattle.decoder.specs.Body.{tables}
+use Rattle.decoder.specs.{Body.tables, declared.ending.Ending.Ending}
 use Rattle.steps.specs.declared.Record.{Record}
 use Rattle.steps.specs.Records.{recordAt, recordOf, inRange, standIn, Step, step, stays}
 use Rattle.steps.specs.Moved.{askedIn, noted, unheard, movedTo, lowered}
@@ -56,15 +56,15 @@ module _ (r : Record) (range : inRange r ≡ true) where
       (both (le-leb (r .p) mostPlanes (range-sizes r range .2)) (both (le-leb (at .left) (r .p) (s .planes)) (both (lt-ltb (at .pass) 3 (s .known)) (le-leb (at .place) I (stood-within at s))))))
 
   -- One step: the scan goes back from `at` to `from`, the marks m become m', and then the tables v and k become v' and k'.
-  module _ (body : List ℕ) (used : ℕ) (at : Stand) (v : List ℤ) (k m : List ℕ) (stood : Stood r at) where
+  module _ (word : ℕ → ℕ → Ending) (body : List ℕ) (used : ℕ) (at : Stand) (v : List ℤ) (k m : List ℕ) (stood : Stood r at) where
     abbrev before : State
     before = back I D (r .p) (bigIn v) (stateOf at m)
 
     -- a step back, by the sizes, the bits used and where the scan stands
     abbrev lowerBy : ℕ → ℕ → ℕ → ℕ → Stand → Step
-    lowerBy N L P u t = lowered (recordAt N L P 0 0 0 u 0) (stateOf t m) (bitAt body (u - 1)) (tables v k m)
+    lowerBy N L P u t = lowered (recordAt N L P 0 0 0 u 0) word (stateOf t m) (bitAt body (u - 1)) (tables v k m)
 
-    back-is : 1 ≤ used → backIn body (recordOf (r .n) (r .l) (r .p) used (stateOf at m)) (tables v k m) ≡ lowerBy (r .n) (r .l) (r .p) used at
+    back-is : 1 ≤ used → backIn word body (recordOf (r .n) (r .l) (r .p) used (stateOf at m)) (tables v k m) ≡ lowerBy (r .n) (r .l) (r .p) used at
     back-is h =
         let c : Record = recordOf (r .n) (r .l) (r .p) used (stateOf at m) in
         let z : Sizes (r .n) (r .l) (r .p) used c = record-sizes (r .n) (r .l) (r .p) used (stateOf at m) in
@@ -92,26 +92,26 @@ module _ (r : Record) (range : inRange r ≡ true) where
 
       -- it is the step back of the record of where the scan stood
       step-back : (a : Bool) (v' : List ℤ) (k' : List ℕ) → 1 ≤ used → a ≡ bitAt body (used - 1) → v' ≡ unheard (askedIn I (stateOf from m')) (from .place) (from .left) v → k' ≡ noted (r .n) (r .l) (askedIn I (stateOf from m')) (from .place) (from .left) a k
-          → movedTo r (used - 1) (stateOf from m') v' k' ≡ backIn body (recordOf (r .n) (r .l) (r .p) used (stateOf at m)) (tables v k m)
+          → movedTo r word (used - 1) (stateOf from m') v' k' ≡ backIn word body (recordOf (r .n) (r .l) (r .p) used (stateOf at m)) (tables v k m)
       step-back a v' k' h ea ev ek =
-          (λ i. movedTo r (used - 1) (stateOf from m') (ev i) (ek i))
-          ∙ ap (λ (s : State). movedTo r (used - 1) s (unheard (askedIn I s) (s .place) (s .left) v) (noted (r .n) (r .l) (askedIn I s) (s .place) (s .left) a k)) state-is
-          ∙ ap (λ (x : Bool). movedTo r (used - 1) before (unheard (askedIn I before) (before .place) (before .left) v) (noted (r .n) (r .l) (askedIn I before) (before .place) (before .left) x k)) ea
+          (λ i. movedTo r word (used - 1) (stateOf from m') (ev i) (ek i))
+          ∙ ap (λ (s : State). movedTo r word (used - 1) s (unheard (askedIn I s) (s .place) (s .left) v) (noted (r .n) (r .l) (askedIn I s) (s .place) (s .left) a k)) state-is
+          ∙ ap (λ (x : Bool). movedTo r word (used - 1) before (unheard (askedIn I before) (before .place) (before .left) v) (noted (r .n) (r .l) (askedIn I before) (before .place) (before .left) x k)) ea
           ∙ sym (back-is h)
 
 -- From tables of I entries, down to `to` bits used: the steps that are left lead where all lead.
-pub record Descending (r : Record) (body : List ℕ) (most to : ℕ) (whole : Step) (used : ℕ) (at : Stand) (v : List ℤ) (k m : List ℕ) : Type 0 where
+pub record Descending (r : Record) (word : ℕ → ℕ → Ending) (body : List ℕ) (most to : ℕ) (whole : Step) (used : ℕ) (at : Stand) (v : List ℤ) (k m : List ℕ) : Type 0 where
   pub stood : Stood r at
   pub few : used ≤ most
   pub valuesSize : length v ≡ allOf (r .n)
   pub precisionsSize : length k ≡ allOf (r .n)
   pub marksSize : length m ≡ allOf (r .n)
-  pub same : stepsOf (backIn body) (used - to) (movedTo r used (stateOf at m) v k) ≡ whole
+  pub same : stepsOf (backIn word body) (used - to) (movedTo r word used (stateOf at m) v k) ≡ whole
 
-module _ (r : Record) (range : inRange r ≡ true) (body : List ℕ) (most to : ℕ) where
+module _ (r : Record) (range : inRange r ≡ true) (word : ℕ → ℕ → Ending) (body : List ℕ) (most to : ℕ) where
   -- where the record stands, all are left
   pub descending-first : (at : Stand) (v : List ℤ) (k m : List ℕ) → at ≡ standIn r → r .used ≤ most → length v ≡ allOf (r .n) → length k ≡ allOf (r .n) → length m ≡ allOf (r .n)
-      → Descending r body most to (stepsOf (backIn body) (r .used - to) (step (positionOf r) r (tables v k m))) (r .used) at v k m
+      → Descending r word body most to (stepsOf (backIn word body) (r .used - to) (step (positionOf word r) r (tables v k m))) (r .used) at v k m
   descending-first at v k m here few ev ek em =
       record {
         stood = subst (λ (t : Stand). Stood r t) (sym here) (stood-first r range);
@@ -120,32 +120,32 @@ module _ (r : Record) (range : inRange r ≡ true) (body : List ℕ) (most to : 
         precisionsSize = ek;
         marksSize = em;
         same =
-            ap (λ (x : Step). stepsOf (backIn body) (r .used - to) x)
-            (ap (λ (t : Stand). movedTo r (r .used) (stateOf t m) v k) here ∙ ap (λ (x : Record). step (positionOf r) x (tables v k m)) (record-same r range m));
+            ap (λ (x : Step). stepsOf (backIn word body) (r .used - to) x)
+            (ap (λ (t : Stand). movedTo r word (r .used) (stateOf t m) v k) here ∙ ap (λ (x : Record). step (positionOf word r) x (tables v k m)) (record-same r range m));
       }
 
   -- where none is left, all are done
-  pub descending-last : (whole : Step) (used : ℕ) (at : Stand) (v : List ℤ) (k m : List ℕ) → Descending r body most to whole used at v k m → used ≤ to → movedTo r used (stateOf at m) v k ≡ whole
-  descending-last whole used at v k m w h = steps-none (backIn body) (used - to) (movedTo r used (stateOf at m) v k) (omega (arith, h)) ∙ w .same
+  pub descending-last : (whole : Step) (used : ℕ) (at : Stand) (v : List ℤ) (k m : List ℕ) → Descending r word body most to whole used at v k m → used ≤ to → movedTo r word used (stateOf at m) v k ≡ whole
+  descending-last whole used at v k m w h = steps-none (backIn word body) (used - to) (movedTo r word used (stateOf at m) v k) (omega (arith, h)) ∙ w .same
 
   -- one of them
-  module _ (whole : Step) (used : ℕ) (at : Stand) (v : List ℤ) (k m : List ℕ) (w : Descending r body most to whole used at v k m) (some : to < used)
+  module _ (whole : Step) (used : ℕ) (at : Stand) (v : List ℤ) (k m : List ℕ) (w : Descending r word body most to whole used at v k m) (some : to < used)
       (J K d : ℕ) (from : Stand) (m' : List ℕ) (j : J ≡ allOf (r .n)) (n : K ≡ allOf (r .n)) (e : d ≡ coarsestOf (r .n) (r .l))
       (came : from ≡ cond (backFits J K d (r .p) at) (standOf (back J d (r .p) (bigIn v) (stateOf at m))) at)
       (marked : m' ≡ cond (backFits J K d (r .p) at) (back J d (r .p) (bigIn v) (stateOf at m) .marks) m) where
     pub descending-on : (a : Bool) (v' : List ℤ) (k' : List ℕ) → a ≡ bitAt body (used - 1)
         → v' ≡ unheard (askedIn (allOf (r .n)) (stateOf from m')) (from .place) (from .left) v → k' ≡ noted (r .n) (r .l) (askedIn (allOf (r .n)) (stateOf from m')) (from .place) (from .left) a k
         → length v' ≡ allOf (r .n) → length k' ≡ allOf (r .n) → length m' ≡ allOf (r .n)
-        → Descending r body most to whole (used - 1) from v' k' m'
+        → Descending r word body most to whole (used - 1) from v' k' m'
     descending-on a v' k' ea ev ek lv lk lm =
-        let next = step-back r range body used at v k m (w .stood) J K d from m' j n e came marked a v' k' (omega (arith, some)) ea ev ek in
+        let next = step-back r range word body used at v k m (w .stood) J K d from m' j n e came marked a v' k' (omega (arith, some)) ea ev ek in
         record {
-          stood = from-stood r range body used at v k m (w .stood) J K d from m' j n e came marked (w .marksSize);
+          stood = from-stood r range word body used at v k m (w .stood) J K d from m' j n e came marked (w .marksSize);
           few = omega (arith, w .few);
           valuesSize = lv;
           precisionsSize = lk;
           marksSize = lm;
           same =
-              steps-on (backIn body) (movedTo r used (stateOf at m) v k) (movedTo r (used - 1) (stateOf from m') v' k') next (used - to) (used - 1 - to) (omega (arith, some)) _ refl
+              steps-on (backIn word body) (movedTo r word used (stateOf at m) v k) (movedTo r word (used - 1) (stateOf from m') v' k') next (used - to) (used - 1 - to) (omega (arith, some)) _ refl
               ∙ w .same;
         }

@@ -31,12 +31,14 @@ use Rattle.moves.specs.declared.Stand.{Stand}
 use Rattle.moves.proofs.Laws.{state-stand, asked-inside}
 use Rattle.room.specs.Room.{readChecks, bodyBits}
 use Rattle.room.proofs.Laws.{decode-well, decode-ready, DecodeReady}
-use Rattle.decoder.specs.Body.{readAnswer, Tables, tables, ownTables, over, ReadsTo, Reads}
+use Rattle.decoder.specs.Body.{readAnswer, Tables, tables, ownTables, over, ReadsTo, ReadsBy, Reads}
+use Rattle.decoder.specs.Ending.{ending}
+use Rattle.decoder.specs.declared.ending.Ending.{Ending}
 use Rattle.decoder.specs.declared.body.ReadAnswer.{ReadAnswer}
 use Rattle.decoder.specs.declared.body.ReadAnswer.the-variants as decode
 use Rattle.decoder.specs.declared.body.ReadTo.{ReadTo}
 use Rattle.steps.specs.Records.{recordAfter, inRange, stateIn}
-use Rattle.steps.specs.Steps.{ownOf, Reached, Starts}
+use Rattle.steps.specs.Steps.{ownOf, Reached, unended, Starts}
 use Rattle.steps.specs.declared.Record.{Record}
 use Rattle.moves.proofs.Ended.{Ended, ended-settle}
 use Rattle.steps.proofs.Standing.{Sizes, record-sizes, Means, record-means}
@@ -118,8 +120,8 @@ pub body-bits : (n : ℕ) (body : List ℕ) → n ≤ 8 * length body → bodyBi
 body-bits n body h = ap {B = List Bool} (λ (k : ℕ). bitsOf k body) {x = min n (8 * length body)} {y = n} (omega (arith, h))
 
 -- a reading that is done
-module _ (N L P : ℕ) (u : List Bool) (r : Record) (held : Tables) (same : r ≡ recordAfter N L P u) where
-  good-ready : DecodeReady N L P (length (held .values)) (length (held .precisions)) (length (held .marks)) → (v : Verdict) → Judged N L P u v → readAnswer N L P u taken ≡ readAnswer N L P u v
+module _ (word : ℕ → ℕ → Ending) (N L P : ℕ) (u : List Bool) (r : Record) (held : Tables) (same : r ≡ recordAfter N L P u) where
+  good-ready : DecodeReady N L P (length (held .values)) (length (held .precisions)) (length (held .marks)) → (v : Verdict) → Judged N L P u v → readAnswer word N L P u taken ≡ readAnswer word N L P u v
       → held ≡ over (allOf N) (ownTables N L P u v) held → Good N L P u r held
   good-ready d taken j a f =
       record {
@@ -137,21 +139,21 @@ module _ (N L P : ℕ) (u : List Bool) (r : Record) (held : Tables) (same : r �
   good-ready d (beyond k) j a f = let z : _≡_ {A = ℕ} 0 1 = cc in absurd (omega (arith, z))
 
   good-read : (o : Outcome) → o ≡ firstOf (readChecks N L P (length (held .values)) (length (held .precisions)) (length (held .marks)))
-      → ReadsTo o N L P u held (readAnswer N L P u taken) held → Good N L P u r held
+      → ReadsTo o word N L P u held (readAnswer word N L P u taken) held → Good N L P u r held
   good-read outcome.Done e p = good-ready (decode-ready N L P (length (held .values)) (length (held .precisions)) (length (held .marks)) e) (p .verdict) (p .judged) (p .answered) (p .filled)
-  good-read (outcome.Refused why) e p = let a : readAnswer N L P u taken ≡ decode.Refused why = p .0 in let z : _≡_ {A = ℕ} 0 1 = cc in absurd (omega (arith, z))
+  good-read (outcome.Refused why) e p = let a : readAnswer word N L P u taken ≡ decode.Refused why = p .0 in let z : _≡_ {A = ℕ} 0 1 = cc in absurd (omega (arith, z))
 
 pub good-of : (N L P : ℕ) (body : List ℕ) (n : ℕ) (r : Record) (held : Tables) → Reached N L P body n r held → n ≤ 8 * length body → Good N L P (bitsOf n body) r held
 good-of N L P body n r held w h =
     subst (λ (u : List Bool). Good N L P u r held) (body-bits n body h)
-    (good-read N L P (bodyBits n body) r held (w .recorded) (firstOf (readChecks N L P (length (held .values)) (length (held .precisions)) (length (held .marks)))) refl (w .read))
+    (good-read (ending n body) N L P (bodyBits n body) r held (w .recorded) (firstOf (readChecks N L P (length (held .values)) (length (held .precisions)) (length (held .marks)))) refl (w .read))
 
 module _ (N L P : ℕ) (u : List Bool) (r : Record) (held : Tables) (g : Good N L P u r held) where
   -- tables with room, which decoding any bits that are judged fills
-  pub reads-judged : (body : List ℕ) (k : ℕ) (v : Verdict) → Judged N L P (bodyBits k body) v
-      → Reads N L P k body held (readAnswer N L P (bodyBits k body) v) (over (allOf N) (ownTables N L P (bodyBits k body) v) held)
-  reads-judged body k v j =
-      subst (λ (o : Outcome). ReadsTo o N L P (bodyBits k body) held (readAnswer N L P (bodyBits k body) v) (over (allOf N) (ownTables N L P (bodyBits k body) v) held))
+  pub reads-judged : (word : ℕ → ℕ → Ending) (body : List ℕ) (k : ℕ) (v : Verdict) → Judged N L P (bodyBits k body) v
+      → ReadsBy word N L P k body held (readAnswer word N L P (bodyBits k body) v) (over (allOf N) (ownTables N L P (bodyBits k body) v) held)
+  reads-judged word body k v j =
+      subst (λ (o : Outcome). ReadsTo o word N L P (bodyBits k body) held (readAnswer word N L P (bodyBits k body) v) (over (allOf N) (ownTables N L P (bodyBits k body) v) held))
       (decode-well N L P (length (held .values)) (length (held .precisions)) (length (held .marks)) (g .side) (g .levels) (g .planes) (g .valuesRoom) (g .precisionsRoom) (g .marksRoom))
       (record { verdict = v; judged = j; answered = refl; filled = refl })
 
@@ -206,9 +208,9 @@ good-reached N L P body n r held g h =
     let e : bitsOf n body ≡ bodyBits n body = sym (body-bits n body h) in
     record {
       read =
-          subst (λ (t : Tables). Reads N L P n body held (readAnswer N L P (bodyBits n body) taken) t)
+          subst (λ (t : Tables). Reads N L P n body held (readAnswer (ending n body) N L P (bodyBits n body) taken) t)
           (sym (g .filled ∙ ap (λ (u : List Bool). over (allOf N) (ownTables N L P u taken) held) e))
-          (reads-judged N L P (bitsOf n body) r held g body n taken (subst (λ (u : List Bool). Fits N L P u) e (g .fits)));
+          (reads-judged N L P (bitsOf n body) r held g (ending n body) body n taken (subst (λ (u : List Bool). Fits N L P u) e (g .fits)));
       recorded = g .recorded ∙ ap (λ (u : List Bool). recordAfter N L P u) e;
     }
 
@@ -218,14 +220,14 @@ module _ (N L P : ℕ) (r : Record) (held : Tables) (answer : ReadAnswer) (dial 
   start-record : dial ≡ recordAfter N L P []
   start-record = p .recorded ∙ ap (λ (a : ReadAnswer). elim a as (λ _. Record) [ decode.Done c ↦ recordAfter N L P [] | decode.Refused why ↦ r ]) is
 
-  start-judged : DecodeReady N L P (length (held .values)) (length (held .precisions)) (length (held .marks)) → (v : Verdict) → Judged N L P [] v → answer ≡ readAnswer N L P [] v
+  start-judged : DecodeReady N L P (length (held .values)) (length (held .precisions)) (length (held .marks)) → (v : Verdict) → Judged N L P [] v → answer ≡ readAnswer unended N L P [] v
       → left ≡ over (allOf N) (ownTables N L P [] v) held → Good N L P [] dial left
   start-judged c taken j a f =
       subst (λ (x : Record). Good N L P [] x left) (sym start-record) (subst (λ (t : Tables). Good N L P [] (recordAfter N L P []) t) (sym f) (good-at N L P (c .side) (c .levels) (c .planes) [] j held))
   start-judged c (contradiction k) j a f = let z : _≡_ {A = ℕ} 0 1 = cc in absurd (omega (arith, z))
   start-judged c (beyond k) j a f = let z : _≡_ {A = ℕ} 0 1 = cc in absurd (omega (arith, z))
 
-  start-checked : (o : Outcome) → o ≡ firstOf (readChecks N L P (length (held .values)) (length (held .precisions)) (length (held .marks))) → ReadsTo o N L P [] held answer left → Good N L P [] dial left
+  start-checked : (o : Outcome) → o ≡ firstOf (readChecks N L P (length (held .values)) (length (held .precisions)) (length (held .marks))) → ReadsTo o unended N L P [] held answer left → Good N L P [] dial left
   start-checked outcome.Done e q = start-judged (decode-ready N L P (length (held .values)) (length (held .precisions)) (length (held .marks)) e) (q .verdict) (q .judged) (q .answered) (q .filled)
   start-checked (outcome.Refused why) e q = let a : answer ≡ decode.Refused why = q .0 in let z : _≡_ {A = ℕ} 0 1 = cc in absurd (omega (arith, z))
 

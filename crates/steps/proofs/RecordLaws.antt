@@ -1,7 +1,7 @@
 -- Records in range, the record of where the scan stands, and the record before the first bit.
 use mathlib.Core.Path.{_≡_, refl, sym, ap, _∙_}
 use mathlib.Core.Bool.{Bool, true, false, _&&_, _||_, cond}
-use mathlib.Core.List.{List}
+use mathlib.Core.List.{List, []}
 use Prim.Native.Nat.{ℕ, zero, suc, _-_, _≤_, _<_}
 use native.Mathlib.Omega.{arith}
 use borrow.Author.Tests.{leb-true, ltb-true, lt-ltb, eq-eqb, ne-eqb}
@@ -11,13 +11,14 @@ use mir.Val.{boolByte}
 use Rattle.sizes.specs.Sizes.{allOf, coarsestOf, mostPlanes, sideFits, levelsFit, Sized}
 use Rattle.sizes.proofs.Laws.{both-left, both-right, coarsest-least, coarsest-all}
 use Rattle.nls.specs.Marks.{MIP, startMarks}
-use Rattle.nls.specs.Scan.{pixels, stateAt, bitOf, start}
+use Rattle.nls.specs.Scan.{State, pixels, stateAt, bitOf, reach, start}
 use Rattle.nls.specs.Stream.{begin}
+use Rattle.nls.specs.Reading.{lastPlane}
 use Rattle.nls.proofs.Tiled.{Tiled, tiled}
 use Rattle.nls.proofs.Machine.Table.{alone}
 use Rattle.nls.proofs.Machine.Run.{settle-asks, settle-over}
 use Rattle.nls.proofs.Machine.Start as table
-use Rattle.moves.specs.Stands.{stand, stateOf}
+use Rattle.moves.specs.Stands.{stateOf}
 use Rattle.moves.specs.declared.Stand.{Stand}
 use Rattle.moves.proofs.Passes.{pass-back}
 use Rattle.reading.proofs.ValueLaws.{as-digit}
@@ -75,6 +76,11 @@ begin-first N L (suc b) z =
     let i : D ≤ I = omega (arith, coarsest-all N L z) in
     settle-asks I (stateAt (suc b) pixels 0 (startMarks I D)) (bitOf 0 b)
     (rw (lt-ltb 0 I (omega arith), first-mark (tiled N L z) d i))
+
+-- no plane is finished there
+pub begin-left : (N L P : ℕ) → Sized N L → lastPlane N L P [] ≡ P
+unfolding reach
+begin-left N L P z = ap (λ (s : State). s .left) (begin-first N L P z)
 
 -- ---- the record of where the scan stands
 

@@ -12,7 +12,7 @@ use Rattle.nls.specs.{Scan.Question, Scan.bitOf, Scan.signOf, Scan.inDesc, Scan
 use Rattle.moves.specs.Moves.{onward}
 use Rattle.undo.specs.Back.{bigIn, back}
 use Rattle.reading.specs.Reading.{barsZero}
-use Rattle.decoder.specs.{Body.Tables, Body.tables, Finishing.joinedOr0, declared.body.ReadAnswer.ReadAnswer}
+use Rattle.decoder.specs.{Body.Tables, Body.tables, Finishing.joinedOr0, declared.body.ReadAnswer.ReadAnswer, declared.ending.Ending.Ending}
 use Rattle.decoder.specs.declared.body.ReadAnswer.the-variants as decode
 use Rattle.steps.specs.{Records.recordOf, Records.Step, Records.step, Records.stays, declared.Record.Record, declared.Asked.Asked}
 use Rattle.steps.specs.declared.Asked.the-variants as asked
@@ -67,9 +67,9 @@ unheard asked.Bit i l v = v
 unheard asked.Desc i l v = v
 unheard asked.Grand i l v = v
 
--- "planes finished and the worst error", where `left` planes are not finished
-abbrev pub reached : ℕ → ℕ → ℕ → ReadAnswer
-reached P used left = decode.Done (record { used = used; finished = P - left; error = 2 ^ left - 1 })
+-- "planes finished and the worst error", where `left` planes are not finished; and the word for that position
+abbrev pub reached : (ℕ → ℕ → Ending) → ℕ → ℕ → ℕ → ReadAnswer
+reached word P used left = decode.Done (record { used = used; finished = P - left; error = 2 ^ left - 1; ending = word used left })
 
 -- Over tables of I entries, by a record r whose state is s:
 module _ (r : Record) where
@@ -79,28 +79,30 @@ module _ (r : Record) where
   abbrev D : ℕ
   D = coarsestOf (r .n) (r .l)
 
-  -- at a state after `used` bits
-  abbrev pub movedTo : ℕ → State → List ℤ → List ℕ → Step
-  movedTo used s v k = step (reached (r .p) used (s .left)) (recordOf (r .n) (r .l) (r .p) used s) (tables v k (s .marks))
-
-  -- the answer a taken back, which was given in the state s
-  abbrev pub loweredTo : State → Bool → Tables → Step
-  loweredTo s a t =
-      movedTo (r .used - 1) s (unheard (askedIn I s) (s .place) (s .left) (t .values)) (noted (r .n) (r .l) (askedIn I s) (s .place) (s .left) a (t .precisions))
-
-  -- one bit back
-  abbrev pub lowered : State → Bool → Tables → Step
-  lowered s a t = loweredTo (back I D (r .p) (bigIn (t .values)) s) a t
-
-  -- the answer a in the state s
-  abbrev pub raisedTo : State → Bool → Tables → Step
-  raisedTo s a t =
-      movedTo (r .used + 1) (onward I s a) (heard (askedIn I s) (s .place) (s .left - 1) a (t .values)) (noted (r .n) (r .l) (askedIn I s) (s .place) (s .left - 1) a (t .precisions))
-
   -- a 0 that no array fits; a sign may be either
   abbrev pub barred : State → Bool → Bool
   barred s a = not a && (not (s .pending) && barsZero I D (r .p) (s .left) (r .used) (s .place) (s .marks))
 
-  -- one bit forward: refused where no plane is left, and where no array fits
-  abbrev pub raised : State → Bool → Tables → Step
-  raised s a t = cond (eqb (s .left) 0) (stays (Beyond (r .used)) r t) (cond (barred s a) (stays (Contradiction (r .used)) r t) (raisedTo s a t))
+  -- where `word` has why the bits ended, by the bits used and the planes left
+  module _ (word : ℕ → ℕ → Ending) where
+    -- at a state after `used` bits
+    abbrev pub movedTo : ℕ → State → List ℤ → List ℕ → Step
+    movedTo used s v k = step (reached word (r .p) used (s .left)) (recordOf (r .n) (r .l) (r .p) used s) (tables v k (s .marks))
+
+    -- the answer a taken back, which was given in the state s
+    abbrev pub loweredTo : State → Bool → Tables → Step
+    loweredTo s a t =
+        movedTo (r .used - 1) s (unheard (askedIn I s) (s .place) (s .left) (t .values)) (noted (r .n) (r .l) (askedIn I s) (s .place) (s .left) a (t .precisions))
+
+    -- one bit back
+    abbrev pub lowered : State → Bool → Tables → Step
+    lowered s a t = loweredTo (back I D (r .p) (bigIn (t .values)) s) a t
+
+    -- the answer a in the state s
+    abbrev pub raisedTo : State → Bool → Tables → Step
+    raisedTo s a t =
+        movedTo (r .used + 1) (onward I s a) (heard (askedIn I s) (s .place) (s .left - 1) a (t .values)) (noted (r .n) (r .l) (askedIn I s) (s .place) (s .left - 1) a (t .precisions))
+
+    -- one bit forward: refused where no plane is left, and where no array fits
+    abbrev pub raised : State → Bool → Tables → Step
+    raised s a t = cond (eqb (s .left) 0) (stays (Beyond (r .used)) r t) (cond (barred s a) (stays (Contradiction (r .used)) r t) (raisedTo s a t))

@@ -6,7 +6,7 @@ use Rattle.refusals.specs.declared.Refusal.the-variants.{First, Spent}
 use Rattle.sizes.specs.Sizes.{allOf}
 use Rattle.bits.specs.Bits.{bitAt}
 use Rattle.moves.specs.{Stands.stand, declared.Stand.Stand}
-use Rattle.decoder.specs.Body.{Tables}
+use Rattle.decoder.specs.{Body.Tables, declared.ending.Ending.Ending}
 use Rattle.steps.specs.{Records.inRange, Records.stateIn, Records.Step, Records.step, Records.stays, Moved.raised, Moved.lowered, Steps.ownOf, Steps.within, Steps.stepsOf, Steps.positionOf, declared.Record.Record}
 
 -- a record in range, and tables of I entries, by their lengths
@@ -32,12 +32,13 @@ pub record Stood (r : Record) (at : Stand) : Type 0 where
   pub ended : at .left ≡ 0 → at ≡ stand 0 0 0 false
 
 -- steps over tables of I entries, `most` bits of the body being usable
-abbrev pub forwardIn : ℕ → List ℕ → Record → Tables → Step
-forwardIn most body r t = cond (ltb (r .used) most) (raised r (stateIn r (t .marks)) (bitAt body (r .used)) t) (stays Spent r t)
+module _ (word : ℕ → ℕ → Ending) where
+  abbrev pub forwardIn : ℕ → List ℕ → Record → Tables → Step
+  forwardIn most body r t = cond (ltb (r .used) most) (raised r word (stateIn r (t .marks)) (bitAt body (r .used)) t) (stays Spent r t)
 
-abbrev pub backIn : List ℕ → Record → Tables → Step
-backIn body r t = cond (ltb 0 (r .used)) (lowered r (stateIn r (t .marks)) (bitAt body (r .used - 1)) t) (stays First r t)
+  abbrev pub backIn : List ℕ → Record → Tables → Step
+  backIn body r t = cond (ltb 0 (r .used)) (lowered r word (stateIn r (t .marks)) (bitAt body (r .used - 1)) t) (stays First r t)
 
--- k such steps from where a record stands, over the first I entries of the tables
-abbrev pub ownSteps : (Record → Tables → Step) → ℕ → Record → Tables → Step
-ownSteps f k r held = within (allOf (r .n)) held (stepsOf f k (step (positionOf r) r (ownOf (allOf (r .n)) held)))
+  -- k such steps from where a record stands, over the first I entries of the tables
+  abbrev pub ownSteps : (Record → Tables → Step) → ℕ → Record → Tables → Step
+  ownSteps f k r held = within (allOf (r .n)) held (stepsOf f k (step (positionOf word r) r (ownOf (allOf (r .n)) held)))

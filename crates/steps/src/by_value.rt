@@ -1,7 +1,9 @@
 // The calls of the stepped decoder, with the record by value.
 use crate::Record;
 use crate::Stepped;
+use bits::Next;
 use decoder::ReadAnswer;
+use decoder::ReadTo;
 use refusals::Outcome;
 use refusals::Refusal;
 ghost use mathlib.Core.Path.{_≡_};
@@ -9,27 +11,28 @@ ghost use Prim.Native.Nat.{_*_, _-_, _≤_};
 ghost use lib.ListN.{length};
 ghost use Rattle.decoder.specs.Body.{tables};
 ghost use Rattle.steps.specs.Records.{step};
-ghost use Rattle.steps.specs.Steps.{Starts, Forwards, Backs, Turns};
+ghost use Rattle.decoder.specs.Ending.{ending};
+ghost use Rattle.steps.specs.Steps.{usableBits, Starts, Forwards, Backs, Turns};
 ghost use Rattle.steps.specs.Ready.{CallReady, forwardIn, backIn, ownSteps};
 
 // Steps forward over the own entries of the tables.
 fn climb_own(
     dial: Record,
     body: &[u8],
-    most: u32,
+    declared: u32,
     to: u32,
     values: &mut [i32],
     precisions: &mut [u8],
     marks: &mut [u8],
 ) -> Stepped
-    requires { ⌜ CallReady dial most (length (now values)) (length (now precisions)) (length (now marks)) × (most ≤ 8 * length (now body)) ⌝ }
-    ensures { λ z. ⌜ step (z .answer) (z .dial) (tables (now (values .exit)) (now (precisions .exit)) (now (marks .exit))) ≡ ownSteps (forwardIn most (now (body .entry))) (to - dial .used) dial (tables (now (values .entry)) (now (precisions .entry)) (now (marks .entry))) ⌝ }
+    requires { ⌜ CallReady dial (usableBits declared (now body)) (length (now values)) (length (now precisions)) (length (now marks)) ⌝ }
+    ensures { λ z. ⌜ step (z .answer) (z .dial) (tables (now (values .exit)) (now (precisions .exit)) (now (marks .exit))) ≡ ownSteps (ending declared (now (body .entry))) (forwardIn (ending declared (now (body .entry))) (usableBits declared (now (body .entry))) (now (body .entry))) (to - dial .used) dial (tables (now (values .entry)) (now (precisions .entry)) (now (marks .entry))) ⌝ }
 {
     let all = sizes::all_of(dial.n);
     crate::moving::climb(
         dial,
         body,
-        most,
+        declared,
         to,
         &mut values[..all],
         &mut precisions[..all],
@@ -41,20 +44,20 @@ fn climb_own(
 fn descend_own(
     dial: Record,
     body: &[u8],
-    most: u32,
+    declared: u32,
     to: u32,
     values: &mut [i32],
     precisions: &mut [u8],
     marks: &mut [u8],
 ) -> Stepped
-    requires { ⌜ CallReady dial most (length (now values)) (length (now precisions)) (length (now marks)) × (most ≤ 8 * length (now body)) ⌝ }
-    ensures { λ z. ⌜ step (z .answer) (z .dial) (tables (now (values .exit)) (now (precisions .exit)) (now (marks .exit))) ≡ ownSteps (backIn (now (body .entry))) (dial .used - to) dial (tables (now (values .entry)) (now (precisions .entry)) (now (marks .entry))) ⌝ }
+    requires { ⌜ CallReady dial (usableBits declared (now body)) (length (now values)) (length (now precisions)) (length (now marks)) ⌝ }
+    ensures { λ z. ⌜ step (z .answer) (z .dial) (tables (now (values .exit)) (now (precisions .exit)) (now (marks .exit))) ≡ ownSteps (ending declared (now (body .entry))) (backIn (ending declared (now (body .entry))) (now (body .entry))) (dial .used - to) dial (tables (now (values .entry)) (now (precisions .entry)) (now (marks .entry))) ⌝ }
 {
     let all = sizes::all_of(dial.n);
     crate::moving::descend(
         dial,
         body,
-        most,
+        declared,
         to,
         &mut values[..all],
         &mut precisions[..all],
@@ -78,7 +81,12 @@ pub fn take_start(
     match decoder::decode(n, l, p, &none, 0, values, precisions, marks) {
         ReadAnswer::Done(to) => Stepped {
             dial: crate::records::first(n, l, p),
-            answer: ReadAnswer::Done(to),
+            answer: ReadAnswer::Done(ReadTo {
+                used: to.used,
+                finished: to.finished,
+                error: to.error,
+                ending: decoder::ending_of(p, Next::Bit(false)),
+            }),
         },
         ReadAnswer::Refused(why) => Stepped {
             dial,
@@ -91,14 +99,14 @@ pub fn take_start(
 pub fn take_forward(
     dial: Record,
     body: &[u8],
-    usable: u32,
+    declared: u32,
     values: &mut [i32],
     precisions: &mut [u8],
     marks: &mut [u8],
 ) -> Stepped
-    ensures { λ z. ⌜ Forwards usable (now (body .entry)) dial (tables (now (values .entry)) (now (precisions .entry)) (now (marks .entry))) (z .answer) (z .dial) (tables (now (values .exit)) (now (precisions .exit)) (now (marks .exit))) ⌝ }
+    ensures { λ z. ⌜ Forwards declared (now (body .entry)) dial (tables (now (values .entry)) (now (precisions .entry)) (now (marks .entry))) (z .answer) (z .dial) (tables (now (values .exit)) (now (precisions .exit)) (now (marks .exit))) ⌝ }
 {
-    let most = room::usable_of(usable, body.len());
+    let most = room::usable_of(declared, body.len());
     match crate::records::check(dial, most, values.len(), precisions.len(), marks.len()) {
         Outcome::Done => {
             if dial.used == most {
@@ -107,7 +115,15 @@ pub fn take_forward(
                     answer: ReadAnswer::Refused(Refusal::Spent),
                 };
             }
-            climb_own(dial, body, most, dial.used + 1, values, precisions, marks)
+            climb_own(
+                dial,
+                body,
+                declared,
+                dial.used + 1,
+                values,
+                precisions,
+                marks,
+            )
         }
         Outcome::Refused(why) => Stepped {
             dial,
@@ -120,14 +136,14 @@ pub fn take_forward(
 pub fn take_back(
     dial: Record,
     body: &[u8],
-    usable: u32,
+    declared: u32,
     values: &mut [i32],
     precisions: &mut [u8],
     marks: &mut [u8],
 ) -> Stepped
-    ensures { λ z. ⌜ Backs usable (now (body .entry)) dial (tables (now (values .entry)) (now (precisions .entry)) (now (marks .entry))) (z .answer) (z .dial) (tables (now (values .exit)) (now (precisions .exit)) (now (marks .exit))) ⌝ }
+    ensures { λ z. ⌜ Backs declared (now (body .entry)) dial (tables (now (values .entry)) (now (precisions .entry)) (now (marks .entry))) (z .answer) (z .dial) (tables (now (values .exit)) (now (precisions .exit)) (now (marks .exit))) ⌝ }
 {
-    let most = room::usable_of(usable, body.len());
+    let most = room::usable_of(declared, body.len());
     match crate::records::check(dial, most, values.len(), precisions.len(), marks.len()) {
         Outcome::Done => {
             if dial.used == 0 {
@@ -136,7 +152,15 @@ pub fn take_back(
                     answer: ReadAnswer::Refused(Refusal::First),
                 };
             }
-            descend_own(dial, body, most, dial.used - 1, values, precisions, marks)
+            descend_own(
+                dial,
+                body,
+                declared,
+                dial.used - 1,
+                values,
+                precisions,
+                marks,
+            )
         }
         Outcome::Refused(why) => Stepped {
             dial,
@@ -149,21 +173,21 @@ pub fn take_back(
 pub fn take_turn(
     dial: Record,
     body: &[u8],
-    usable: u32,
+    declared: u32,
     to: u32,
     values: &mut [i32],
     precisions: &mut [u8],
     marks: &mut [u8],
 ) -> Stepped
-    ensures { λ z. ⌜ Turns usable to (now (body .entry)) dial (tables (now (values .entry)) (now (precisions .entry)) (now (marks .entry))) (z .answer) (z .dial) (tables (now (values .exit)) (now (precisions .exit)) (now (marks .exit))) ⌝ }
+    ensures { λ z. ⌜ Turns declared to (now (body .entry)) dial (tables (now (values .entry)) (now (precisions .entry)) (now (marks .entry))) (z .answer) (z .dial) (tables (now (values .exit)) (now (precisions .exit)) (now (marks .exit))) ⌝ }
 {
-    let most = room::usable_of(usable, body.len());
+    let most = room::usable_of(declared, body.len());
     match crate::records::check(dial, most, values.len(), precisions.len(), marks.len()) {
         Outcome::Done => {
             if to <= dial.used {
-                return descend_own(dial, body, most, to, values, precisions, marks);
+                return descend_own(dial, body, declared, to, values, precisions, marks);
             }
-            climb_own(dial, body, most, to, values, precisions, marks)
+            climb_own(dial, body, declared, to, values, precisions, marks)
         }
         Outcome::Refused(why) => Stepped {
             dial,

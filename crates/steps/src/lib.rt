@@ -62,14 +62,14 @@ pub fn start(
 pub fn forward(
     dial: &mut Record,
     body: &[u8],
-    usable: u32,
+    declared: u32,
     values: &mut [i32],
     precisions: &mut [u8],
     marks: &mut [u8],
 ) -> ReadAnswer
-    ensures { λ r. ⌜ Forwards usable (now (body .entry)) (now (dial .entry)) (tables (now (values .entry)) (now (precisions .entry)) (now (marks .entry))) r (now (dial .exit)) (tables (now (values .exit)) (now (precisions .exit)) (now (marks .exit))) ⌝ }
+    ensures { λ r. ⌜ Forwards declared (now (body .entry)) (now (dial .entry)) (tables (now (values .entry)) (now (precisions .entry)) (now (marks .entry))) r (now (dial .exit)) (tables (now (values .exit)) (now (precisions .exit)) (now (marks .exit))) ⌝ }
 {
-    let t = by_value::take_forward(*dial, body, usable, values, precisions, marks);
+    let t = by_value::take_forward(*dial, body, declared, values, precisions, marks);
     *dial = t.dial;
     t.answer
 }
@@ -78,14 +78,14 @@ pub fn forward(
 pub fn back(
     dial: &mut Record,
     body: &[u8],
-    usable: u32,
+    declared: u32,
     values: &mut [i32],
     precisions: &mut [u8],
     marks: &mut [u8],
 ) -> ReadAnswer
-    ensures { λ r. ⌜ Backs usable (now (body .entry)) (now (dial .entry)) (tables (now (values .entry)) (now (precisions .entry)) (now (marks .entry))) r (now (dial .exit)) (tables (now (values .exit)) (now (precisions .exit)) (now (marks .exit))) ⌝ }
+    ensures { λ r. ⌜ Backs declared (now (body .entry)) (now (dial .entry)) (tables (now (values .entry)) (now (precisions .entry)) (now (marks .entry))) r (now (dial .exit)) (tables (now (values .exit)) (now (precisions .exit)) (now (marks .exit))) ⌝ }
 {
-    let t = by_value::take_back(*dial, body, usable, values, precisions, marks);
+    let t = by_value::take_back(*dial, body, declared, values, precisions, marks);
     *dial = t.dial;
     t.answer
 }
@@ -94,15 +94,15 @@ pub fn back(
 pub fn turn(
     dial: &mut Record,
     body: &[u8],
-    usable: u32,
+    declared: u32,
     to: u32,
     values: &mut [i32],
     precisions: &mut [u8],
     marks: &mut [u8],
 ) -> ReadAnswer
-    ensures { λ r. ⌜ Turns usable to (now (body .entry)) (now (dial .entry)) (tables (now (values .entry)) (now (precisions .entry)) (now (marks .entry))) r (now (dial .exit)) (tables (now (values .exit)) (now (precisions .exit)) (now (marks .exit))) ⌝ }
+    ensures { λ r. ⌜ Turns declared to (now (body .entry)) (now (dial .entry)) (tables (now (values .entry)) (now (precisions .entry)) (now (marks .entry))) r (now (dial .exit)) (tables (now (values .exit)) (now (precisions .exit)) (now (marks .exit))) ⌝ }
 {
-    let t = by_value::take_turn(*dial, body, usable, to, values, precisions, marks);
+    let t = by_value::take_turn(*dial, body, declared, to, values, precisions, marks);
     *dial = t.dial;
     t.answer
 }

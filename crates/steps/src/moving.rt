@@ -16,19 +16,20 @@ ghost use Rattle.moves.specs.Moves.{onward};
 ghost use Rattle.moves.specs.Stands.{stateOf, standOf};
 ghost use Rattle.decoder.specs.Body.{Tables, tables};
 ghost use Rattle.reading.specs.Reading.{barsZero};
+ghost use Rattle.decoder.specs.Ending.{ending};
 ghost use Rattle.steps.specs.Records.{recordOf, inRange, step, stays};
 ghost use Rattle.steps.specs.Moved.{askedIn, heard, unheard, noted, movedTo};
-ghost use Rattle.steps.specs.Steps.{stepsOf, positionOf};
+ghost use Rattle.steps.specs.Steps.{usableBits, stepsOf, positionOf};
 ghost use Rattle.steps.specs.Ready.{Ready, Stood, forwardIn, backIn};
 
 // The record and the answer of where the scan stands, after `used` bits.
-fn arrive(dial: Record, used: u32, at: Stand) -> Stepped
+fn arrive(dial: Record, body: &[u8], declared: u32, used: u32, at: Stand) -> Stepped
     requires { ⌜ (inRange dial ≡ true) × Stood dial at ⌝ }
-    ensures { λ r. ⌜ ((v : List ℤ) (k m : List ℕ) → step (r .answer) (r .dial) (tables v k m) ≡ movedTo dial used (stateOf at m) v k) ⌝ }
+    ensures { λ r. ⌜ ((v : List ℤ) (k m : List ℕ) → step (r .answer) (r .dial) (tables v k m) ≡ movedTo dial (ending declared (now (body .entry))) used (stateOf at m) v k) ⌝ }
 {
     Stepped {
         dial: crate::records::record_of(dial, used, at),
-        answer: crate::records::reached(dial.p, used, at.left),
+        answer: crate::records::reached(dial.p, body, declared, used, at.left),
     }
 }
 
@@ -110,23 +111,23 @@ fn untell(
     );
 }
 
-// Steps forward, until `to` bits are used or one is refused; `most` bits are usable.
+// Steps forward, until `to` bits are used or one is refused.
 pub(crate) fn climb(
     dial: Record,
     body: &[u8],
-    most: u32,
+    declared: u32,
     to: u32,
     values: &mut [i32],
     precisions: &mut [u8],
     marks: &mut [u8],
 ) -> Stepped
-    requires { ⌜ Ready dial (length (now values)) (length (now precisions)) (length (now marks)) × (most ≤ 8 * length (now body)) ⌝ }
-    ensures { λ r. ⌜ step (r .answer) (r .dial) (tables (now (values .exit)) (now (precisions .exit)) (now (marks .exit))) ≡ stepsOf (forwardIn most (now (body .entry))) (to - dial .used) (step (positionOf dial) dial (tables (now (values .entry)) (now (precisions .entry)) (now (marks .entry)))) ⌝ }
+    requires { ⌜ Ready dial (length (now values)) (length (now precisions)) (length (now marks)) ⌝ }
+    ensures { λ r. ⌜ step (r .answer) (r .dial) (tables (now (values .exit)) (now (precisions .exit)) (now (marks .exit))) ≡ stepsOf (forwardIn (ending declared (now (body .entry))) (usableBits declared (now (body .entry))) (now (body .entry))) (to - dial .used) (step (positionOf (ending declared (now (body .entry))) dial) dial (tables (now (values .entry)) (now (precisions .entry)) (now (marks .entry)))) ⌝ }
 {
     let mut at = crate::records::stand_of(dial);
     let mut used = dial.used;
     while used < to {
-        match view::read(body, used as usize, most as usize) {
+        match view::read(body, used as usize, declared as usize) {
             Next::Bit(bit) => {
                 if at.left == 0 {
                     return refuse(dial, used, at, Refusal::Beyond(used));
@@ -137,41 +138,41 @@ pub(crate) fn climb(
                 at = tell(dial, at, bit, values, precisions, marks);
                 used = used + 1;
             }
-            Next::NoMore => {
+            Next::NoMore(_) => {
                 return refuse(dial, used, at, Refusal::Spent);
             }
         }
     }
-    arrive(dial, used, at)
+    arrive(dial, body, declared, used, at)
 }
 
 // Steps back, until `to` bits are used.
 pub(crate) fn descend(
     dial: Record,
     body: &[u8],
-    most: u32,
+    declared: u32,
     to: u32,
     values: &mut [i32],
     precisions: &mut [u8],
     marks: &mut [u8],
 ) -> Stepped
-    requires { ⌜ Ready dial (length (now values)) (length (now precisions)) (length (now marks)) × (dial .used ≤ most) × (most ≤ 8 * length (now body)) ⌝ }
-    ensures { λ r. ⌜ step (r .answer) (r .dial) (tables (now (values .exit)) (now (precisions .exit)) (now (marks .exit))) ≡ stepsOf (backIn (now (body .entry))) (dial .used - to) (step (positionOf dial) dial (tables (now (values .entry)) (now (precisions .entry)) (now (marks .entry)))) ⌝ }
+    requires { ⌜ Ready dial (length (now values)) (length (now precisions)) (length (now marks)) × (dial .used ≤ usableBits declared (now body)) ⌝ }
+    ensures { λ r. ⌜ step (r .answer) (r .dial) (tables (now (values .exit)) (now (precisions .exit)) (now (marks .exit))) ≡ stepsOf (backIn (ending declared (now (body .entry))) (now (body .entry))) (dial .used - to) (step (positionOf (ending declared (now (body .entry))) dial) dial (tables (now (values .entry)) (now (precisions .entry)) (now (marks .entry)))) ⌝ }
 {
     let coarsest = sizes::coarsest_of(dial.n, dial.l);
     let mut at = crate::records::stand_of(dial);
     let mut used = dial.used;
     while to < used {
-        match view::read(body, used as usize - 1, most as usize) {
+        match view::read(body, used as usize - 1, declared as usize) {
             Next::Bit(bit) => {
                 at = undo::go_back(marks, values, coarsest, dial.p, at);
                 untell(dial, at, bit, values, precisions, marks);
                 used = used - 1;
             }
-            Next::NoMore => {
+            Next::NoMore(_) => {
                 return refuse(dial, used, at, Refusal::Spent);
             }
         }
     }
-    arrive(dial, used, at)
+    arrive(dial, body, declared, used, at)
 }

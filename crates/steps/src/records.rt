@@ -12,6 +12,7 @@ ghost use Prim.Native.Nat.{ℕ, _^_, _≤_, _<_};
 ghost use Rattle.refusals.specs.Checks.{firstOf};
 ghost use Rattle.sizes.specs.Sizes.{sideFits, levelsFit, mostPlanes};
 ghost use Rattle.moves.specs.Stands.{stateOf};
+ghost use Rattle.decoder.specs.Ending.{ending};
 ghost use Rattle.steps.specs.Records.{recordOf, recordAfter, isEnd, isWithin, inRange, standIn};
 ghost use Rattle.steps.specs.Moved as moved;
 ghost use Rattle.steps.specs.Steps.{recordChecks};
@@ -138,15 +139,16 @@ pub(crate) fn record_of(dial: Record, used: u32, at: Stand) -> Record
     }
 }
 
-// The bits used, the planes finished and the worst error, where `left` of p planes are not finished.
-pub(crate) fn reached(p: u32, used: u32, left: u32) -> ReadAnswer
+// The bits used, the planes finished, the worst error and the word, where `left` of p planes are not finished.
+pub(crate) fn reached(p: u32, body: &[u8], declared: u32, used: u32, left: u32) -> ReadAnswer
     requires { ⌜ (left ≤ p) × (p ≤ mostPlanes) ⌝ }
-    ensures { λ r. ⌜ r ≡ moved.reached p used left ⌝ }
+    ensures { λ r. ⌜ r ≡ moved.reached (ending declared (now (body .entry))) p used left ⌝ }
 {
     ReadAnswer::Done(ReadTo {
         used,
         finished: p - left,
         error: (1u32 << left) - 1,
+        ending: decoder::ending_of(left, view::read(body, used as usize, declared as usize)),
     })
 }
 

@@ -26,6 +26,8 @@ use Rattle.encoder.specs.Body as body
 use Rattle.decoder.specs.Body as cutBody
 use Rattle.encoder.specs.Body.{sentBits, outputAfter, Loan, loan, lentTo, Writes}
 use Rattle.decoder.specs.Body.{Tables}
+use Rattle.decoder.specs.Ending.{ending}
+use Rattle.decoder.specs.declared.ending.Ending.{Ending}
 use Rattle.encoder.specs.declared.body.Written.{Written}
 use Rattle.encoder.specs.declared.body.WriteAnswer as written
 use Rattle.encoder.specs.declared.body.WriteAnswer.the-variants as wrote
@@ -34,7 +36,7 @@ use Rattle.txp.specs.declared.Header.{Header}
 use Rattle.txp.specs.declared.EncodeAnswer.the-variants as encode
 use Rattle.txp.specs.declared.DecodeAnswer.the-variants as decode
 use Rattle.txp.specs.Header.{headerSize, headerBytes, headerOf, bodyOf}
-use Rattle.txp.specs.File.{headerFor, fileOf, usableBits}
+use Rattle.txp.specs.File.{headerFor, fileOf, usableBits, endingOf}
 use Rattle.txp.specs.Calls.{encodeAnswer, encodeOutcome, Encodes, headerChecks, decodeChecks, decodeAnswer, DecodesTo}
 use Rattle.txp.specs.Under.{withHeader}
 use Rattle.txp.proofs.Headers.{header-length, letters-room}
@@ -107,10 +109,10 @@ module _ (N L : ℕ) (A : List ℤ) (budget : ℕ) (held mid : Loan) (r : writte
 -- ---- decoding
 
 -- the answer on a body under its header, by the verdict
-with-verdict : (h : Header) (u : List Bool) (v : Verdict) → withHeader h (cutBody.readAnswer (h .n) (h .l) (h .p) u v) ≡ decodeAnswer h u v
-with-verdict h u taken = refl
-with-verdict h u (contradiction bit) = refl
-with-verdict h u (beyond bit) = refl
+with-verdict : (word : ℕ → ℕ → Ending) (h : Header) (u : List Bool) (v : Verdict) → withHeader h (cutBody.readAnswer word (h .n) (h .l) (h .p) u v) ≡ decodeAnswer word h u v
+with-verdict word h u taken = refl
+with-verdict word h u (contradiction bit) = refl
+with-verdict word h u (beyond bit) = refl
 
 -- where the checks of the header hold, there is a header, and its side is in range
 pub header-passed : (file : List ℕ) → firstOf (headerChecks file) ≡ Done → (headerSize ≤ length file) × (sideFits (headerOf file .n) ≡ true)
@@ -119,7 +121,7 @@ header-passed file e = let p = passed (headerChecks file) e in (letters-room fil
 
 module _ (file : List ℕ) (values precisions marks : ℕ) (r : Outcome) (is : r ≡ firstOf (decodeChecks file values precisions marks)) where
   pub refused-file : (why : Refusal) (held : Tables) → r ≡ Refused why
-      → DecodesTo (firstOf (decodeChecks file values precisions marks)) (headerOf file) (usableBits file) held (decode.Refused why) held
+      → DecodesTo (firstOf (decodeChecks file values precisions marks)) (endingOf file) (headerOf file) (usableBits file) held (decode.Refused why) held
   refused-file why held e = rw (sym is ∙ e) (refl, refl)
 
   module _ (done : r ≡ Done) where
@@ -137,17 +139,17 @@ module _ (file : List ℕ) (values precisions marks : ℕ) (r : Outcome) (is : r
         (all .1 .1 .0, (all .1 .1 .1 .0, (all .1 .1 .1 .1 .0, (all .1 .1 .1 .1 .1 .1 .1 .0, tt))))
 
     pub file-decoded : (h : Header) (part : List ℕ) (held left : Tables) (b : answer.ReadAnswer) → h ≡ headerOf file → part ≡ bodyOf file
-        → cutBody.ReadsTo (firstOf (room.readChecks (h .n) (h .l) (h .p) values precisions marks)) (h .n) (h .l) (h .p) (room.bodyBits (h .declared) part) held b left
-        → DecodesTo (firstOf (decodeChecks file values precisions marks)) (headerOf file) (usableBits file) held (withHeader h b) left
+        → cutBody.ReadsTo (firstOf (room.readChecks (h .n) (h .l) (h .p) values precisions marks)) (ending (h .declared) part) (h .n) (h .l) (h .p) (room.bodyBits (h .declared) part) held b left
+        → DecodesTo (firstOf (decodeChecks file values precisions marks)) (endingOf file) (headerOf file) (usableBits file) held (withHeader h b) left
     file-decoded h part held left b eh ep d =
         let moved =
-        subst (λ (x : Header). cutBody.ReadsTo (firstOf (room.readChecks (x .n) (x .l) (x .p) values precisions marks)) (x .n) (x .l) (x .p) (room.bodyBits (x .declared) (bodyOf file)) held b left) eh
-        (subst (λ (s : List ℕ). cutBody.ReadsTo (firstOf (room.readChecks (h .n) (h .l) (h .p) values precisions marks)) (h .n) (h .l) (h .p) (room.bodyBits (h .declared) s) held b left) ep d) in
-        let got : cutBody.BodyRead (headerOf file .n) (headerOf file .l) (headerOf file .p) (usableBits file) held b left =
-        subst (λ (o : Outcome). cutBody.ReadsTo o (headerOf file .n) (headerOf file .l) (headerOf file .p) (usableBits file) held b left) body-passes moved in
-        let answered : withHeader h b ≡ decodeAnswer (headerOf file) (usableBits file) (got .verdict) =
-        ap (λ (x : Header). withHeader x b) eh ∙ ap (λ (x : answer.ReadAnswer). withHeader (headerOf file) x) (got .answered) ∙ with-verdict (headerOf file) (usableBits file) (got .verdict) in
-        subst (λ (o : Outcome). DecodesTo o (headerOf file) (usableBits file) held (withHeader h b) left) (sym done ∙ is)
+        subst (λ (x : Header). cutBody.ReadsTo (firstOf (room.readChecks (x .n) (x .l) (x .p) values precisions marks)) (ending (x .declared) (bodyOf file)) (x .n) (x .l) (x .p) (room.bodyBits (x .declared) (bodyOf file)) held b left) eh
+        (subst (λ (s : List ℕ). cutBody.ReadsTo (firstOf (room.readChecks (h .n) (h .l) (h .p) values precisions marks)) (ending (h .declared) s) (h .n) (h .l) (h .p) (room.bodyBits (h .declared) s) held b left) ep d) in
+        let got : cutBody.BodyRead (endingOf file) (headerOf file .n) (headerOf file .l) (headerOf file .p) (usableBits file) held b left =
+        subst (λ (o : Outcome). cutBody.ReadsTo o (endingOf file) (headerOf file .n) (headerOf file .l) (headerOf file .p) (usableBits file) held b left) body-passes moved in
+        let answered : withHeader h b ≡ decodeAnswer (endingOf file) (headerOf file) (usableBits file) (got .verdict) =
+        ap (λ (x : Header). withHeader x b) eh ∙ ap (λ (x : answer.ReadAnswer). withHeader (headerOf file) x) (got .answered) ∙ with-verdict (endingOf file) (headerOf file) (usableBits file) (got .verdict) in
+        subst (λ (o : Outcome). DecodesTo o (endingOf file) (headerOf file) (usableBits file) held (withHeader h b) left) (sym done ∙ is)
         (record { verdict = got .verdict; judged = got .judged; answered = answered; filled = got .filled })
 
 -- where the checks of decoding hold, sizes and planes are in range, and each table has room

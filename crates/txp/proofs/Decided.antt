@@ -14,10 +14,11 @@ use Rattle.nls.specs.Judging.{Verdict}
 use Rattle.nls.proofs.Verdicts.{judged-only}
 use Rattle.encoder.specs.Body.{Loan, loan}
 use Rattle.decoder.specs.Body.{Tables, tables}
+use Rattle.decoder.specs.declared.ending.Ending.{Ending}
 use Rattle.txp.specs.declared.Header.{Header}
 use Rattle.txp.specs.declared.DecodeAnswer.{DecodeAnswer}
 use Rattle.txp.specs.Header.{headerOf}
-use Rattle.txp.specs.File.{usableBits}
+use Rattle.txp.specs.File.{usableBits, endingOf}
 use Rattle.txp.specs.Calls.{decodeChecks, decodeAnswer, DecodedFile, DecodesTo, Decodes}
 use Rattle.txp.proofs.CallLaws.{in-range}
 use Rattle.txp.proofs.letters_fit.Reads as letters-fit
@@ -44,20 +45,20 @@ pub read-header-decided : OneAnswer read-header.Learnt
 read-header-decided k args r r' s s' p q = p ∙ sym q
 
 -- a file's header and usable bits decide the rest, where its sizes are in range: there is one verdict on the bits
-module _ (h : Header) (u : List Bool) (held : Tables) (r r' : DecodeAnswer) (left left' : Tables) where
-  one-verdict : Sized (h .n) (h .l) → DecodedFile h u held r left → DecodedFile h u held r' left' → (r ≡ r') × (left ≡ left')
+module _ (word : ℕ → ℕ → Ending) (h : Header) (u : List Bool) (held : Tables) (r r' : DecodeAnswer) (left left' : Tables) where
+  one-verdict : Sized (h .n) (h .l) → DecodedFile word h u held r left → DecodedFile word h u held r' left' → (r ≡ r') × (left ≡ left')
   one-verdict z p q =
       let v : p .verdict ≡ q .verdict = judged-only (h .n) (h .l) z (h .p) u (p .verdict) (q .verdict) (p .judged) (q .judged) in
-      (p .answered ∙ ap (λ (x : Verdict). decodeAnswer h u x) v ∙ sym (q .answered), p .filled ∙ rw v (sym (q .filled)))
+      (p .answered ∙ ap (λ (x : Verdict). decodeAnswer word h u x) v ∙ sym (q .answered), p .filled ∙ rw v (sym (q .filled)))
 
-  one-outcome : (o : Outcome) → (o ≡ Done → Sized (h .n) (h .l)) → DecodesTo o h u held r left → DecodesTo o h u held r' left' → (r ≡ r') × (left ≡ left')
+  one-outcome : (o : Outcome) → (o ≡ Done → Sized (h .n) (h .l)) → DecodesTo o word h u held r left → DecodesTo o word h u held r' left' → (r ≡ r') × (left ≡ left')
   one-outcome Done z p q = one-verdict (z refl) p q
   one-outcome (Refused why) z p q = (p .0 ∙ sym (q .0), p .1 ∙ sym (q .1))
 
 -- so two outcomes of reading one file are equal
 pub decodes-one : (file : List ℕ) (held : Tables) (r r' : DecodeAnswer) (left left' : Tables) → Decodes file held r left → Decodes file held r' left' → (r ≡ r') × (left ≡ left')
 decodes-one file held r r' left left' p q =
-    one-outcome (headerOf file) (usableBits file) held r r' left left'
+    one-outcome (endingOf file) (headerOf file) (usableBits file) held r r' left left'
     (firstOf (decodeChecks file (length (held .values)) (length (held .precisions)) (length (held .marks))))
     (in-range file (length (held .values)) (length (held .precisions)) (length (held .marks))) p q
 

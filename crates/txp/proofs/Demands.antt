@@ -2,8 +2,10 @@
 use mathlib.Core.Path.{_≡_, refl, sym, ap, subst, _∙_}
 use mathlib.Core.Bool.{Bool, true, false}
 use mathlib.Core.Logic.{_⊎_, inl, inr}
+use mathlib.Core.Option.{none}
 use mathlib.Core.List.{List, [], _∷_, _++_}
 use Prim.Native.Nat.{ℕ, zero, suc, _+_, _-_, _*_, _/_, _^_, min, _≤_, _<_}
+use native.Mathlib.Decide.{decLt}
 use native.Mathlib.Omega.{arith}
 use borrow.Author.Tests.{le-leb, lt-leb, ne-eqb}
 use lib.IntN.{ℤ, pos, natAbs, _-ℤ_}
@@ -20,12 +22,13 @@ use Rattle.sizes.specs.Sizes.{allOf, coarsestOf, sideFits, levelsFit, limit, mo
 use Rattle.sizes.specs.Tables.{table}
 use Rattle.sizes.proofs.Laws.{side-most, sized}
 use Rattle.bits.specs.Bits.{bitAt, bytesFor, packed}
-use Rattle.bits.proofs.Laws.{packed-length}
+use Rattle.bits.proofs.Laws.{packed-length, bitsOf-length}
 use Rattle.coef.specs.Coef.{at, magAt, planesOf, firstOver, IsPlanes}
 use Rattle.coef.proofs.Laws.{planes-of, planes-most, first-all, first-none}
-use Rattle.nls.specs.Stream.{stream, worstBody}
+use Rattle.nls.specs.Scan.{ask}
+use Rattle.nls.specs.Stream.{stream, after, worstBody}
 use Rattle.nls.specs.Parts.{sumTo, parts, splits, nonzeros}
-use Rattle.nls.specs.Reading.{midpoint, valueBy, highBits, precisionAt, valuesBy, precisions, planesFinished, worstError}
+use Rattle.nls.specs.Reading.{lastPlane, midpoint, valueBy, highBits, precisionAt, valuesBy, precisions, planesFinished, worstError}
 use Rattle.nls.specs.Judging.{Begins, Fits, Verdict, taken, contradiction, beyond}
 use Rattle.nls.proofs.Demands as scan
 use Rattle.nls.proofs.Counts.{stream-bound}
@@ -36,14 +39,18 @@ use Rattle.room.specs.Ready.{EncodeReady}
 use Rattle.room.proofs.Laws.{encode-ready}
 use Rattle.encoder.specs.Body.{sentBits, sentMarks, outputAfter, Loan}
 use Rattle.decoder.specs.Body.{Tables, tables, ownTables, over}
+use Rattle.decoder.specs.declared.ending.Ending.{Ending}
+use Rattle.decoder.specs.declared.ending.Ending.the-variants.{Whole, Budget, Cut}
+use Rattle.decoder.proofs.Endings.{ending-whole, ending-budget, ending-cut, whole-asks-none, none-asked-whole, some-left, whole-all, all-whole}
 use Rattle.txp.specs.declared.Header.{Header}
 use Rattle.txp.specs.declared.Encoded.{Encoded}
 use Rattle.txp.specs.declared.EncodeAnswer.{EncodeAnswer}
 use Rattle.txp.specs.declared.EncodeAnswer.the-variants as encode
+use Rattle.txp.specs.declared.Decoded.{Decoded}
 use Rattle.txp.specs.declared.DecodeAnswer.{DecodeAnswer}
 use Rattle.txp.specs.declared.DecodeAnswer.the-variants as decode
-use Rattle.txp.specs.Header.{headerSize, headerBytes, headerOf, lettersFit}
-use Rattle.txp.specs.File.{headerFor, fileOf, usableBits}
+use Rattle.txp.specs.Header.{headerSize, headerBytes, headerOf, bodyOf, lettersFit}
+use Rattle.txp.specs.File.{headerFor, fileOf, usableBits, endingOf}
 use Rattle.txp.specs.Calls.{encodeAnswer, encodeOutcome, Encodes, paddingFits, decodeChecks, decodeAnswer, DecodedFile, DecodesTo, Decodes}
 use Rattle.txp.proofs.Headers as headers
 use Rattle.txp.proofs.Headers.{header-length, letters-read, version-read, header-read, body-read}
@@ -97,6 +104,28 @@ module _ (N L : ℕ) (side : sideFits N ≡ true) (levels : levelsFit N L ≡ tr
       ap (λ (v : List Bool). valuesBy N L (planesOf A) v midpoint) (written-bits ∙ take-all budget (stream N L (planesOf A) A) h)
       ∙ scan.whole N L (planesOf A) z A size planes
 
+  -- Why its bits ended (document 02, T-06): `whole` exactly where the budget cut nothing, else `budget`
+  written-begins : Begins N L (planesOf A) A (sentBits N L A budget)
+  written-begins =
+      let s : List Bool = stream N L (planesOf A) A in
+      record { size = size; planes = planes; same = subst (λ (v : List Bool). take (length (take budget v)) s ≡ take budget v) (take-all (length s) s (omega arith)) (prefix budget (length s) s) }
+
+  pub written-whole : length (stream N L (planesOf A) A) ≤ budget
+      → endingOf (fileOf N L A budget) (length (sentBits N L A budget)) (lastPlane N L (planesOf A) (sentBits N L A budget)) ≡ Whole
+  written-whole h =
+      all-whole N L (planesOf A) (headerOf (fileOf N L A budget) .declared) (bodyOf (fileOf N L A budget)) (sentBits N L A budget) z A written-begins
+      (omega (arith, h, length-take budget (stream N L (planesOf A) A)))
+
+  pub written-budget : budget < length (stream N L (planesOf A) A)
+      → endingOf (fileOf N L A budget) (length (sentBits N L A budget)) (lastPlane N L (planesOf A) (sentBits N L A budget)) ≡ Budget
+  written-budget h =
+      let declared : headerOf (fileOf N L A budget) .declared ≡ length (sentBits N L A budget) =
+      ap (λ (x : Header). x .declared) (header-read (headerFor N L A budget) (packed (sentBits N L A budget)) fits) in
+      ending-budget (headerOf (fileOf N L A budget) .declared) (bodyOf (fileOf N L A budget)) (length (sentBits N L A budget)) (lastPlane N L (planesOf A) (sentBits N L A budget))
+      (some-left N L (planesOf A) (headerOf (fileOf N L A budget) .declared) (bodyOf (fileOf N L A budget)) (sentBits N L A budget) z A written-begins
+      (omega (arith, h, length-take budget (stream N L (planesOf A) A))))
+      (omega (arith, declared))
+
   -- A file cut after any byte of its body, or after none: no check of decoding but that of room refuses it
   module _ (k : ℕ) where
     pub cut-passes : (values precisions marks : ℕ) → roomIn (allOf N) values precisions marks ≡ true
@@ -146,15 +175,34 @@ module _ (N L : ℕ) (side : sideFits N ≡ true) (levels : levelsFit N L ≡ tr
         < 2 ^ precisionAt N L (planesOf A) (usableBits (take (headerSize + k) (fileOf N L A budget))) i
     cut-own-near i h = scan.own-near N L (planesOf A) z A (usableBits (take (headerSize + k) (fileOf N L A budget))) cut-begins midpoint midpoint-between i h
 
+    -- Cut in its body it says `cut`: each of its bytes has bits of the stream, so that not all of these are still there
+    pub cut-says : k < bytesFor (length (sentBits N L A budget))
+        → endingOf (take (headerSize + k) (fileOf N L A budget)) (length (usableBits (take (headerSize + k) (fileOf N L A budget))))
+        (lastPlane N L (planesOf A) (usableBits (take (headerSize + k) (fileOf N L A budget)))) ≡ Cut
+    cut-says h =
+        let sent : List Bool = sentBits N L A budget in
+        let file : List ℕ = take (headerSize + k) (fileOf N L A budget) in
+        let declared : headerOf file .declared ≡ length sent = ap (λ (x : Header). x .declared) cut-header in
+        let body : length (bodyOf file) ≡ min k (bytesFor (length sent)) =
+        ap (λ (f : List ℕ). length (bodyOf f)) (cut-file (headerFor N L A budget) fits sent refl k) ∙ ap (λ (s : List ℕ). length s) (body-read (headerFor N L A budget) (take k (packed sent)))
+        ∙ length-take k (packed sent) ∙ ap (λ (n : ℕ). min k n) (packed-length sent) in
+        let used : length (usableBits file) ≡ min (8 * k) (length sent) =
+        ap (λ (v : List Bool). length v) (ap usableBits (cut-file (headerFor N L A budget) fits sent refl k) ∙ cut-bits (headerFor N L A budget) fits sent refl k) ∙ length-take (8 * k) sent in
+        let fewer : 8 * k < length sent = omega (arith, h) in
+        ending-cut (headerOf file .declared) (bodyOf file) (length (usableBits file)) (lastPlane N L (planesOf A) (usableBits file))
+        (some-left N L (planesOf A) (headerOf file .declared) (bodyOf file) (usableBits file) z A cut-begins (omega (arith, used, fewer, length-take budget (stream N L (planesOf A) A))))
+        (omega (arith, declared, used, fewer))
+        (omega (arith, body, used, fewer, h))
+
     -- so whatever decoding may answer and leave, it took the bits
     pub cut-taken : (held left : Tables) (answer : DecodeAnswer) → roomIn (allOf N) (length (held .values)) (length (held .precisions)) (length (held .marks)) ≡ true
         → Decodes (take (headerSize + k) (fileOf N L A budget)) held answer left
-        → (answer ≡ decodeAnswer (headerFor N L A budget) (usableBits (take (headerSize + k) (fileOf N L A budget))) taken)
+        → (answer ≡ decodeAnswer (endingOf (take (headerSize + k) (fileOf N L A budget))) (headerFor N L A budget) (usableBits (take (headerSize + k) (fileOf N L A budget))) taken)
         × (left ≡ over (allOf N) (ownTables N L (planesOf A) (usableBits (take (headerSize + k) (fileOf N L A budget))) taken) held)
     cut-taken held left answer room d =
-        let got : DecodedFile (headerFor N L A budget) (usableBits (take (headerSize + k) (fileOf N L A budget))) held answer left =
-        subst (λ (h : Header). DecodedFile h (usableBits (take (headerSize + k) (fileOf N L A budget))) held answer left) cut-header
-        (subst (λ (o : Outcome). DecodesTo o (headerOf (take (headerSize + k) (fileOf N L A budget))) (usableBits (take (headerSize + k) (fileOf N L A budget))) held answer left)
+        let got : DecodedFile (endingOf (take (headerSize + k) (fileOf N L A budget))) (headerFor N L A budget) (usableBits (take (headerSize + k) (fileOf N L A budget))) held answer left =
+        subst (λ (h : Header). DecodedFile (endingOf (take (headerSize + k) (fileOf N L A budget))) h (usableBits (take (headerSize + k) (fileOf N L A budget))) held answer left) cut-header
+        (subst (λ (o : Outcome). DecodesTo o (endingOf (take (headerSize + k) (fileOf N L A budget))) (headerOf (take (headerSize + k) (fileOf N L A budget))) (usableBits (take (headerSize + k) (fileOf N L A budget))) held answer left)
         (cut-passes (length (held .values)) (length (held .precisions)) (length (held .marks)) room) d) in
         let v : got .verdict ≡ taken =
         scan.refused-exactly N L (planesOf A) z (usableBits (take (headerSize + k) (fileOf N L A budget))) (got .verdict) (got .judged) .1 (A, cut-begins) in
@@ -165,6 +213,12 @@ module _ (N L : ℕ) (side : sideFits N ≡ true) (levels : levelsFit N L ≡ tr
   unfolding firstOf lettersFit
   cut-early k values precisions marks h =
       rw (lt-leb headerSize (length (take k (fileOf N L A budget))) (omega (arith, h, length-take k (fileOf N L A budget))))
+
+-- the word of an answer
+told-word : (answer : DecodeAnswer) (d′ d : Decoded) → answer ≡ decode.Done d → answer ≡ decode.Done d′ → d .ending ≡ d′ .ending
+told-word answer d′ d is so =
+    let same : decode.Done d ≡ decode.Done d′ = sym is ∙ so in
+    cc
 
 -- ---- THE CALLS. Encoding, for which its contract allows the answer `r` and leaves `left` of what it is lent, answered that it is done.
 module _ (N L : ℕ) (A : List ℤ) (budget : ℕ) (held left : Loan) (r : EncodeAnswer) (encodes : Encodes N L A budget held r left) (e : Encoded) (done : r ≡ encode.Done e) where
@@ -212,7 +266,7 @@ module _ (N L : ℕ) (A : List ℤ) (budget : ℕ) (held left : Loan) (r : Encod
         (room : roomIn (allOf N) (length (given .values)) (length (given .precisions)) (length (given .marks)) ≡ true) where
       -- CUT after any byte of its body, or after none: its bits are taken, and they begin the stream of A
       pub cut-given : (k : ℕ) → Decodes (take (headerSize + k) (take (e .bytes) (left .out))) given answer after
-          → (answer ≡ decodeAnswer (headerFor N L A budget) (usableBits (take (headerSize + k) (take (e .bytes) (left .out)))) taken)
+          → (answer ≡ decodeAnswer (endingOf (take (headerSize + k) (take (e .bytes) (left .out)))) (headerFor N L A budget) (usableBits (take (headerSize + k) (take (e .bytes) (left .out)))) taken)
           × (after ≡ over (allOf N) (ownTables N L (planesOf A) (usableBits (take (headerSize + k) (take (e .bytes) (left .out)))) taken) given)
           × Begins N L (planesOf A) A (usableBits (take (headerSize + k) (take (e .bytes) (left .out))))
       cut-given k d =
@@ -221,9 +275,19 @@ module _ (N L : ℕ) (A : List ℤ) (budget : ℕ) (held left : Loan) (r : Encod
           cut-taken N L (so .side) (so .levels) A (so .whole) (so .limited) budget narrow k given after answer room (subst (λ (f : List ℕ). Decodes f given answer after) cut d) in
           rw cut (t .0, t .1, cut-begins N L (so .side) (so .levels) A (so .whole) (so .limited) budget narrow k)
 
+      -- and if bytes of its body are missing, the answer says `cut`
+      pub cut-word : (k : ℕ) → headerSize + k < e .bytes → Decodes (take (headerSize + k) (take (e .bytes) (left .out))) given answer after
+          → (d : Decoded) → answer ≡ decode.Done d → d .ending ≡ Cut
+      cut-word k h p d is =
+          let cut : take (headerSize + k) (take (e .bytes) (left .out)) ≡ take (headerSize + k) (fileOf N L A budget) = ap (λ (s : List ℕ). take (headerSize + k) s) file-stands in
+          let fewer : k < bytesFor (length (sentBits N L A budget)) = omega (arith, h, ap (λ (x : Encoded). x .bytes) (says .1)) in
+          told-word answer _ d is (cut-given k p .0)
+          ∙ ap (λ (f : List ℕ). endingOf f (length (usableBits f)) (lastPlane N L (planesOf A) (usableBits f))) cut
+          ∙ cut-says N L (so .side) (so .levels) A (so .whole) (so .limited) budget narrow k fewer
+
       module _ (decodes : Decodes (take (e .bytes) (left .out)) given answer after) where
         -- UNCUT: its bits are taken, and they are those that were written
-        pub all-taken : (answer ≡ decodeAnswer (headerFor N L A budget) (sentBits N L A budget) taken)
+        pub all-taken : (answer ≡ decodeAnswer (endingOf (fileOf N L A budget)) (headerFor N L A budget) (sentBits N L A budget) taken)
             × (after ≡ over (allOf N) (ownTables N L (planesOf A) (sentBits N L A budget) taken) given)
         all-taken =
             let file : List ℕ = fileOf N L A budget in
@@ -235,7 +299,8 @@ module _ (N L : ℕ) (A : List ℤ) (budget : ℕ) (held left : Loan) (r : Encod
             (subst (λ (f : List ℕ). Decodes f given answer after) (file-stands ∙ sym uncut) decodes) in
             let bits : usableBits (take (headerSize + k) file) ≡ sentBits N L A budget =
             ap usableBits uncut ∙ written-bits N L (so .side) (so .levels) A (so .whole) (so .limited) budget narrow in (
-              t .0 ∙ ap (λ (v : List Bool). decodeAnswer (headerFor N L A budget) v taken) bits,
+              t .0 ∙ ap (λ (f : List ℕ). decodeAnswer (endingOf f) (headerFor N L A budget) (usableBits (take (headerSize + k) file)) taken) uncut
+                  ∙ ap (λ (v : List Bool). decodeAnswer (endingOf file) (headerFor N L A budget) v taken) bits,
               t .1 ∙ ap (λ (v : List Bool). over (allOf N) (ownTables N L (planesOf A) v taken) given) bits,
             )
 
@@ -252,7 +317,7 @@ module _ (N L : ℕ) (A : List ℤ) (budget : ℕ) (held left : Loan) (r : Encod
 
         -- WHOLE, where the budget cut nothing: the array, precisions 0, the encoder's marks; all planes finished, worst error 0
         pub given-back : length (stream N L (planesOf A) A) ≤ budget
-            → (answer ≡ decode.Done (record { n = N; l = L; p = e .planes; declared = e .bits; used = e .bits; finished = e .planes; error = 0 }))
+            → (answer ≡ decode.Done (record { n = N; l = L; p = e .planes; declared = e .bits; used = e .bits; finished = e .planes; error = 0; ending = Whole }))
             × (after ≡ over (allOf N) (tables A (replicate (allOf N) 0) (sentMarks N L A budget)) given)
         given-back h =
             let P : ℕ = planesOf A in
@@ -263,10 +328,16 @@ module _ (N L : ℕ) (A : List ℤ) (budget : ℕ) (held left : Loan) (r : Encod
             let error : worstError N L P u ≡ 0 = ap (λ (v : List Bool). worstError N L P v) whole ∙ scan.whole-error N L P z A (so .whole) (planes-of A) in
             let values : valuesBy N L P u midpoint ≡ A = ap (λ (v : List Bool). valuesBy N L P v midpoint) whole ∙ scan.whole N L P z A (so .whole) (planes-of A) in
             let exact : precisions N L P u ≡ replicate (allOf N) 0 = ap (λ (v : List Bool). precisions N L P v) whole ∙ scan.whole-precisions N L P z A (so .whole) (planes-of A) in
-            let answered : decodeAnswer (headerFor N L A budget) u taken ≡ decode.Done (record { n = N; l = L; p = e .planes; declared = e .bits; used = e .bits; finished = e .planes; error = 0 }) =
+            let word : endingOf (fileOf N L A budget) (length u) (lastPlane N L P u) ≡ Whole =
+            written-whole N L (so .side) (so .levels) A (so .whole) (so .limited) budget narrow h in
+            let answered : decodeAnswer (endingOf (fileOf N L A budget)) (headerFor N L A budget) u taken ≡ decode.Done (record { n = N; l = L; p = e .planes; declared = e .bits; used = e .bits; finished = e .planes; error = 0; ending = Whole }) =
             rw (says .1) cc in
             let filled : ownTables N L P u taken ≡ tables A (replicate (allOf N) 0) (sentMarks N L A budget) = cc in
             (all-taken .0 ∙ answered, all-taken .1 ∙ ap (λ (x : Tables). over (allOf N) x given) filled)
+
+        -- and where it cut something the answer says `budget`
+        pub budget-word : budget < length (stream N L (planesOf A) A) → (d : Decoded) → answer ≡ decode.Done d → d .ending ≡ Budget
+        budget-word h d is = told-word answer _ d is (all-taken .0) ∙ written-budget N L (so .side) (so .levels) A (so .whole) (so .limited) budget narrow h
 
 -- "and the bound is reached for each N, L, P": by an array that passes checks 1 to 4
 pub reached : (N L P : ℕ) → sideFits N ≡ true → levelsFit N L ≡ true → 1 ≤ P → P ≤ mostPlanes
@@ -298,8 +369,8 @@ module _ (file : List ℕ) (held left : Tables) (answer : DecodeAnswer)
       × ((Fits (headerOf file .n) (headerOf file .l) (headerOf file .p) (usableBits file) → ⊥) → Refuses answer)
   refused-exactly = (some, none)
     where
-      got : DecodedFile (headerOf file) (usableBits file) held answer left
-      got = subst (λ (o : Outcome). DecodesTo o (headerOf file) (usableBits file) held answer left) passes decoded
+      got : DecodedFile (endingOf file) (headerOf file) (usableBits file) held answer left
+      got = subst (λ (o : Outcome). DecodesTo o (endingOf file) (headerOf file) (usableBits file) held answer left) passes decoded
 
       exact : (got .verdict ≡ taken → Fits (headerOf file .n) (headerOf file .l) (headerOf file .p) (usableBits file))
           × (Fits (headerOf file .n) (headerOf file .l) (headerOf file .p) (usableBits file) → got .verdict ≡ taken)
@@ -310,7 +381,7 @@ module _ (file : List ℕ) (held left : Tables) (answer : DecodeAnswer)
       some : Refuses answer → Fits (headerOf file .n) (headerOf file .l) (headerOf file .p) (usableBits file) → ⊥
       some refuses w =
           let v : got .verdict ≡ taken = exact .1 w in
-          let bad : decode.Refused (refuses .0) ≡ decodeAnswer (headerOf file) (usableBits file) taken = sym (refuses .1) ∙ got .answered ∙ rw v in
+          let bad : decode.Refused (refuses .0) ≡ decodeAnswer (endingOf file) (headerOf file) (usableBits file) taken = sym (refuses .1) ∙ got .answered ∙ rw v in
           let z : _≡_ {A = ℕ} 0 1 = cc in
           omega arith
 
@@ -321,3 +392,47 @@ module _ (file : List ℕ) (held left : Tables) (answer : DecodeAnswer)
 
       none : (Fits (headerOf file .n) (headerOf file .l) (headerOf file .p) (usableBits file) → ⊥) → Refuses answer
       none unfit = tell (got .verdict) refl unfit
+
+-- Why the bits of any file ended: `whole` exactly where nothing is asked after its usable bits,
+module _ (file : List ℕ) where
+  abbrev pub wordIn : Ending
+  wordIn = endingOf file (length (usableBits file)) (lastPlane (headerOf file .n) (headerOf file .l) (headerOf file .p) (usableBits file))
+
+  pub whole-exactly : (wordIn ≡ Whole → ask (allOf (headerOf file .n)) (after (headerOf file .n) (headerOf file .l) (headerOf file .p) (usableBits file)) ≡ none)
+      × (ask (allOf (headerOf file .n)) (after (headerOf file .n) (headerOf file .l) (headerOf file .p) (usableBits file)) ≡ none → wordIn ≡ Whole)
+  whole-exactly = (
+    whole-asks-none (headerOf file .n) (headerOf file .l) (headerOf file .p) (headerOf file .declared) (bodyOf file) (usableBits file),
+    none-asked-whole (headerOf file .n) (headerOf file .l) (headerOf file .p) (headerOf file .declared) (bodyOf file) (usableBits file),
+  )
+
+  -- and for any array whose stream begins with them exactly where they are all its bits, however many are declared
+  pub whole-stream : Sized (headerOf file .n) (headerOf file .l) → (A : List ℤ) → Begins (headerOf file .n) (headerOf file .l) (headerOf file .p) A (usableBits file)
+      → (wordIn ≡ Whole → length (stream (headerOf file .n) (headerOf file .l) (headerOf file .p) A) ≡ length (usableBits file))
+      × (length (stream (headerOf file .n) (headerOf file .l) (headerOf file .p) A) ≤ length (usableBits file) → wordIn ≡ Whole)
+  whole-stream z A b = (
+    whole-all (headerOf file .n) (headerOf file .l) (headerOf file .p) (headerOf file .declared) (bodyOf file) (usableBits file) z A b,
+    all-whole (headerOf file .n) (headerOf file .l) (headerOf file .p) (headerOf file .declared) (bodyOf file) (usableBits file) z A b,
+  )
+
+  -- where it is not `whole`: `budget` where as many bytes are there as the declared bits need, else `cut`
+  module _ (some : 0 < lastPlane (headerOf file .n) (headerOf file .l) (headerOf file .p) (usableBits file)) where
+    pub budget-exactly : bytesFor (headerOf file .declared) ≤ length (bodyOf file) → wordIn ≡ Budget
+    budget-exactly h =
+        ending-budget (headerOf file .declared) (bodyOf file) (length (usableBits file)) _ some
+        (omega (arith, h, bitsOf-length (min (headerOf file .declared) (8 * length (bodyOf file))) (bodyOf file)))
+
+    pub cut-exactly : length (bodyOf file) < bytesFor (headerOf file .declared) → wordIn ≡ Cut
+    cut-exactly h =
+        ending-cut (headerOf file .declared) (bodyOf file) (length (usableBits file)) _ some
+        (omega (arith, h, bitsOf-length (min (headerOf file .declared) (8 * length (bodyOf file))) (bodyOf file)))
+        (omega (arith, h, bitsOf-length (min (headerOf file .declared) (8 * length (bodyOf file))) (bodyOf file)))
+
+  -- so it is one of the three: decoding has used all usable bits
+  pub one-of-three : (wordIn ≡ Whole) ⊎ ((wordIn ≡ Budget) ⊎ (wordIn ≡ Cut))
+  one-of-three = go (lastPlane (headerOf file .n) (headerOf file .l) (headerOf file .p) (usableBits file)) refl (decLt (length (bodyOf file)) (bytesFor (headerOf file .declared)))
+    where
+      go : (l : ℕ) → lastPlane (headerOf file .n) (headerOf file .l) (headerOf file .p) (usableBits file) ≡ l → Dec (length (bodyOf file) < bytesFor (headerOf file .declared))
+          → (wordIn ≡ Whole) ⊎ ((wordIn ≡ Budget) ⊎ (wordIn ≡ Cut))
+      go zero e h = inl (ending-whole (headerOf file .declared) (bodyOf file) (length (usableBits file)) _ e)
+      go (suc l) e (yes h) = inr (inr (cut-exactly (omega (arith, e)) h))
+      go (suc l) e (no h) = inr (inl (budget-exactly (omega (arith, e)) (omega (arith, h))))

@@ -19,7 +19,7 @@ use Rattle.encoder.specs.Body.{Loan}
 use Rattle.decoder.specs.Body.{Tables}
 use Rattle.txp.specs.declared.DecodeAnswer.{DecodeAnswer}
 use Rattle.txp.specs.Header.{headerSize, lettersFit, versionFits, headerOf, bodyOf}
-use Rattle.txp.specs.File.{usableBits}
+use Rattle.txp.specs.File.{usableBits, endingOf}
 use Rattle.txp.specs.Calls.{encodeOutcome, headerChecks, bodyChecks, decodeChecks, DecodesTo, Decodes}
 
 -- the largest N before T-02
@@ -48,7 +48,7 @@ module _ (file : List ℕ) where
     -- what `Decodes` says, where the largest N is `most`
     abbrev pub DecodesUpTo : ℕ → Type 0
     DecodesUpTo most =
-        DecodesTo (outcomeTo most (headerOf file .n) (decodeChecks file (length (held .values)) (length (held .precisions)) (length (held .marks)))) (headerOf file) (usableBits file) held answer left
+        DecodesTo (outcomeTo most (headerOf file .n) (decodeChecks file (length (held .values)) (length (held .precisions)) (length (held .marks)))) (endingOf file) (headerOf file) (usableBits file) held answer left
 
     -- it is `Decodes` for the limit in use
     pub up-to-most : DecodesUpTo mostN → Decodes file held answer left
@@ -62,7 +62,7 @@ module _ (file : List ℕ) where
     -- and the same for all that admit the file's N
     pub decodes-any : (a b : ℕ) → headerOf file .n ≤ a → headerOf file .n ≤ b → DecodesUpTo a → DecodesUpTo b
     decodes-any a b h k =
-        subst (λ (o : Outcome). DecodesTo o (headerOf file) (usableBits file) held answer left)
+        subst (λ (o : Outcome). DecodesTo o (endingOf file) (headerOf file) (usableBits file) held answer left)
         (same-outcome (headerOf file .n) (decodeChecks file (length (held .values)) (length (held .precisions)) (length (held .marks))) a b h k)
 
     -- DECODING AS BEFORE: with 8 as the largest N a file of N up to 8 is answered, and leaves, what it does now

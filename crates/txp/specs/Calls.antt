@@ -8,11 +8,11 @@ use Rattle.refusals.specs.declared.Outcome.the-variants as outcome
 use Rattle.sizes.specs.Sizes.{allOf}
 use Rattle.bits.specs.Bits.{bytesFor}
 use Rattle.coef.specs.Coef.{planesOf}
-use Rattle.nls.specs.{Reading.planesFinished, Reading.worstError, Judging.Verdict, Judging.taken, Judging.contradiction, Judging.beyond, Judging.Judged}
+use Rattle.nls.specs.{Reading.lastPlane, Reading.planesFinished, Reading.worstError, Judging.Verdict, Judging.taken, Judging.contradiction, Judging.beyond, Judging.Judged}
 use Rattle.room.specs.Room.{worstChecks, tableChecks}
 use Rattle.encoder.specs.Body.{sentBits, Loan, writeOutcome, lentTo}
-use Rattle.decoder.specs.Body.{Tables, ownTables, over}
-use Rattle.txp.specs.{declared.Header.Header, declared.HeaderAnswer.HeaderAnswer, declared.EncodeAnswer.EncodeAnswer, declared.DecodeAnswer.DecodeAnswer, Header.headerSize, Header.lettersFit, Header.versionFits, Header.headerOf, Header.bodyOf, File.fileOf, File.usableBits}
+use Rattle.decoder.specs.{Body.Tables, Body.ownTables, Body.over, declared.ending.Ending.Ending}
+use Rattle.txp.specs.{declared.Header.Header, declared.HeaderAnswer.HeaderAnswer, declared.EncodeAnswer.EncodeAnswer, declared.DecodeAnswer.DecodeAnswer, Header.headerSize, Header.lettersFit, Header.versionFits, Header.headerOf, Header.bodyOf, File.fileOf, File.usableBits, File.endingOf}
 use Rattle.txp.specs.declared.HeaderAnswer.the-variants as header
 use Rattle.txp.specs.declared.EncodeAnswer.the-variants as encode
 use Rattle.txp.specs.declared.DecodeAnswer.the-variants as decode
@@ -61,9 +61,9 @@ abbrev pub headerAnswer : Outcome → Header → HeaderAnswer
 headerAnswer outcome.Done h = header.Done h
 headerAnswer (outcome.Refused why) h = header.Refused why
 
--- by the header, the usable bits and the verdict on them
-abbrev pub decodeAnswer : Header → List Bool → Verdict → DecodeAnswer
-decodeAnswer h u taken =
+-- by the header, the usable bits and the verdict on them; `word` has why the bits ended, by the bits used and the planes left
+abbrev pub decodeAnswer : (ℕ → ℕ → Ending) → Header → List Bool → Verdict → DecodeAnswer
+decodeAnswer word h u taken =
     decode.Done
     (record {
       n = h .n;
@@ -73,22 +73,23 @@ decodeAnswer h u taken =
       used = length u;
       finished = planesFinished (h .n) (h .l) (h .p) u;
       error = worstError (h .n) (h .l) (h .p) u;
+      ending = word (length u) (lastPlane (h .n) (h .l) (h .p) u);
     })
-decodeAnswer h u (contradiction bit) = decode.Refused (refusal.Contradiction bit)
-decodeAnswer h u (beyond bit) = decode.Refused (refusal.Beyond bit)
+decodeAnswer word h u (contradiction bit) = decode.Refused (refusal.Contradiction bit)
+decodeAnswer word h u (beyond bit) = decode.Refused (refusal.Beyond bit)
 
 -- a call whose checks all hold: the verdict on the usable bits decides the answer and the tables
-pub record DecodedFile (h : Header) (u : List Bool) (held : Tables) (answer : DecodeAnswer) (left : Tables) : Type 0 where
+pub record DecodedFile (word : ℕ → ℕ → Ending) (h : Header) (u : List Bool) (held : Tables) (answer : DecodeAnswer) (left : Tables) : Type 0 where
   pub verdict : Verdict
   pub judged : Judged (h .n) (h .l) (h .p) u verdict
-  pub answered : answer ≡ decodeAnswer h u verdict
+  pub answered : answer ≡ decodeAnswer word h u verdict
   pub filled : left ≡ over (allOf (h .n)) (ownTables (h .n) (h .l) (h .p) u verdict) held
 
 -- any call, by the outcome of the checks; "Numbers 1 to 11 touch no lent byte"
-abbrev pub DecodesTo : Outcome → Header → List Bool → Tables → DecodeAnswer → Tables → Type 0
-DecodesTo outcome.Done h u held answer left = DecodedFile h u held answer left
-DecodesTo (outcome.Refused why) h u held answer left = (answer ≡ decode.Refused why) × (left ≡ held)
+abbrev pub DecodesTo : Outcome → (ℕ → ℕ → Ending) → Header → List Bool → Tables → DecodeAnswer → Tables → Type 0
+DecodesTo outcome.Done word h u held answer left = DecodedFile word h u held answer left
+DecodesTo (outcome.Refused why) word h u held answer left = (answer ≡ decode.Refused why) × (left ≡ held)
 
 abbrev pub Decodes : List ℕ → Tables → DecodeAnswer → Tables → Type 0
 Decodes file held answer left =
-    DecodesTo (firstOf (decodeChecks file (length (held .values)) (length (held .precisions)) (length (held .marks)))) (headerOf file) (usableBits file) held answer left
+    DecodesTo (firstOf (decodeChecks file (length (held .values)) (length (held .precisions)) (length (held .marks)))) (endingOf file) (headerOf file) (usableBits file) held answer left

@@ -6,6 +6,7 @@ use Rattle.bits.specs.Bits.{packed}
 use Rattle.coef.specs.Coef.{planesOf}
 use Rattle.room.specs.Room as room
 use Rattle.encoder.specs.Body.{sentBits}
+use Rattle.decoder.specs.{Ending.ending, declared.ending.Ending.Ending}
 use Rattle.txp.specs.{declared.Header.Header, Header.headerBytes, Header.headerOf, Header.bodyOf}
 
 -- the header of an array's file
@@ -19,3 +20,7 @@ fileOf N L A budget = headerBytes (headerFor N L A budget) ++ packed (sentBits N
 -- the usable bits of a file: of its declared bits those that are present
 abbrev pub usableBits : List ℕ → List Bool
 usableBits file = room.bodyBits (headerOf file .declared) (bodyOf file)
+
+-- why a file's bits ended, by the bits used and the planes left
+abbrev pub endingOf : List ℕ → ℕ → ℕ → Ending
+endingOf file = ending (headerOf file .declared) (bodyOf file)

@@ -7,5 +7,5 @@ use Rattle.txp.specs.declared.DecodeAnswer.the-variants as decode
 
 abbrev pub withHeader : Header → ReadAnswer → DecodeAnswer
 withHeader h (read.Done r) =
-    decode.Done (record { n = h .n; l = h .l; p = h .p; declared = h .declared; used = r .used; finished = r .finished; error = r .error })
+    decode.Done (record { n = h .n; l = h .l; p = h .p; declared = h .declared; used = r .used; finished = r .finished; error = r .error; ending = r .ending })
 withHeader h (read.Refused why) = decode.Refused why

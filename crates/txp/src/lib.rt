@@ -1,4 +1,5 @@
 // The TXP file: its header, and the public calls.
+use decoder::Ending;
 use refusals::Outcome;
 use refusals::Refusal;
 ghost use mathlib.Core.Path.{_≡_};
@@ -46,7 +47,7 @@ pub enum EncodeAnswer {
     Refused(Refusal),
 }
 
-// What the header says, the bits used, the planes finished and the worst error.
+// What the header says, the bits used, the planes finished, the worst error, and why the bits ended.
 pub struct Decoded {
     pub n: u32,
     pub l: u32,
@@ -55,6 +56,7 @@ pub struct Decoded {
     pub used: u32,
     pub finished: u32,
     pub error: u32,
+    pub ending: Ending,
 }
 
 // What `decode` answers.
@@ -267,15 +269,19 @@ fn with_header(h: Header, body: decoder::ReadAnswer) -> DecodeAnswer
     ensures { λ r. ⌜ r ≡ withHeader h body ⌝ }
 {
     match body {
-        decoder::ReadAnswer::Done(read) => DecodeAnswer::Done(Decoded {
-            n: h.n,
-            l: h.l,
-            p: h.p,
-            declared: h.declared,
-            used: read.used,
-            finished: read.finished,
-            error: read.error,
-        }),
+        decoder::ReadAnswer::Done(read) => {
+            let ending = read.ending;
+            DecodeAnswer::Done(Decoded {
+                n: h.n,
+                l: h.l,
+                p: h.p,
+                declared: h.declared,
+                used: read.used,
+                finished: read.finished,
+                error: read.error,
+                ending,
+            })
+        }
         decoder::ReadAnswer::Refused(why) => DecodeAnswer::Refused(why),
     }
 }

@@ -29,17 +29,17 @@ abbrev pub Fields : Type 0
 Fields = RefT (List ℕ) × (ℕ × (ℕ × Unit {0}))
 
 abbrev pub fields : BitView → Fields
-fields d = (d .body, (d .at, (d .end, tt)))
+fields d = (d .body, (d .at, (d .declared, tt)))
 
 abbrev pub slice : RefT (List ℕ) → Val
 slice s = sliceVal (s .ptr) (length (s .now))
 
 abbrev pub vals : BitView → List Val × (List Val × (List Val × Unit {0}))
-vals d = (slice (d .body) ∷ [], (vint w64 (d .at) ∷ [], (vint w64 (d .end) ∷ [], tt)))
+vals d = (slice (d .body) ∷ [], (vint w64 (d .at) ∷ [], (vint w64 (d .declared) ∷ [], tt)))
 
 -- the view at another number
 abbrev pub put : BitView → ℕ → BitView
-put d n = record { body = d .body; at = n; end = d .end }
+put d n = record { body = d .body; at = n; declared = d .declared }
 
 -- what a view owns, and what its fields own
 abbrev pub Own : NamedLft → BitView → Fml

@@ -32,7 +32,7 @@ returns : tie.Need-returns
 returns c =
     let a = c .before .before .before .before .before .before .before .before .before .before .before .before .before .before .before .before .before .before .before .before .args in
     let step = c .before .before .before .before .before .before .before .before .before .before .before .take-turn in
-    record { said = step .result .answer; moved = step .result .dial; turns = step-from (Turns (a .usable) (a .to) (a .body .now)) (c .before .before .before .before .before .before .before .before .before .before .before .before .before .before .before .dial-of .ensures) (step .ensures); recorded = c .before .before .before .put-dial .ensures; answers = answers-by (c .put .result) _ (c .before .of-read .ensures) (c .put .ensures) }
+    record { said = step .result .answer; moved = step .result .dial; turns = step-from (Turns (a .declared) (a .to) (a .body .now)) (c .before .before .before .before .before .before .before .before .before .before .before .before .before .before .before .dial-of .ensures) (step .ensures); recorded = c .before .before .before .put-dial .ensures; answers = answers-by (c .put .result) _ (c .before .of-read .ensures) (c .put .ensures) }
 
 pub txp-turn-spec : {M : Type 1} → statement M
 txp-turn-spec =

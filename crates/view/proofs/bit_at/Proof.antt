@@ -12,13 +12,13 @@ returns : tie.Need-returns
 unfolding viewed
 returns c =
     let a = c .before .before .before .args in
-    rw (lt-ltb (a .at) (a .end) (omega (arith, c .before .if1 .taken))) (c .fetch .ensures)
+    rw (lt-ltb (a .at) (a .declared) (omega (arith, c .before .if1 .taken))) (c .fetch .ensures)
 
 returns-2 : tie.Need-returns-2
 unfolding viewed
 returns-2 c =
     let a = c .before .before .args in
-    rw (le-ltb (a .at) (a .end) (omega (arith, c .if1 .left)))
+    rw (le-ltb (a .at) (a .declared) (omega (arith, c .if1 .left)))
 
 pub bit-at-spec : {M : Type 1} → statement M
 bit-at-spec = tie.close (tie.spec fetch-requires returns returns-2)

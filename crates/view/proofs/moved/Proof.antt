@@ -1,4 +1,4 @@
--- `view::moved` meets its contract: a walk of its MIR, by hand. `take_at` is called on the slice and the numbers that the struct holds, and a struct is made anew of the same slice, the number that the answer has, and the same end. All that the proof knows of `take_at` is that it meets its contract.
+-- `view::moved` meets its contract: a walk of its MIR, by hand. `take_at` is called on the slice and the numbers that the struct holds, and a struct is made anew of the same slice, the number that the answer has, and the same count. All that the proof knows of `take_at` is that it meets its contract.
 -- The struct is Copy: of what it owns one copy is what the callee asks, beside the lifetime's token, which comes back, one is kept whole for the exit, and one, with the facts of the new number in the place of at's, is what the result owns.
 use mathlib.Core.Path.{_≡_, refl, ap}
 use Prim.Native.Nat.{_<_, _^_}
@@ -72,7 +72,7 @@ module _ {M : Type 1} (𝓤 : URA M) (H : Heap 𝓤) (A : Atoms 𝓤) (W : Given
 
   -- what `take_at` says of its answer
   abbrev Said : Taken → Type 0
-  Said r = (r .next ≡ viewed (now (d .body)) (d .at) (d .end)) × (r .at ≡ movedTo (now (d .body)) (d .at) (d .end))
+  Said r = (r .next ≡ viewed (now (d .body)) (d .at) (d .declared)) × (r .at ≡ movedTo (now (d .body)) (d .at) (d .declared))
 
   abbrev Post : Val → SProp 𝓤
   Post = walkOf 𝓤 H A moved.ended stayed (moved.clauses 𝓤 H A mem run) .post (((κ, tt), (q, tt), tt, (d, tt), (mach ∷ [], tt)), tt)

@@ -70,7 +70,7 @@ module _ {M : Type 1} (𝓤 : URA M) (H : Heap 𝓤) (A : Atoms 𝓤) (W : Given
   mach = T′.lowered d
 
   abbrev found : Next
-  found = viewed (now (d .body)) (d .at) (d .end)
+  found = viewed (now (d .body)) (d .at) (d .declared)
 
   abbrev Post : Val → SProp 𝓤
   Post = walkOf 𝓤 H A next-bit.ended stayed (next-bit.clauses 𝓤 H A mem run) .post (((κ, tt), (q, tt), tt, (d, tt), (mach ∷ [], tt)), tt)

@@ -60,7 +60,7 @@ abbrev NextBit : {M : Type 1} (𝓤 : URA M) (H : Heap 𝓤) (A : Atoms 𝓤) (m
 NextBit 𝓤 H A mem run = tripleOf 𝓤 H A next-bit.signature (next-bit.spec 𝓤 H A mem run)
 
 -- d is the view that is made
-module _ {M : Type 1} (𝓤 : URA M) (H : Heap 𝓤) (A : Atoms 𝓤) (W : Given 𝓤 H A) (mem : Memory → SProp 𝓤) (run : Routine → Fun 𝓤) (κ : Lft) (q : Share) (d : BitView) (at-fits : d .at < 2 ^ 64) (end-fits : d .end < 2 ^ 64) where
+module _ {M : Type 1} (𝓤 : URA M) (H : Heap 𝓤) (A : Atoms 𝓤) (W : Given 𝓤 H A) (mem : Memory → SProp 𝓤) (run : Routine → Fun 𝓤) (κ : Lft) (q : Share) (d : BitView) (at-fits : d .at < 2 ^ 64) (declared-fits : d .declared < 2 ^ 64) where
   abbrev α : NamedLft
   α = namedLft 1 0 tt (κ, tt)
 
@@ -69,7 +69,7 @@ module _ {M : Type 1} (𝓤 : URA M) (H : Heap 𝓤) (A : Atoms 𝓤) (W : Given
   mach = T′.lowered d
 
   abbrev found : Next
-  found = viewed (now (d .body)) (d .at) (d .end)
+  found = viewed (now (d .body)) (d .at) (d .declared)
 
   abbrev Post : Val → SProp 𝓤
   Post = walkOf 𝓤 H A read.ended stayed (read.clauses 𝓤 H A mem run) .post (((κ, tt), (q, tt), tt, fields d, vals d), tt)
@@ -101,18 +101,18 @@ module _ {M : Type 1} (𝓤 : URA M) (H : Heap 𝓤) (A : Atoms 𝓤) (W : Given
       qed W (‵ (S.the-row .own r (u ∷ [])) ∷ (‵ (flft κ q) ⊛ ‵ ftrue) ∷ ‵ Lent ∷ []) ∵
       suffices ! _ (ends-at 𝓤 H A read.ended stayed (read.clauses 𝓤 H A mem run) W (((κ, tt), (q, tt), tt, fields d, vals d), tt) u r (tt, (tt, (tt, tt))) (tt, (tt, (tt, tt)))) $ says ! e $
       move ! (1 ∷ []) $ frame ! $
-      nothing ! $ owned ! usize (Is usize) (uint-makes 𝓤 H A W w64) (d .end) _ (refl, end-fits) $ fjoin ! $ owned ! usize (Is usize) (uint-makes 𝓤 H A W w64) (d .at) _ (refl, at-fits) $ fjoin ! $
+      nothing ! $ owned ! usize (Is usize) (uint-makes 𝓤 H A W w64) (d .declared) _ (refl, declared-fits) $ fjoin ! $ owned ! usize (Is usize) (uint-makes 𝓤 H A W w64) (d .at) _ (refl, at-fits) $ fjoin ! $
       move ! (2 ∷ 0 ∷ []) $ fjoin ! $ frame ! $ done !
 
   module _ (C : Calls 𝓤 H) (Λ : Loops 𝓤 H) (fm : FmC 𝓤 H (W .laws) C) (known : Triple 𝓤 (C #view·next-bit) (NextBit 𝓤 H A mem run)) where
-    walk : Is (ShrSlice (named 0) κ u8) (d .body) (slice (d .body) ∷ []) → ent 𝓤 (onEntry 𝓤 H A read.signature (κ, tt) (q, tt) (fields d) (vals d)) (WpFn 𝓤 H C Λ code.function (slice (d .body) ∷ vint w64 (d .at) ∷ vint w64 (d .end) ∷ []) Post)
+    walk : Is (ShrSlice (named 0) κ u8) (d .body) (slice (d .body) ∷ []) → ent 𝓤 (onEntry 𝓤 H A read.signature (κ, tt) (q, tt) (fields d) (vals d)) (WpFn 𝓤 H C Λ code.function (slice (d .body) ∷ vint w64 (d .at) ∷ vint w64 (d .declared) ∷ []) Post)
     walk p =
-        qed W (raw (onEntry 𝓤 H A read.signature (κ, tt) (q, tt) (fields d) (vals d)) ∷ []) ∵ enter ! C Λ code.function (slice (d .body) ∷ vint w64 (d .at) ∷ vint w64 (d .end) ∷ []) _ $
+        qed W (raw (onEntry 𝓤 H A read.signature (κ, tt) (q, tt) (fields d) (vals d)) ∷ []) ∵ enter ! C Λ code.function (slice (d .body) ∷ vint w64 (d .at) ∷ vint w64 (d .declared) ∷ []) _ $
         alloc1 ! (λ l₀. alloc1 ! (λ l₁. alloc1 ! (λ l₂. alloc1 ! (λ l₃. alloc1 ! (λ l₄. alloc0 ! $ params1 ! $
-        pass1 ! (init ! 6 refl (shr-slice-lawful 𝓤 H A W (named 0) κ u8 .typed (d .body) (slice (d .body) ∷ []) p .0)) $ pass1 ! (init ! 4 refl (tt, record { fits = at-fits })) $ pass1 ! (init ! 2 refl (tt, record { fits = end-fits })) $ pass0 ! $
+        pass1 ! (init ! 6 refl (shr-slice-lawful 𝓤 H A W (named 0) κ u8 .typed (d .body) (slice (d .body) ∷ []) p .0)) $ pass1 ! (init ! 4 refl (tt, record { fits = at-fits })) $ pass1 ! (init ! 2 refl (tt, record { fits = declared-fits })) $ pass0 ! $
         -- [_4; …; _3; …; _2; …; _1; …; room for _0; …; what is had on entry]
         assigns ! (agg ! (and-then ! (load ! (from ! (stop !)) (look ! 6 refl)) (and-then ! (load ! (from ! (stop !)) (look ! 4 refl)) (and-then ! (load ! (from ! (stop !)) (look ! 2 refl)) (no-more !))))) (from ! (stop !))
-        (init ! 0 refl (tt, (shr-slice-lawful 𝓤 H A W (named 0) κ u8 .typed (d .body) (slice (d .body) ∷ []) p .0 .1, (record { fits = at-fits }, (record { fits = end-fits }, tt))))) $
+        (init ! 0 refl (tt, (shr-slice-lawful 𝓤 H A W (named 0) κ u8 .typed (d .body) (slice (d .body) ∷ []) p .0 .1, (record { fits = at-fits }, (record { fits = declared-fits }, tt))))) $
         move ! (10 ∷ []) $ use1 W (raw (NextBit 𝓤 H A mem run .pre to) ⊛ ‵ Lent) goes $ split ! $
         calls-at ! fm (NextBit 𝓤 H A mem run) known to (and-then ! (load ! (from ! (stop !)) (look ! 2 refl)) (no-more !)) (λ u.
         use1 W (later (some (λ (r : Next). ((‵ (flft κ q) ⊛ ‵ ftrue) ⊛ ‵ (S.the-row .own r (u ∷ []))) ⊛ raw (ensured 𝓤 H A next-bit.ended (next-bit.clauses 𝓤 H A mem run) (κ, tt) (d, tt) tt r)))) (id⊢ 𝓤 _) $ await ! tt $ pick ! (λ r.
@@ -130,7 +130,7 @@ module _ {M : Type 1} (𝓤 : URA M) (H : Heap 𝓤) (A : Atoms 𝓤) (W : Given
   read-walks C Λ fm known =
       walked 𝓤 H A read.ended stayed (read.clauses 𝓤 H A mem run) (WpFn 𝓤 H C Λ code.function)
       (λ κs. (slice-vals, (uint-vals w64, (uint-vals w64, tt)))) (λ κs. (shr-slice-tells (named 0) (κs .0) u8, (uint-tells w64, (uint-tells w64, tt))))
-      (λ κs qs bounds a g are. via 𝓤 _ (fst∗ 𝓤 _ (emp 𝓤)) (walk 𝓤 H A W mem run (κs .0) (qs .0) (record { body = a .0; at = a .1 .0; end = a .1 .1 .0 }) (are .1 .0 .1) (are .1 .1 .0 .1) C Λ fm known (are .0)))
+      (λ κs qs bounds a g are. via 𝓤 _ (fst∗ 𝓤 _ (emp 𝓤)) (walk 𝓤 H A W mem run (κs .0) (qs .0) (record { body = a .0; at = a .1 .0; declared = a .1 .1 .0 }) (are .1 .0 .1) (are .1 .1 .0 .1) C Λ fm known (are .0)))
 
 read-meets : {M : Type 1} (𝓤 : URA M) (H : Heap 𝓤) (A : Atoms 𝓤) → Given 𝓤 H A → (mem : Memory → SProp 𝓤) (run : Routine → Fun 𝓤) (𝓣 : Tables 𝓤 H) → Triple 𝓤 (𝓣 .C #view·next-bit) (NextBit 𝓤 H A mem run)
     → Meets 𝓤 H A read.signature (WpFn 𝓤 H (𝓣 .C) (𝓣 .Λ) code.function) (read.spec 𝓤 H A mem run)

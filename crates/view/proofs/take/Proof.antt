@@ -86,7 +86,7 @@ module _ {M : Type 1} (𝓤 : URA M) (H : Heap 𝓤) (A : Atoms 𝓤) (W : Given
 
   -- what `take_at` says of its answer
   abbrev Said : Taken → Type 0
-  Said r = (r .next ≡ viewed (now (h .body)) (h .at) (h .end)) × (r .at ≡ movedTo (now (h .body)) (h .at) (h .end))
+  Said r = (r .next ≡ viewed (now (h .body)) (h .at) (h .declared)) × (r .at ≡ movedTo (now (h .body)) (h .at) (h .declared))
 
   abbrev Post : Val → SProp 𝓤
   Post = walkOf 𝓤 H A take.ended stayed (take.clauses 𝓤 H A at-mem run) .post (((κ, (κ′, tt)), (q, (q′, tt)), bounds, x, at), tt)

@@ -14,14 +14,14 @@ bit-at-requires c κs = search needs
 enum-known-x : tie.Need-enum-known-x
 enum-known-x c = search needs
 
-add-t8 : tie.Need-add-t8
-add-t8 c =
+add-t9 : tie.Need-add-t9
+add-t9 c =
     let a = c .before .before .before .before .before .args in
     let e = sym (c .before .before .before .bit-at .ensures) ∙ c .before .x .given .1 in
-    omega (arith, viewed-within (now (a .body)) (a .at) (a .end) _ e, c .before .before .before .before .before .fits .end)
+    omega (arith, viewed-within (now (a .body)) (a .at) (a .declared) _ e, c .before .before .before .before .before .fits .declared)
 
-enum-told : tie.Need-enum-told
-enum-told c = search needs
+enum-known-why : tie.Need-enum-known-why
+enum-known-why c = search needs
 
 returns : tie.Need-returns
 returns c =
@@ -31,9 +31,9 @@ returns c =
 
 returns-2 : tie.Need-returns-2
 returns-2 c =
-    let a = c .before .before .before .before .args in
-    let e = sym (c .enum-told .given .1) ∙ c .before .before .bit-at .ensures in
+    let a = c .before .before .before .before .before .args in
+    let e = sym (c .before .why .given .1) ∙ c .before .before .before .bit-at .ensures in
     (e, ap (λ (n : Next). nextAfter n (a .at)) e)
 
 pub take-at-spec : {M : Type 1} → statement M
-take-at-spec = tie.close (tie.spec bit-at-requires enum-known-x add-t8 enum-told returns returns-2)
+take-at-spec = tie.close (tie.spec bit-at-requires enum-known-x add-t9 enum-known-why returns returns-2)

@@ -9,6 +9,7 @@ use Rattle.refusals.specs.declared.Outcome.{Outcome}
 use Rattle.sizes.specs.Sizes.{allOf}
 use Rattle.room.specs.Room.{bodyBits}
 use Rattle.room.proofs.Laws.{DecodeReady, decode-ready}
+use Rattle.decoder.specs.Ending.{ending}
 use Rattle.decoder.specs.Body.{tables, ReadsTo}
 use Rattle.decoder.specs.declared.body.ReadAnswer.the-variants.{Refused}
 use Rattle.decoder.proofs.DecodeLaws.{decoded-back}
@@ -88,15 +89,15 @@ returns c =
     let v = k .last .1 .1 .1 .1 .1 .0 in
     let q = k .last .1 .1 .1 .1 .1 .1 .0 in
     let m = k .last .1 .1 .1 .1 .1 .1 .1 .0 in
-    subst (λ (x : Outcome). ReadsTo x (a .n) (a .l) (a .p) (bodyBits (a .usable) (a .body .now)) (tables (a .values .now) (a .precisions .now) (a .marks .now)) (k .result) (tables (v ++ drop all (a .values .now)) (q ++ drop all (a .precisions .now)) (m ++ drop all (a .marks .now))))
+    subst (λ (x : Outcome). ReadsTo x (ending (a .declared) (a .body .now)) (a .n) (a .l) (a .p) (bodyBits (a .declared) (a .body .now)) (tables (a .values .now) (a .precisions .now) (a .marks .now)) (k .result) (tables (v ++ drop all (a .values .now)) (q ++ drop all (a .precisions .now)) (m ++ drop all (a .marks .now))))
     (sym (c .before .before .before .before .before .before .before .before .before .before .enum-told .given .1) ∙ c .before .before .before .before .before .before .before .before .before .before .before .before .check-decode .ensures)
-    (decoded-back (a .n) (a .l) (a .p) (min (a .usable) (8 * length (a .body .now))) (a .usable) all (a .body .now) (a .values .now) (a .precisions .now) (a .marks .now) (k .result) v q m
+    (decoded-back (ending (a .declared) (a .body .now)) (a .n) (a .l) (a .p) (min (a .declared) (8 * length (a .body .now))) (a .declared) all (a .body .now) (a .values .now) (a .precisions .now) (a .marks .now) (k .result) v q m
     refl e (omega (arith, e, r .valuesRoom)) (omega (arith, e, r .precisionsRoom)) (omega (arith, e, r .marksRoom)) (k .ensures))
 
 returns-2 : tie.Need-returns-2
 returns-2 c =
     let a = c .before .before .before .before .before .before .before .args in
-    subst (λ (x : Outcome). ReadsTo x (a .n) (a .l) (a .p) (bodyBits (a .usable) (a .body .now)) (tables (a .values .now) (a .precisions .now) (a .marks .now)) (Refused (c .before .why .given .0 .0)) (tables (a .values .now) (a .precisions .now) (a .marks .now)))
+    subst (λ (x : Outcome). ReadsTo x (ending (a .declared) (a .body .now)) (a .n) (a .l) (a .p) (bodyBits (a .declared) (a .body .now)) (tables (a .values .now) (a .precisions .now) (a .marks .now)) (Refused (c .before .why .given .0 .0)) (tables (a .values .now) (a .precisions .now) (a .marks .now)))
     (sym (c .before .why .given .1) ∙ c .before .before .before .check-decode .ensures)
     (refl, refl)
 

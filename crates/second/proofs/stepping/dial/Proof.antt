@@ -6,10 +6,10 @@ use Rattle.second.proofs.stepping.dial.Statement.{statement}
 use Rattle.second.proofs.stepping.dial.Tie as tie
 
 abbrev Inv-loop : tie.InvT-loop
-Inv-loop commands record₀ body values₀ precisions₀ marks₀ answer₀ usable result₀ i₀ «record» values precisions marks answer result i = (i ≤ length commands) × ((length values ≡ length values₀) × ((length precisions ≡ length precisions₀) × (length marks ≡ length marks₀)))
+Inv-loop commands record₀ body values₀ precisions₀ marks₀ answer₀ declared result₀ i₀ «record» values precisions marks answer result i = (i ≤ length commands) × ((length values ≡ length values₀) × ((length precisions ≡ length precisions₀) × (length marks ≡ length marks₀)))
 
 abbrev μ-loop : tie.MeasureT-loop
-μ-loop commands record₀ body values₀ precisions₀ marks₀ answer₀ usable result₀ i₀ «record» values precisions marks answer result i = length commands - i
+μ-loop commands record₀ body values₀ precisions₀ marks₀ answer₀ declared result₀ i₀ «record» values precisions marks answer result i = length commands - i
 
 txp-start-requires : tie.Need-txp-start-requires Inv-loop μ-loop
 txp-start-requires c κs = search needs

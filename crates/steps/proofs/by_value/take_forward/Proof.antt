@@ -5,8 +5,9 @@ use borrow.Author.Needs.{needs}
 use lib.ListN.{length}
 use Rattle.refusals.specs.declared.Outcome.the-variants as outcome
 use Rattle.decoder.specs.Body.{tables}
+use Rattle.steps.specs.Steps.{usableBits}
 use Rattle.steps.specs.Ready.{CallReady}
-use Rattle.steps.proofs.CallLaws.{outcomeFor, call-ready, forward-refused, forward-at-end, forward-moved}
+use Rattle.steps.proofs.CallLaws.{outcomeFor, usable-ready, forward-refused, forward-at-end, forward-moved}
 use Rattle.steps.proofs.Follows.{forwards}
 use Rattle.steps.proofs.by_value.take_forward.Statement.{statement}
 use Rattle.steps.proofs.by_value.take_forward.Tie as tie
@@ -15,8 +16,8 @@ use Rattle.steps.proofs.by_value.take_forward.Tie as tie
 checked : (c : tie.After-enum-told) → let a = c .before .before .before .before .before .before .before .args in outcome.Done ≡ outcomeFor (a .dial) (tables (a .values .now) (a .precisions .now) (a .marks .now)) (c .before .before .before .usable-of .result)
 checked c = sym (c .enum-told .given .1) ∙ c .before .before .check .ensures
 
-ready : (c : tie.After-enum-told) → let a = c .before .before .before .before .before .before .before .args in CallReady (a .dial) (c .before .before .before .usable-of .result) (length (a .values .now)) (length (a .precisions .now)) (length (a .marks .now))
-ready c = let a = c .before .before .before .before .before .before .before .args in call-ready (a .dial) (c .before .before .before .usable-of .result) (length (a .values .now)) (length (a .precisions .now)) (length (a .marks .now)) (checked c)
+ready : (c : tie.After-enum-told) → let a = c .before .before .before .before .before .before .before .args in CallReady (a .dial) (usableBits (a .declared) (a .body .now)) (length (a .values .now)) (length (a .precisions .now)) (length (a .marks .now))
+ready c = let a = c .before .before .before .before .before .before .before .args in usable-ready (a .declared) (a .body .now) (a .dial) (tables (a .values .now) (a .precisions .now) (a .marks .now)) _ (c .before .before .before .usable-of .ensures) (checked c)
 
 usable-of-requires : tie.Need-usable-of-requires
 usable-of-requires c κs = search needs
@@ -31,13 +32,13 @@ returns : tie.Need-returns
 returns c =
     let a = c .before .before .before .before .before .before .before .before .before .args in
     let held = tables (a .values .now) (a .precisions .now) (a .marks .now) in
-    forwards (forward-at-end (a .usable) (a .body .now) (a .dial) held (c .before .before .before .before .before .usable-of .result) (c .before .before .before .before .before .usable-of .ensures) (checked (c .before .before)) (c .if1 .taken))
+    forwards (forward-at-end (a .declared) (a .body .now) (a .dial) held (c .before .before .before .before .before .usable-of .result) (c .before .before .before .before .before .usable-of .ensures) (checked (c .before .before)) (c .if1 .taken))
 
 add-climb-own : tie.Need-add-climb-own
-add-climb-own c = omega (arith, ready (c .before .before .before) .few, c .before .if1 .left, c .before .before .before .before .before .before .usable-of .ensures, c .before .before .before .before .before .before .before .before .before .before .fits .usable)
+add-climb-own c = omega (arith, ready (c .before .before .before) .few, c .before .if1 .left, c .before .before .before .before .before .before .usable-of .ensures, c .before .before .before .before .before .before .before .before .before .before .fits .declared)
 
 climb-own-requires : tie.Need-climb-own-requires
-climb-own-requires c κs = (ready (c .before .before .before .before .before .before), omega (arith, c .before .before .before .before .before .before .before .before .before .usable-of .ensures))
+climb-own-requires c κs = ready (c .before .before .before .before .before .before)
 
 enum-known-why : tie.Need-enum-known-why
 enum-known-why c = search needs
@@ -56,13 +57,13 @@ returns-2 c =
     let a = c .before .before .before .before .before .before .before .before .before .before .before .before .before .before .before .before .before .before .before .args in
     let held = tables (a .values .now) (a .precisions .now) (a .marks .now) in
     let k = c .before .before .before .before .before .climb-own in
-    forwards (forward-moved (a .usable) (a .body .now) (a .dial) held (c .before .before .before .before .before .before .before .before .before .before .before .before .before .before .before .usable-of .result) (c .before .before .before .before .before .before .before .before .before .before .before .before .before .before .before .usable-of .ensures) (checked (c .before .before .before .before .before .before .before .before .before .before .before .before)) (a .dial .used + 1 - a .dial .used) (omega arith) _ (k .ensures))
+    forwards (forward-moved (a .declared) (a .body .now) (a .dial) held (c .before .before .before .before .before .before .before .before .before .before .before .before .before .before .before .usable-of .result) (c .before .before .before .before .before .before .before .before .before .before .before .before .before .before .before .usable-of .ensures) (checked (c .before .before .before .before .before .before .before .before .before .before .before .before)) (a .dial .used + 1 - a .dial .used) (omega arith) _ (k .ensures))
 
 returns-3 : tie.Need-returns-3
 returns-3 c =
     let a = c .before .before .before .before .before .before .before .before .args in
     let held = tables (a .values .now) (a .precisions .now) (a .marks .now) in
-    forwards (forward-refused (a .usable) (a .body .now) (a .dial) held (c .before .before .before .before .usable-of .result) (c .before .before .before .before .usable-of .ensures) (c .before .why .given .0 .0) (sym (c .before .why .given .1) ∙ c .before .before .before .check .ensures))
+    forwards (forward-refused (a .declared) (a .body .now) (a .dial) held (c .before .before .before .before .usable-of .result) (c .before .before .before .before .usable-of .ensures) (c .before .why .given .0 .0) (sym (c .before .why .given .1) ∙ c .before .before .before .check .ensures))
 
 pub take-forward-spec : {M : Type 1} → statement M
 take-forward-spec =

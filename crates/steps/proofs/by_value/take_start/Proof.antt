@@ -21,6 +21,9 @@ first-requires c κs =
     let r = start-ready (a .n) (a .l) (a .p) (0 ∷ []) (tables (a .values .now) (a .precisions .now) (a .marks .now)) (k .result) (tables (k .last .1 .1 .1 .1 .1 .0) (k .last .1 .1 .1 .1 .1 .1 .0) (k .last .1 .1 .1 .1 .1 .1 .1 .0)) (k .ensures) (c .before .to .given .0 .0) (c .before .to .given .1) in
     (r .side, r .levels)
 
+ending-of-requires : tie.Need-ending-of-requires
+ending-of-requires c κs = search needs
+
 enum-known-why : tie.Need-enum-known-why
 enum-known-why c = search needs
 
@@ -35,9 +38,9 @@ same-length-3 c = search needs
 
 returns : tie.Need-returns
 returns c =
-    let a = c .before .before .before .before .before .before .before .before .before .before .before .before .before .before .before .before .args in
-    let k = c .before .before .before .before .before .before .before .before .before .decode in
-    start-done (a .n) (a .l) (a .p) (0 ∷ []) (tables (a .values .now) (a .precisions .now) (a .marks .now)) (k .result) (tables (k .last .1 .1 .1 .1 .1 .0) (k .last .1 .1 .1 .1 .1 .1 .0) (k .last .1 .1 .1 .1 .1 .1 .1 .0)) (k .ensures) (a .dial) (c .before .before .to .given .0 .0) (c .before .before .to .given .1) (c .first .result) (c .first .ensures)
+    let a = c .before .before .before .before .before .before .before .before .before .before .before .before .before .before .before .before .before .args in
+    let k = c .before .before .before .before .before .before .before .before .before .before .decode in
+    start-done (a .n) (a .l) (a .p) (0 ∷ []) (tables (a .values .now) (a .precisions .now) (a .marks .now)) (k .result) (tables (k .last .1 .1 .1 .1 .1 .0) (k .last .1 .1 .1 .1 .1 .1 .0) (k .last .1 .1 .1 .1 .1 .1 .1 .0)) (k .ensures) (a .dial) (c .before .before .before .to .given .0 .0) (c .before .before .before .to .given .1) (c .ending-of .result) (c .ending-of .ensures) (c .before .first .result) (c .before .first .ensures)
 
 same-length-4 : tie.Need-same-length-4
 same-length-4 c = search needs
@@ -62,6 +65,7 @@ take-start-spec =
     decode-requires
     enum-known-to
     first-requires
+    ending-of-requires
     enum-known-why
     same-length
     same-length-2

@@ -1,9 +1,8 @@
 use mathlib.Core.Path.{_≡_, sym, _∙_}
-use native.Mathlib.Omega.{arith}
 use borrow.Author.Needs.{needs}
 use Rattle.refusals.specs.declared.Outcome.the-variants as outcome
 use Rattle.decoder.specs.Body.{tables}
-use Rattle.steps.proofs.CallLaws.{outcomeFor, call-ready, turn-refused, turn-down, turn-up}
+use Rattle.steps.proofs.CallLaws.{outcomeFor, usable-ready, turn-refused, turn-down, turn-up}
 use Rattle.steps.proofs.Follows.{turns}
 use Rattle.steps.proofs.by_value.take_turn.Statement.{statement}
 use Rattle.steps.proofs.by_value.take_turn.Tie as tie
@@ -22,7 +21,9 @@ enum-told : tie.Need-enum-told
 enum-told c = search needs
 
 descend-own-requires : tie.Need-descend-own-requires
-descend-own-requires c κs = (call-ready _ _ _ _ _ (checked (c .before .before .before .before .before)), omega (arith, c .before .before .before .before .before .before .before .before .usable-of .ensures))
+descend-own-requires c κs =
+    let a = c .before .before .before .before .before .before .before .before .before .before .before .before .args in
+    usable-ready (a .declared) (a .body .now) (a .dial) (tables (a .values .now) (a .precisions .now) (a .marks .now)) _ (c .before .before .before .before .before .before .before .before .usable-of .ensures) (checked (c .before .before .before .before .before))
 
 same-length : tie.Need-same-length
 same-length c = search needs
@@ -38,10 +39,12 @@ returns c =
     let a = c .before .before .before .before .before .before .before .before .before .before .before .before .before .before .before .before .before .before .args in
     let held = tables (a .values .now) (a .precisions .now) (a .marks .now) in
     let k = c .before .before .before .before .before .descend-own in
-    turns (turn-down (a .usable) (a .to) (a .body .now) (a .dial) held (c .before .before .before .before .before .before .before .before .before .before .before .before .before .before .usable-of .result) (c .before .before .before .before .before .before .before .before .before .before .before .before .before .before .usable-of .ensures) (checked (c .before .before .before .before .before .before .before .before .before .before .before)) _ (c .before .before .before .before .before .before .before .before .before .if1 .taken) (k .ensures))
+    turns (turn-down (a .declared) (a .to) (a .body .now) (a .dial) held (c .before .before .before .before .before .before .before .before .before .before .before .before .before .before .usable-of .result) (c .before .before .before .before .before .before .before .before .before .before .before .before .before .before .usable-of .ensures) (checked (c .before .before .before .before .before .before .before .before .before .before .before)) _ (c .before .before .before .before .before .before .before .before .before .if1 .taken) (k .ensures))
 
 climb-own-requires : tie.Need-climb-own-requires
-climb-own-requires c κs = (call-ready _ _ _ _ _ (checked (c .before .before .before .before .before)), omega (arith, c .before .before .before .before .before .before .before .before .usable-of .ensures))
+climb-own-requires c κs =
+    let a = c .before .before .before .before .before .before .before .before .before .before .before .before .args in
+    usable-ready (a .declared) (a .body .now) (a .dial) (tables (a .values .now) (a .precisions .now) (a .marks .now)) _ (c .before .before .before .before .before .before .before .before .usable-of .ensures) (checked (c .before .before .before .before .before))
 
 enum-known-why : tie.Need-enum-known-why
 enum-known-why c = search needs
@@ -60,13 +63,13 @@ returns-2 c =
     let a = c .before .before .before .before .before .before .before .before .before .before .before .before .before .before .before .before .before .before .args in
     let held = tables (a .values .now) (a .precisions .now) (a .marks .now) in
     let k = c .before .before .before .before .before .climb-own in
-    turns (turn-up (a .usable) (a .to) (a .body .now) (a .dial) held (c .before .before .before .before .before .before .before .before .before .before .before .before .before .before .usable-of .result) (c .before .before .before .before .before .before .before .before .before .before .before .before .before .before .usable-of .ensures) (checked (c .before .before .before .before .before .before .before .before .before .before .before)) _ (c .before .before .before .before .before .before .before .before .before .if1 .left) (k .ensures))
+    turns (turn-up (a .declared) (a .to) (a .body .now) (a .dial) held (c .before .before .before .before .before .before .before .before .before .before .before .before .before .before .usable-of .result) (c .before .before .before .before .before .before .before .before .before .before .before .before .before .before .usable-of .ensures) (checked (c .before .before .before .before .before .before .before .before .before .before .before)) _ (c .before .before .before .before .before .before .before .before .before .if1 .left) (k .ensures))
 
 returns-3 : tie.Need-returns-3
 returns-3 c =
     let a = c .before .before .before .before .before .before .before .before .args in
     let held = tables (a .values .now) (a .precisions .now) (a .marks .now) in
-    turns (turn-refused (a .usable) (a .to) (a .body .now) (a .dial) held (c .before .before .before .before .usable-of .result) (c .before .before .before .before .usable-of .ensures) (c .before .why .given .0 .0) (sym (c .before .why .given .1) ∙ c .before .before .before .check .ensures))
+    turns (turn-refused (a .declared) (a .to) (a .body .now) (a .dial) held (c .before .before .before .before .usable-of .result) (c .before .before .before .before .usable-of .ensures) (c .before .why .given .0 .0) (sym (c .before .why .given .1) ∙ c .before .before .before .check .ensures))
 
 pub take-turn-spec : {M : Type 1} → statement M
 take-turn-spec =

@@ -6,33 +6,25 @@ use lib.ListN.{length}
 use Rattle.refusals.specs.declared.Refusal.the-variants.{Contradiction, Beyond, Spent}
 use Rattle.moves.specs.Stands.{stateOf}
 use Rattle.moves.specs.declared.Stand.{Stand}
-use Rattle.decoder.specs.Body.{tables}
-use Rattle.reading.proofs.ReadLaws.{told-bit, told-none}
+use Rattle.decoder.specs.{Body.tables, Ending.ending}
+use Rattle.view.proofs.Laws.{viewed-past}
 use Rattle.steps.specs.Records.{recordOf, step}
 use Rattle.steps.specs.Moved.{reached}
-use Rattle.steps.specs.Steps.{stepsOf, positionOf}
+use Rattle.steps.specs.Steps.{usableBits, stepsOf, positionOf}
 use Rattle.steps.specs.Ready.{Ready, Stood, forwardIn}
 use Rattle.steps.proofs.Standing.{stood-first, stood-onward}
 use Rattle.steps.proofs.CallLaws.{steps-none}
-use Rattle.steps.proofs.ClimbLaws.{forward-spent, forward-beyond, forward-barred, forward-on, climb-begins, climb-ends, climb-goes}
+use Rattle.steps.proofs.ClimbLaws.{read-bit, forward-spent, forward-beyond, forward-barred, forward-on, climb-begins, climb-ends, climb-goes}
 use Rattle.steps.proofs.moving.climb.Statement.{statement}
 use Rattle.steps.proofs.moving.climb.Tie as tie
-use Rattle.steps.proofs.moving.climb.Reads as reads
-use Rattle.steps.proofs.moving.climb.Lts as lts
-use Rattle.steps.proofs.moving.arrive.Reads as arrive-reads
-use Rattle.steps.proofs.moving.bars.Reads as bars-reads
-use Rattle.steps.proofs.moving.refuse.Reads as refuse-reads
-use Rattle.steps.proofs.moving.tell.Reads as tell-reads
-use Rattle.steps.proofs.records.stand_of.Reads as stand-of-reads
-use Rattle.view.proofs.read.Reads as read-reads
 
 abbrev Inv-loop : tie.InvT-loop
-Inv-loop dial body most to values₀ precisions₀ marks₀ at₀ used₀ values precisions marks at used =
-    (stepsOf (forwardIn most body) (to - used) (step (reached (dial .p) used (at .left)) (recordOf (dial .n) (dial .l) (dial .p) used (stateOf at marks)) (tables values precisions marks)) ≡ stepsOf (forwardIn most body) (to - dial .used) (step (positionOf dial) dial (tables values₀ precisions₀ marks₀)))
+Inv-loop dial body declared to values₀ precisions₀ marks₀ at₀ used₀ values precisions marks at used =
+    (stepsOf (forwardIn (ending declared body) (usableBits declared body) body) (to - used) (step (reached (ending declared body) (dial .p) used (at .left)) (recordOf (dial .n) (dial .l) (dial .p) used (stateOf at marks)) (tables values precisions marks)) ≡ stepsOf (forwardIn (ending declared body) (usableBits declared body) body) (to - dial .used) (step (positionOf (ending declared body) dial) dial (tables values₀ precisions₀ marks₀)))
     × Stood dial at × Ready dial (length values) (length precisions) (length marks)
 
 abbrev μ-loop : tie.MeasureT-loop
-μ-loop dial body most to values₀ precisions₀ marks₀ at₀ used₀ values precisions marks at used = to - used
+μ-loop dial body declared to values₀ precisions₀ marks₀ at₀ used₀ values precisions marks at used = to - used
 
 stand-of-requires : tie.Need-stand-of-requires Inv-loop μ-loop
 stand-of-requires c κs = search needs
@@ -41,9 +33,9 @@ loop-holds : tie.Need-loop-holds Inv-loop μ-loop
 loop-holds c =
     let s = c .before .before .before .before in
     let a = s .args in (
-      climb-begins (a .dial) (s .pre .0 .range) (c .stand-of .result) (c .stand-of .ensures) (a .values .now) (a .precisions .now) (a .marks .now) (forwardIn (a .most) (a .body .now)) (a .to - a .dial .used),
-      subst (λ (x : Stand). Stood (a .dial) x) (sym (c .stand-of .ensures)) (stood-first (a .dial) (s .pre .0 .range)),
-      s .pre .0,
+      climb-begins (a .dial) (s .pre .range) (ending (a .declared) (a .body .now)) (c .stand-of .result) (c .stand-of .ensures) (a .values .now) (a .precisions .now) (a .marks .now) (forwardIn (ending (a .declared) (a .body .now)) (usableBits (a .declared) (a .body .now)) (a .body .now)) (a .to - a .dial .used),
+      subst (λ (x : Stand). Stood (a .dial) x) (sym (c .stand-of .ensures)) (stood-first (a .dial) (s .pre .range)),
+      s .pre,
     )
 
 cast-read : tie.Need-cast-read Inv-loop μ-loop
@@ -59,23 +51,23 @@ refuse-requires : tie.Need-refuse-requires Inv-loop μ-loop
 refuse-requires c κs = search needs
 
 same-length : tie.Need-same-length Inv-loop μ-loop
-same-length c = c .before .before .before .before .before .before .before .before .loop .inv .2 .valuesSize ∙ sym (c .before .before .before .before .before .before .before .before .before .before .before .before .before .pre .0 .valuesSize)
+same-length c = c .before .before .before .before .before .before .before .before .loop .inv .2 .valuesSize ∙ sym (c .before .before .before .before .before .before .before .before .before .before .before .before .before .pre .valuesSize)
 
 same-length-2 : tie.Need-same-length-2 Inv-loop μ-loop
-same-length-2 c = c .before .before .before .before .before .before .before .before .loop .inv .2 .precisionsSize ∙ sym (c .before .before .before .before .before .before .before .before .before .before .before .before .before .pre .0 .precisionsSize)
+same-length-2 c = c .before .before .before .before .before .before .before .before .loop .inv .2 .precisionsSize ∙ sym (c .before .before .before .before .before .before .before .before .before .before .before .before .before .pre .precisionsSize)
 
 same-length-3 : tie.Need-same-length-3 Inv-loop μ-loop
-same-length-3 c = c .before .before .before .before .before .before .before .before .loop .inv .2 .marksSize ∙ sym (c .before .before .before .before .before .before .before .before .before .before .before .before .before .pre .0 .marksSize)
+same-length-3 c = c .before .before .before .before .before .before .before .before .loop .inv .2 .marksSize ∙ sym (c .before .before .before .before .before .before .before .before .before .before .before .before .before .pre .marksSize)
 
 returns : tie.Need-returns Inv-loop μ-loop
 returns c =
     let s = c .before .before .before .before .before .before .before .before .before .before .before .before .before in
     let a = s .args in
     let l = c .before .before .before .before .before .before .before .before .loop in
-    let range = s .pre .0 .range in
-    let bit = told-bit (a .body .now) (l .used) (a .most) (c .before .before .before .before .before .before .read .ensures) _ (c .before .before .before .before .bit .given .1) in
+    let range = s .pre .range in
+    let bit = read-bit (a .body .now) (l .used) (a .declared) (c .before .before .before .before .before .before .read .ensures) _ (c .before .before .before .before .bit .given .1) in
     c .refuse .ensures (l .marks) (tables (l .values) (l .precisions) (l .marks))
-    ∙ climb-ends (a .dial) range (l .at) (l .inv .1) (a .most) (a .body .now) (l .used) (l .values) (l .precisions) (l .marks) (a .to) (Beyond (l .used)) (c .before .before .before .before .before .before .before .loop-test .taken) (forward-beyond (a .dial) range (l .at) (l .inv .1) (a .most) (a .body .now) (l .used) (l .values) (l .precisions) (l .marks) _ bit (c .before .if1 .taken))
+    ∙ climb-ends (a .dial) range (l .at) (l .inv .1) (ending (a .declared) (a .body .now)) (usableBits (a .declared) (a .body .now)) (a .body .now) (l .used) (l .values) (l .precisions) (l .marks) (a .to) (Beyond (l .used)) (c .before .before .before .before .before .before .before .loop-test .taken) (forward-beyond (a .dial) range (l .at) (l .inv .1) (ending (a .declared) (a .body .now)) (usableBits (a .declared) (a .body .now)) (a .body .now) (l .used) (l .values) (l .precisions) (l .marks) _ bit (c .before .if1 .taken))
     ∙ l .inv .0
 
 bars-requires : tie.Need-bars-requires Inv-loop μ-loop
@@ -85,23 +77,23 @@ refuse-requires-2 : tie.Need-refuse-requires-2 Inv-loop μ-loop
 refuse-requires-2 c κs = search needs
 
 same-length-4 : tie.Need-same-length-4 Inv-loop μ-loop
-same-length-4 c = c .before .before .before .before .before .before .before .before .before .before .before .loop .inv .2 .valuesSize ∙ sym (c .before .before .before .before .before .before .before .before .before .before .before .before .before .before .before .before .pre .0 .valuesSize)
+same-length-4 c = c .before .before .before .before .before .before .before .before .before .before .before .loop .inv .2 .valuesSize ∙ sym (c .before .before .before .before .before .before .before .before .before .before .before .before .before .before .before .before .pre .valuesSize)
 
 same-length-5 : tie.Need-same-length-5 Inv-loop μ-loop
-same-length-5 c = c .before .before .before .before .before .before .before .before .before .before .before .loop .inv .2 .precisionsSize ∙ sym (c .before .before .before .before .before .before .before .before .before .before .before .before .before .before .before .before .pre .0 .precisionsSize)
+same-length-5 c = c .before .before .before .before .before .before .before .before .before .before .before .loop .inv .2 .precisionsSize ∙ sym (c .before .before .before .before .before .before .before .before .before .before .before .before .before .before .before .before .pre .precisionsSize)
 
 same-length-6 : tie.Need-same-length-6 Inv-loop μ-loop
-same-length-6 c = c .before .before .before .before .before .before .before .before .before .before .before .loop .inv .2 .marksSize ∙ sym (c .before .before .before .before .before .before .before .before .before .before .before .before .before .before .before .before .pre .0 .marksSize)
+same-length-6 c = c .before .before .before .before .before .before .before .before .before .before .before .loop .inv .2 .marksSize ∙ sym (c .before .before .before .before .before .before .before .before .before .before .before .before .before .before .before .before .pre .marksSize)
 
 returns-2 : tie.Need-returns-2 Inv-loop μ-loop
 returns-2 c =
     let s = c .before .before .before .before .before .before .before .before .before .before .before .before .before .before .before .before in
     let a = s .args in
     let l = c .before .before .before .before .before .before .before .before .before .before .before .loop in
-    let range = s .pre .0 .range in
-    let bit = told-bit (a .body .now) (l .used) (a .most) (c .before .before .before .before .before .before .before .before .before .read .ensures) _ (c .before .before .before .before .before .before .before .bit .given .1) in
+    let range = s .pre .range in
+    let bit = read-bit (a .body .now) (l .used) (a .declared) (c .before .before .before .before .before .before .before .before .before .read .ensures) _ (c .before .before .before .before .before .before .before .bit .given .1) in
     c .refuse2 .ensures (l .marks) (tables (l .values) (l .precisions) (l .marks))
-    ∙ climb-ends (a .dial) range (l .at) (l .inv .1) (a .most) (a .body .now) (l .used) (l .values) (l .precisions) (l .marks) (a .to) (Contradiction (l .used)) (c .before .before .before .before .before .before .before .before .before .before .loop-test .taken) (forward-barred (a .dial) range (l .at) (l .inv .1) (a .most) (a .body .now) (l .used) (l .values) (l .precisions) (l .marks) _ bit (c .before .before .before .before .if1 .left) _ (c .before .before .bars .ensures) (c .before .if2 .taken))
+    ∙ climb-ends (a .dial) range (l .at) (l .inv .1) (ending (a .declared) (a .body .now)) (usableBits (a .declared) (a .body .now)) (a .body .now) (l .used) (l .values) (l .precisions) (l .marks) (a .to) (Contradiction (l .used)) (c .before .before .before .before .before .before .before .before .before .before .loop-test .taken) (forward-barred (a .dial) range (l .at) (l .inv .1) (ending (a .declared) (a .body .now)) (usableBits (a .declared) (a .body .now)) (a .body .now) (l .used) (l .values) (l .precisions) (l .marks) _ bit (c .before .before .before .before .if1 .left) _ (c .before .before .bars .ensures) (c .before .if2 .taken))
     ∙ l .inv .0
 
 tell-requires : tie.Need-tell-requires Inv-loop μ-loop
@@ -118,11 +110,11 @@ loop-again c =
     let s = c .before .before .before .before .before .before .before .before .before .before .before .before .before .before .before .before .before .before .before .before .before .before .before .before in
     let a = s .args in
     let l = c .before .before .before .before .before .before .before .before .before .before .before .before .before .before .before .before .before .before .before .loop in
-    let range = s .pre .0 .range in
-    let bit = told-bit (a .body .now) (l .used) (a .most) (c .before .before .before .before .before .before .before .before .before .before .before .before .before .before .before .before .before .read .ensures) _ (c .before .before .before .before .before .before .before .before .before .before .before .before .before .before .before .bit .given .1) in
+    let range = s .pre .range in
+    let bit = read-bit (a .body .now) (l .used) (a .declared) (c .before .before .before .before .before .before .before .before .before .before .before .before .before .before .before .before .before .read .ensures) _ (c .before .before .before .before .before .before .before .before .before .before .before .before .before .before .before .bit .given .1) in
     let k = c .before .before .before .before .before .tell in (
-      climb-goes (a .dial) range (l .at) (l .inv .1) (a .most) (a .body .now) (l .used) (l .values) (l .precisions) (l .marks) (a .to) _ (k .result) (k .last .1 .1 .1 .0) (k .last .1 .1 .1 .1 .0) (k .last .1 .1 .1 .1 .1 .0) (c .before .before .before .before .before .before .before .before .before .before .before .before .before .before .before .before .before .before .loop-test .taken)
-          (forward-on (a .dial) range (l .at) (l .inv .1) (a .most) (a .body .now) (l .used) (l .values) (l .precisions) (l .marks) _ bit (c .before .before .before .before .before .before .before .before .before .before .before .before .if1 .left) _ (c .before .before .before .before .before .before .before .before .before .before .bars .ensures) (c .before .before .before .before .before .before .before .before .before .if2 .left)) (k .ensures .0) (k .ensures .1) ∙ l .inv .0,
+      climb-goes (a .dial) range (l .at) (l .inv .1) (ending (a .declared) (a .body .now)) (usableBits (a .declared) (a .body .now)) (a .body .now) (l .used) (l .values) (l .precisions) (l .marks) (a .to) _ (k .result) (k .last .1 .1 .1 .0) (k .last .1 .1 .1 .1 .0) (k .last .1 .1 .1 .1 .1 .0) (c .before .before .before .before .before .before .before .before .before .before .before .before .before .before .before .before .before .before .loop-test .taken)
+          (forward-on (a .dial) range (l .at) (l .inv .1) (ending (a .declared) (a .body .now)) (usableBits (a .declared) (a .body .now)) (a .body .now) (l .used) (l .values) (l .precisions) (l .marks) _ bit (c .before .before .before .before .before .before .before .before .before .before .before .before .if1 .left) _ (c .before .before .before .before .before .before .before .before .before .before .bars .ensures) (c .before .before .before .before .before .before .before .before .before .if2 .left)) (k .ensures .0) (k .ensures .1) ∙ l .inv .0,
       subst (λ (x : Stand). Stood (a .dial) x) (sym (k .ensures .0)) (stood-onward (a .dial) range (l .at) (l .marks) _ (l .inv .1) (omega (arith, c .before .before .before .before .before .before .before .before .before .before .before .before .if1 .left))),
       record {
         range = range;
@@ -139,44 +131,44 @@ refuse-requires-3 : tie.Need-refuse-requires-3 Inv-loop μ-loop
 refuse-requires-3 c κs = search needs
 
 same-length-7 : tie.Need-same-length-7 Inv-loop μ-loop
-same-length-7 c = c .before .before .before .before .before .loop .inv .2 .valuesSize ∙ sym (c .before .before .before .before .before .before .before .before .before .before .pre .0 .valuesSize)
+same-length-7 c = c .before .before .before .before .before .loop .inv .2 .valuesSize ∙ sym (c .before .before .before .before .before .before .before .before .before .before .pre .valuesSize)
 
 same-length-8 : tie.Need-same-length-8 Inv-loop μ-loop
-same-length-8 c = c .before .before .before .before .before .loop .inv .2 .precisionsSize ∙ sym (c .before .before .before .before .before .before .before .before .before .before .pre .0 .precisionsSize)
+same-length-8 c = c .before .before .before .before .before .loop .inv .2 .precisionsSize ∙ sym (c .before .before .before .before .before .before .before .before .before .before .pre .precisionsSize)
 
 same-length-9 : tie.Need-same-length-9 Inv-loop μ-loop
-same-length-9 c = c .before .before .before .before .before .loop .inv .2 .marksSize ∙ sym (c .before .before .before .before .before .before .before .before .before .before .pre .0 .marksSize)
+same-length-9 c = c .before .before .before .before .before .loop .inv .2 .marksSize ∙ sym (c .before .before .before .before .before .before .before .before .before .before .pre .marksSize)
 
 returns-3 : tie.Need-returns-3 Inv-loop μ-loop
 returns-3 c =
     let s = c .before .before .before .before .before .before .before .before .before .before in
     let a = s .args in
     let l = c .before .before .before .before .before .loop in
-    let range = s .pre .0 .range in
+    let range = s .pre .range in
     c .refuse3 .ensures (l .marks) (tables (l .values) (l .precisions) (l .marks))
-    ∙ climb-ends (a .dial) range (l .at) (l .inv .1) (a .most) (a .body .now) (l .used) (l .values) (l .precisions) (l .marks) (a .to) Spent (c .before .before .before .before .loop-test .taken) (forward-spent (a .dial) range (l .at) (l .inv .1) (a .most) (a .body .now) (l .used) (l .values) (l .precisions) (l .marks) (told-none (a .body .now) (l .used) (a .most) (c .before .before .before .read .ensures) (s .pre .1) (c .before .enum-told .given .1)))
+    ∙ climb-ends (a .dial) range (l .at) (l .inv .1) (ending (a .declared) (a .body .now)) (usableBits (a .declared) (a .body .now)) (a .body .now) (l .used) (l .values) (l .precisions) (l .marks) (a .to) Spent (c .before .before .before .before .loop-test .taken) (forward-spent (a .dial) range (l .at) (l .inv .1) (ending (a .declared) (a .body .now)) (usableBits (a .declared) (a .body .now)) (a .body .now) (l .used) (l .values) (l .precisions) (l .marks) (viewed-past (a .body .now) (l .used) (a .declared) _ (sym (c .before .before .before .read .ensures) ∙ c .before .enum-told .given .1)))
     ∙ l .inv .0
 
 arrive-requires : tie.Need-arrive-requires Inv-loop μ-loop
 arrive-requires c κs = search needs
 
 same-length-10 : tie.Need-same-length-10 Inv-loop μ-loop
-same-length-10 c = c .before .before .loop .inv .2 .valuesSize ∙ sym (c .before .before .before .before .before .before .before .pre .0 .valuesSize)
+same-length-10 c = c .before .before .loop .inv .2 .valuesSize ∙ sym (c .before .before .before .before .before .before .before .pre .valuesSize)
 
 same-length-11 : tie.Need-same-length-11 Inv-loop μ-loop
-same-length-11 c = c .before .before .loop .inv .2 .precisionsSize ∙ sym (c .before .before .before .before .before .before .before .pre .0 .precisionsSize)
+same-length-11 c = c .before .before .loop .inv .2 .precisionsSize ∙ sym (c .before .before .before .before .before .before .before .pre .precisionsSize)
 
 same-length-12 : tie.Need-same-length-12 Inv-loop μ-loop
-same-length-12 c = c .before .before .loop .inv .2 .marksSize ∙ sym (c .before .before .before .before .before .before .before .pre .0 .marksSize)
+same-length-12 c = c .before .before .loop .inv .2 .marksSize ∙ sym (c .before .before .before .before .before .before .before .pre .marksSize)
 
 returns-4 : tie.Need-returns-4 Inv-loop μ-loop
 returns-4 c =
     let s = c .before .before .before .before .before .before .before in
     let a = s .args in
     let l = c .before .before .loop in
-    let range = s .pre .0 .range in
+    let range = s .pre .range in
     c .arrive .ensures (l .values) (l .precisions) (l .marks)
-    ∙ steps-none (forwardIn (a .most) (a .body .now)) (a .to - l .used) _ (omega (arith, c .before .loop-test .left))
+    ∙ steps-none (forwardIn (ending (a .declared) (a .body .now)) (usableBits (a .declared) (a .body .now)) (a .body .now)) (a .to - l .used) _ (omega (arith, c .before .loop-test .left))
     ∙ l .inv .0
 
 pub climb-spec : {M : Type 1} → statement M
