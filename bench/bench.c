@@ -271,7 +271,9 @@ static int start(unsigned n, unsigned l, unsigned planes, uint32_t *ends) {
 static int astray(uint32_t no, const txp_answer *a, uint32_t bits, const uint32_t *ends) {
     unsigned f = 0;
     while (f < record.planes && ends[f] <= bits) f++;
-    return no || a->bits != bits || record.used != bits || a->finished != f || a->error != (1u << (record.planes - f)) - 1;
+    uint32_t ending = f == record.planes ? TXP_WHOLE : bits == usable ? TXP_BUDGET : TXP_GOES_ON;
+    return no || a->bits != bits || record.used != bits || a->finished != f || a->error != (1u << (record.planes - f)) - 1
+        || a->ending != ending;
 }
 
 // Whether the tables are not those that decoding so many bits leaves.

@@ -14,7 +14,7 @@ static uint8_t file[TXP_MOST_FILE(TXP_MOST_N)];
 typedef struct dial {
     const uint8_t *body;
     size_t body_len, all;
-    uint32_t usable;
+    uint32_t declared, usable;
     txp_record record;
     int32_t *values;
     uint8_t *precisions, *marks;
@@ -36,7 +36,8 @@ static void expect(int fine, const char *what, const txp_answer *answer)
     }
 }
 
-/* Prints where the dial stands, how many coefficients are known down to the plane in progress, and the first values of row 0. */
+/* Prints where the dial stands, why the bits end there or that they go on, how many coefficients are known down to the plane in progress,
+ * and the first values of row 0. */
 static void show(const char *way, const dial *at, const txp_answer *answer)
 {
     const uint32_t left = at->record.planes - answer->finished;
@@ -45,8 +46,8 @@ static void show(const char *way, const dial *at, const txp_answer *answer)
     for (size_t i = 0; i < at->all; i++) {
         known += at->precisions[i] < left;
     }
-    printf("%-4s %3u of %u bits, %u of %u planes", way, (unsigned)answer->bits, (unsigned)at->usable, (unsigned)answer->finished,
-           (unsigned)at->record.planes);
+    printf("%-4s %3u of %u bits, %s, %u of %u planes", way, (unsigned)answer->bits, (unsigned)at->usable,
+           txp_ending_text(answer->ending), (unsigned)answer->finished, (unsigned)at->record.planes);
     if (left > 0) {
         printf(" and of the next %zu of %zu", known, at->all);
     }
@@ -74,6 +75,7 @@ int main(int argc, char **argv)
     expect(txp_header(file, bytes, &answer) == TXP_DONE, "txp_header", &answer);
     dial d = {.body = file + TXP_HEADER_SIZE, .body_len = bytes - TXP_HEADER_SIZE, .all = TXP_ENTRIES(answer.n)};
     const size_t size = d.all * (sizeof *d.values + 2);
+    d.declared = answer.declared;
     d.usable = answer.declared < 8 * d.body_len ? answer.declared : (uint32_t)(8 * d.body_len);
     d.values = malloc(size);
     expect(d.values != NULL, "no memory", &answer);
@@ -86,21 +88,21 @@ int main(int argc, char **argv)
     position seen[MOST_POSITIONS];
     size_t count = 0;
     for (uint32_t to = 0; count == 0 || d.record.used < d.usable; to = 3 * to + 10 < d.usable ? 3 * to + 10 : d.usable) {
-        expect(txp_turn(&d.record, d.body, d.body_len, d.usable, to, d.values, d.all, d.precisions, d.all, d.marks, d.all,
+        expect(txp_turn(&d.record, d.body, d.body_len, d.declared, to, d.values, d.all, d.precisions, d.all, d.marks, d.all,
                         &answer) == TXP_DONE, "txp_turn", &answer);
         show("up", &d, &answer);
         seen[count] = (position){d.record, malloc(size)};
         expect(seen[count].tables != NULL, "no memory", &answer);
         memcpy(seen[count++].tables, d.values, size);
     }
-    expect(txp_forward(&d.record, d.body, d.body_len, d.usable, d.values, d.all, d.precisions, d.all, d.marks, d.all,
+    expect(txp_forward(&d.record, d.body, d.body_len, d.declared, d.values, d.all, d.precisions, d.all, d.marks, d.all,
                        &no) == TXP_REFUSED_SPENT, "txp_forward", &no);
     printf("up   refusal %u: %s\n", (unsigned)no.refusal, txp_refusal_text(no.refusal));
 
     /* Down bit by bit: at each position all is as it was on the way up. Then one bit more. */
     while (count-- > 0) {
         while (d.record.used > seen[count].record.used) {
-            expect(txp_back(&d.record, d.body, d.body_len, d.usable, d.values, d.all, d.precisions, d.all, d.marks, d.all,
+            expect(txp_back(&d.record, d.body, d.body_len, d.declared, d.values, d.all, d.precisions, d.all, d.marks, d.all,
                             &answer) == TXP_DONE, "txp_back", &answer);
         }
         show("down", &d, &answer);
@@ -108,7 +110,7 @@ int main(int argc, char **argv)
         expect(memcmp(d.values, seen[count].tables, size) == 0, "other tables than on the way up", &answer);
         free(seen[count].tables);
     }
-    expect(txp_back(&d.record, d.body, d.body_len, d.usable, d.values, d.all, d.precisions, d.all, d.marks, d.all,
+    expect(txp_back(&d.record, d.body, d.body_len, d.declared, d.values, d.all, d.precisions, d.all, d.marks, d.all,
                     &no) == TXP_REFUSED_FIRST, "txp_back", &no);
     printf("down refusal %u: %s\n", (unsigned)no.refusal, txp_refusal_text(no.refusal));
     free(d.values);

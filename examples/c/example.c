@@ -1,4 +1,5 @@
-/* Encodes a small picture, decodes it whole and cut, and shows what a damaged file is answered. README.md has the commands. */
+/* Encodes a small picture, decodes it whole, cut and stored small, and shows what a damaged file is answered. README.md has the
+ * commands. */
 #include <stdio.h>
 #include <stdlib.h>
 
@@ -42,7 +43,8 @@ static size_t known(const uint8_t *precisions, size_t all, uint32_t last)
     return count;
 }
 
-/* Decodes the first bytes of a file, and prints how near the values are. The header says how much is to be lent. */
+/* Decodes the first bytes of a file, and prints why its bits ended and how near the values are. The header says how much is to be
+ * lent. */
 static void show(const uint8_t *file, size_t bytes)
 {
     txp_answer answer;
@@ -60,8 +62,8 @@ static void show(const uint8_t *file, size_t bytes)
     } else if (txp_decode(file, bytes, values, all, tables, all, tables + all, all, &answer) != TXP_DONE) {
         printf("refusal %u at place %u\n", (unsigned)answer.refusal, (unsigned)answer.place);
     } else {
-        printf("%u of %u bits, %u of %u planes", (unsigned)answer.bits, (unsigned)answer.declared, (unsigned)answer.finished,
-               (unsigned)answer.planes);
+        printf("%s, %u of %u bits, %u of %u planes", txp_ending_text(answer.ending), (unsigned)answer.bits,
+               (unsigned)answer.declared, (unsigned)answer.finished, (unsigned)answer.planes);
         if (answer.finished < answer.planes) {
             printf(" and of the next %zu of %zu", known(tables, all, answer.planes - answer.finished), all);
         }
@@ -100,6 +102,15 @@ int main(void)
         show(file, cut);
     }
     show(file, bytes);
+
+    /* The same picture stored small on purpose, in a body of 256 bits, and that file cut. */
+    uint8_t small[TXP_HEADER_SIZE + 256 / 8];
+    if (txp_encode(N, L, linear, ALL, desc, TXP_DESC(N), grand, TXP_GRAND(N), marks, ALL, small, sizeof small, 256, &answer)
+        != TXP_DONE) {
+        stop("txp_encode", &answer);
+    }
+    show(small, sizeof small);
+    show(small, sizeof small - 16);
 
     file[TXP_HEADER_SIZE + 2] = 0; /* a damaged body, */
     show(file, bytes);

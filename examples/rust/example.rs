@@ -1,4 +1,4 @@
-//! Encodes a small picture, decodes it whole and cut, and shows what a damaged file is answered. README.md has the commands.
+//! Encodes a small picture, decodes it whole, cut and stored small, and shows what a damaged file is answered. README.md has the commands.
 mod txp;
 
 use txp::Refusal;
@@ -31,7 +31,8 @@ fn shown(file: &[u8]) -> Result<String, Refusal> {
         0 => String::new(),
         _ => format!(" and of the next {} of {all}", precisions.iter().filter(|&&k| u32::from(k) < last).count()),
     };
-    Ok(format!("{} of {} bits, {} of {} planes{next}, worst error {}; row 0:{row}", d.bits, d.declared, d.finished, d.planes, d.error))
+    let word = d.ending_text();
+    Ok(format!("{word}, {} of {} bits, {} of {} planes{next}, worst error {}; row 0:{row}", d.bits, d.declared, d.finished, d.planes, d.error))
 }
 
 fn show(file: &[u8]) {
@@ -41,8 +42,8 @@ fn show(file: &[u8]) {
     }
 }
 
-/// The picture: the larger the nearer to the first corner. Its file, and how much of it is used.
-fn written(file: &mut [u8]) -> Result<usize, Refusal> {
+/// The picture: the larger the nearer to the first corner. Its file with at most `budget` bits in its body.
+fn written(file: &mut [u8], budget: u32) -> Result<txp::Answer, Refusal> {
     let mut raster = [0; ALL];
     for row in 0..SIDE {
         for col in 0..SIDE {
@@ -54,18 +55,25 @@ fn written(file: &mut [u8]) -> Result<usize, Refusal> {
     txp::to_linear(N, &raster, &mut linear)?;
     let mut desc = [0; txp::desc(N)];
     let mut grand = [0; txp::grand(N)];
-    let e = txp::encode(N, L, &linear, &mut desc, &mut grand, &mut [0; ALL], file, u32::MAX)?;
-    println!("file: {} bytes, {} bits, P = {}", e.bytes, e.bits, e.planes);
-    Ok(e.bytes as usize)
+    txp::encode(N, L, &linear, &mut desc, &mut grand, &mut [0; ALL], file, budget)
 }
 
 fn main() -> Result<(), Refusal> {
     let mut file = [0; txp::most_file(N)];
-    let bytes = written(&mut file)?;
+    let e = written(&mut file, u32::MAX)?;
+    println!("file: {} bytes, {} bits, P = {}", e.bytes, e.bits, e.planes);
+    let bytes = e.bytes as usize;
     for cut in (txp::HEADER_SIZE..bytes).step_by(16) {
         show(&file[..cut]);
     }
     show(&file[..bytes]);
+
+    // The same picture stored small on purpose, in a body of 256 bits, and that file cut.
+    let mut small = [0; txp::HEADER_SIZE + 256 / 8];
+    written(&mut small, 256)?;
+    show(&small);
+    show(&small[..small.len() - 16]);
+
     file[txp::HEADER_SIZE + 2] = 0; // a damaged body,
     show(&file[..bytes]);
     file[4] = 2; // another version,

@@ -20,6 +20,14 @@ pub struct Answer {
     pub found: u32,
     pub negative: u32,
     pub value: u32,
+    pub ending: u32,
+}
+
+impl Answer {
+    /// Why the bits ended, or that they go on.
+    pub fn ending_text(&self) -> &'static str {
+        ["bits go on", "whole", "budget", "cut"].get(self.ending as usize).unwrap_or(&"unknown ending")
+    }
 }
 
 /// The number for no, and the place reported with it.
