@@ -427,6 +427,7 @@ static int times(unsigned n, unsigned l, unsigned reps) {
         }
         if (paces(n, l, planes, reps)) return 1;
     }
+    if (paces(n, l, 2, reps) || paces(n, l, 5, reps)) return 1; // those with long steps
     gen_samples(samples, n);
     for (unsigned k = 0; k < 3; k++) {
         if (there(k, n, l, reps, &enc, &dec)) return 1;
