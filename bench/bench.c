@@ -2,9 +2,10 @@
 // encoding them costs before the first bits, and decoding them where they are cut; the planes of such an array and the
 // change between its two orders, in plain C and in the proved library; a dial that the library turns over a stream; and the
 // transform of 2^N x 2^N samples, there and back, in the three codes.
-//   bench count N L 12|20    each coder encodes and decodes once: what callgrind counts (bench.sh)
+//   bench count N L 12|20    each coder encodes and decodes once, the library by both rules: what callgrind counts (bench.sh)
 //   bench open N L 12|20 M   each coder encodes once with a budget of M thousandths of the stream: the same
-//   bench cut N L 12|20 M    each coder decodes once what M thousandths of the stream's bits allow, or M bits (300b): the same
+//   bench cut N L 12|20 M    each coder decodes once what M thousandths of the stream's bits allow, or M bits (300b), the library
+//                            by both rules: the same
 //   bench planes N L 12|20   the planes once, by each code: the same
 //   bench order N            both changes of order once, by each code: the same
 //   bench figures N L        the figures of each plane by itself, and of all at once: the same
@@ -19,6 +20,7 @@
 #include "gen.h"
 #include "nls.h"
 #include <stdio.h>
+#include <stdlib.h>
 #include <string.h>
 #include <time.h>
 
@@ -35,11 +37,24 @@ nls_result txp_bench_encode(const int32_t *c, unsigned n, unsigned l, uint32_t b
     return (nls_result){.no = no, .place = a.place, .bits = a.bits, .planes = a.planes};
 }
 
+static nls_result decoded(uint32_t no, unsigned p, const txp_answer *a) {
+    return (nls_result){.no = no, .place = a->place, .bits = a->bits, .planes = p, .finished = a->finished, .worst = a->error};
+}
+
+// By the midpoint, as both codes in C.
 __attribute__((noinline)) nls_result txp_bench_decode(const uint8_t *b, uint32_t bits, unsigned n, unsigned l, unsigned p,
                                                       int32_t *v, uint8_t *q, uint8_t *m) {
     txp_answer a;
+    uint32_t no = txp_decode_body_midpoint(n, l, p, b, (bits + 7) / 8, bits, v, I, q, I, m, I, &a);
+    return decoded(no, p, &a);
+}
+
+// By the default rule: known bits stand for themselves.
+__attribute__((noinline)) nls_result txp_bench_lower(const uint8_t *b, uint32_t bits, unsigned n, unsigned l, unsigned p,
+                                                     int32_t *v, uint8_t *q, uint8_t *m) {
+    txp_answer a;
     uint32_t no = txp_decode_body(n, l, p, b, (bits + 7) / 8, bits, v, I, q, I, m, I, &a);
-    return (nls_result){.no = no, .place = a.place, .bits = a.bits, .planes = p, .finished = a.finished, .worst = a.error};
+    return decoded(no, p, &a);
 }
 
 __attribute__((noinline)) nls_result txp_bench_transform(unsigned n, unsigned l, const int32_t *s, size_t s_len, int32_t *c,
@@ -177,12 +192,28 @@ static int run(unsigned k, unsigned n, unsigned l, unsigned planes, unsigned rep
     return 0;
 }
 
+// The best time of the library's default decoding, of the whole stream that was encoded last.
+static int lower(unsigned n, unsigned l, unsigned planes, unsigned reps, uint32_t bits, double *dec) {
+    *dec = 1e30;
+    for (unsigned r = 0; r < reps; r++) {
+        memset(values, 1, TXP_ENTRIES(n) * sizeof *values);
+        double t = now();
+        nls_result d = txp_bench_lower(body, bits, n, l, planes, values, prec, marks);
+        double u = now();
+        if (u - t < *dec) *dec = u - t;
+        if (d.no || d.bits != bits || memcmp(values, coef, TXP_ENTRIES(n) * sizeof *coef))
+            return printf("lower, N = %u, L = %u, P = %u: wrong\n", n, l, planes), 1;
+    }
+    return 0;
+}
+
 static int count(unsigned n, unsigned l, unsigned planes) {
     uint32_t bits;
     double enc, dec;
     data(n, l, planes);
     for (unsigned k = 0; k < 3; k++)
         if (run(k, n, l, planes, 1, &bits, &enc, &dec)) return 1;
+    if (lower(n, l, planes, 1, bits, &dec)) return 1;
     return printf("%u\n", bits), 0;
 }
 
@@ -218,7 +249,7 @@ static int opening(unsigned n, unsigned l, unsigned planes, unsigned thousandths
 }
 
 // Each coder decodes a cut stream: a part of it in thousandths, or in bits where a b follows. The answer and the three tables
-// are those of plain C, which comes first.
+// are those of plain C, which comes first; by the default rule the values are without their bits below the precision.
 static int cut(unsigned n, unsigned l, unsigned planes, const char *part) {
     static int32_t first[I];
     static uint8_t first_prec[I], first_marks[I];
@@ -242,6 +273,13 @@ static int cut(unsigned n, unsigned l, unsigned planes, const char *part) {
             || memcmp(first_prec, prec, all) || memcmp(first_marks, marks, all))
             return printf("%s, N = %u, L = %u, P = %u, %u bits: wrong\n", coders[k].name, n, l, planes, bits), 1;
     }
+    nls_result d = txp_bench_lower(body, bits, n, l, planes, values, prec, marks);
+    int wrong = d.no || d.bits != bits || d.finished != f.finished || d.worst != f.worst || memcmp(first_prec, prec, all) || memcmp(first_marks, marks, all);
+    for (uint32_t i = 0; i < all; i++) {
+        int32_t size = abs(first[i]) >> prec[i] << prec[i];
+        wrong |= values[i] != (first[i] < 0 ? -size : size);
+    }
+    if (wrong) return printf("lower, N = %u, L = %u, P = %u, %u bits: wrong\n", n, l, planes, bits), 1;
     return printf("%u\n", bits), 0;
 }
 
@@ -282,7 +320,7 @@ static int differ(uint32_t bits) {
     static uint8_t q[I], m[I];
     txp_answer a;
     size_t all = TXP_ENTRIES(record.n);
-    return txp_decode_body(record.n, record.l, record.planes, body, (bits + 7) / 8, bits, v, I, q, I, m, I, &a)
+    return txp_decode_body_midpoint(record.n, record.l, record.planes, body, (bits + 7) / 8, bits, v, I, q, I, m, I, &a)
         || memcmp(v, values, all * sizeof *v) || memcmp(q, prec, all) || memcmp(m, marks, all);
 }
 
@@ -425,6 +463,9 @@ static int times(unsigned n, unsigned l, unsigned reps) {
             }
             printf("P = %u  %-6s encode %6.2f ns/bit  decode %6.2f ns/bit  no bit %6.2f us\n", planes, coders[k].name, enc / bits, dec / bits, none / 1000);
         }
+        txp_bench_encode(coef, n, l, UINT32_MAX, desc, grand, marks, body);
+        if (lower(n, l, planes, reps, bits, &dec)) return 1;
+        printf("P = %u  lower                      decode %6.2f ns/bit\n", planes, dec / bits);
         if (paces(n, l, planes, reps)) return 1;
     }
     if (paces(n, l, 2, reps) || paces(n, l, 5, reps)) return 1; // those with long steps

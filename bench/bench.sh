@@ -1,10 +1,11 @@
 #!/bin/sh
 # Counts the instructions that encode and decode execute on a whole stream, in plain C, in C written for speed, and in
 # the proved library through its C interface; those of encode with a budget of no bits and of one per cent of the stream,
-# and of decode where the stream is cut, by the same three; those of the planes and of the change between the two orders
-# of a whole array, in plain C and in the library; those of the figures of one plane and of all; those of the transform of
-# samples, forward and back, by the three; those of the dial, turned over a whole stream and back, beside decoding it once;
-# then the times of the coders, of the dial's steps and of the transform on this machine.
+# and of decode where the stream is cut, by the same three, and of the library's default rule beside the midpoint; those of
+# the planes and of the change between the two orders of a whole array, in plain C and in the library; those of the figures
+# of one plane and of all; those of the transform of samples, forward and back, by the three; those of the dial, turned over
+# a whole stream and back, beside decoding it once; then the times of the coders, of the dial's steps and of the transform
+# on this machine.
 # The streams are of 256 by 256 and of 1,024 by 1,024, the latter with two numbers of levels; the cut ones of 256 by 256.
 #   sh bench/bench.sh [REPS]
 # Needs gcc and valgrind. On a machine that is not x86-64 it needs gcc, Debian's gcc-x86-64-linux-gnu and qemu-user: the
@@ -21,7 +22,7 @@ cc=gcc
 $cc -std=gnu11 -O2 -ffp-contract=off bench/bench.c bench/nls_summaries.c bench/nls_plain.c bench/nls_fast.c bench/nls_orders.c bench/nls_transform.c target/staticlib/libctxp.a -o "$room/bench"
 if [ "$cc" != gcc ]; then
     gcc -O2 -fPIC -shared bench/count.c -o "$room/count.so"
-    named=$(x86_64-linux-gnu-nm "$room/bench" | awk '$3 ~ /^(txp_bench|nls_(plain|fast))_(encode|decode|planes|linear|raster|one|all|forward|back|up|down|transform|restore)$/ { printf ",%s=%s", $3, $1 }')
+    named=$(x86_64-linux-gnu-nm "$room/bench" | awk '$3 ~ /^(txp_bench|nls_(plain|fast))_(encode|decode|lower|planes|linear|raster|one|all|forward|back|up|down|transform|restore)$/ { printf ",%s=%s", $3, $1 }')
 fi
 run() { # ARGUMENTS of the program; what the functions that it ran executed is left in $room/text
     if [ "$cc" = gcc ]; then
@@ -32,7 +33,8 @@ run() { # ARGUMENTS of the program; what the functions that it ran executed is l
     fi
 }
 count() { grep -E "[:*]$1( |\$)" "$room/text" | head -1 | sed -e 's/^ *\([0-9,]*\).*/\1/' -e 's/,//g'; }
-counted() { case $1 in txp) count "txp_bench_$2" ;; *) count "nls_$1_$2" ;; esac; } # CODER CALL
+# CODER CALL; the coder `lower` is the library's default decoding, `txp` decodes by the midpoint, as the codes in C
+counted() { case $1 in txp) count "txp_bench_$2" ;; lower) count txp_bench_lower ;; *) count "nls_$1_$2" ;; esac; }
 ratio() { echo "$1 $2" | awk '{printf "%.3f", $1 / $2}'; }
 most() { sed -n "s/^\([0-9]*\) most txp_bench_$1\$/\1/p" "$room/text" | grep . || echo -; } # CALL: the instructions of its longest, in the emulator
 columns() { # UNITS 'A UNIT' CALL CALL: what stands above the rows
@@ -64,11 +66,11 @@ opens() { # N L: the rows of encode with a small budget, in thousandths of the s
         done
     done
 }
-cuts() { # N L: the rows of decode of cut streams, at parts in thousandths or, with a b, in bits
+cuts() { # N L PARTS: the rows of decode of streams, whole (1000) or cut, at parts in thousandths or, with a b, in bits
     for planes in 12 20; do
-        for part in 900 500 250 50 300b; do
-            bits=$(run cut "$1" "$2" $planes $part)
-            for coder in plain fast txp; do
+        for part in $3; do
+            bits=$(run cut "$1" "$2" $planes "$part")
+            for coder in plain fast txp lower; do
                 x=$(counted $coder decode)
                 printf '%4d %2s %-6s %-5s %9d %13d %6s\n' $((1 << $1)) "$2" $planes $coder "$bits" "$x" "$(ratio "$x" "$(counted plain decode)")"
             done
@@ -103,7 +105,8 @@ printf '%4s %2s %-6s %-5s %9s %13s %6s\n' side L planes coder budget 'encode ins
 opens 8 5
 opens 10 7
 printf '%4s %2s %-6s %-5s %9s %13s %6s\n' side L planes coder 'bits read' 'decode insns' 'to C'
-cuts 8 5
+cuts 8 5 '1000 900 500 250 50 300b'
+cuts 10 7 1000
 for n in 8 10; do
     run planes $n 5 12
     x=$(counted txp planes) y=$(counted plain planes)

@@ -17,6 +17,11 @@
  * Arrays are square, of side 2^N, and hold I = 4^N coefficients in linear order: row and column bits interleaved, the row bit
  * above. Samples are in raster order, row after row. txp_to_linear and txp_to_raster change the order. L is the number of levels.
  *
+ * Which rule makes the values of a cut stream. Of a coefficient with known bits m, not 0, at precision k, txp_decode and
+ * txp_decode_body give m itself, with its sign: no value is larger in magnitude than the true one. txp_decode_midpoint and
+ * txp_decode_body_midpoint give m + 2^(k-1), and m where k is 0: with k over 0 it is wrong by at most 2^(k-1). So do the steps, and
+ * txpshow. Where m is 0 the value is 0. A whole stream has the same values by both, the coefficients themselves.
+ *
  * The functions are those of crates/ctxp, where their contracts stand. tests/header.py compares this file with that source.
  */
 #ifndef TXP_H
@@ -31,7 +36,7 @@ extern "C" {
 
 /* The version of this library's interface, and that of the files that it writes and reads. A change of the first number may break
  * a caller, a change of the second only adds. */
-#define TXP_VERSION_MAJOR 3
+#define TXP_VERSION_MAJOR 4
 #define TXP_VERSION_MINOR 0
 #define TXP_FILE_VERSION 1
 
@@ -153,17 +158,24 @@ uint32_t txp_encode(uint32_t n, uint32_t l, const int32_t *coefs, size_t coefs_l
                     uint32_t *grand, size_t grand_len, uint8_t *marks, size_t marks_len, uint8_t *out, size_t out_len,
                     uint32_t budget, txp_answer *answer);
 
-/* Reads a file, whole or cut: a file that is short of its declared bytes is a cut one.
+/* Reads a file, whole or cut: a file that is short of its declared bytes is a cut one. Values by the default rule: known bits stand
+ * for themselves.
  * values, precisions, marks: TXP_ENTRIES(n) or more each, for the N that txp_header answers; TXP_ENTRIES(TXP_MOST_N) always will do.
  * Refusals 7, 8, 1, 2, 9, 10, 11, 5: nothing that is lent is touched.
  * Refusals 12, 13 (place: a bit of the body): the first I entries of the three are 0.
- * Done: values hold the coefficients as near as the bits allow, marks where the scan stopped, and precisions how near each one is:
- * every array whose stream begins with these bits differs from values[i] by less than 2^precisions[i]. This is the number of the plane
- * in progress if in it the coefficient's own bit was read (with its sign, where one follows) or a set that holds it was tested 0; else
+ * Done: values hold what is known of the coefficients, marks where the scan stopped, and precisions how near each value is:
+ * every array whose stream begins with these bits differs from values[i] by less than 2^precisions[i], and none has a smaller
+ * magnitude there. The precision is the number of the plane in progress if in it the coefficient's own bit was read (with its sign, where one follows) or a set that holds it was tested 0; else
  * that of the last finished plane, or P if none is. A whole stream has precisions 0.
  * Answer: n, l, planes, declared, bits (used), finished, error, ending (TXP_WHOLE, TXP_BUDGET or TXP_CUT). */
 uint32_t txp_decode(const uint8_t *file, size_t file_len, int32_t *values, size_t values_len, uint8_t *precisions,
                     size_t precisions_len, uint8_t *marks, size_t marks_len, txp_answer *answer);
+
+/* The same, values by the midpoint: between the least and the largest that the known bits leave open. Every array whose stream begins
+ * with these bits differs from values[i] by less than 2^precisions[i], and by at most half of that where values[i] is not 0 and
+ * precisions[i] not 0. */
+uint32_t txp_decode_midpoint(const uint8_t *file, size_t file_len, int32_t *values, size_t values_len, uint8_t *precisions,
+                             size_t precisions_len, uint8_t *marks, size_t marks_len, txp_answer *answer);
 
 /* What the header of a file says, so that a host knows N before it lends tables. It reads the first 12 bytes alone: they are enough
  * to call it. Refusals 7, 8, 1, 2, 9. Answer: n, l, planes, declared. */
@@ -182,17 +194,22 @@ uint32_t txp_encode_body(uint32_t n, uint32_t l, const int32_t *coefs, size_t co
                          uint32_t *grand, size_t grand_len, uint8_t *marks, size_t marks_len, uint8_t *out, size_t out_len,
                          size_t offset, uint32_t budget, txp_answer *answer);
 
-/* Reads the first `declared` bits of a body of P planes, or all that it has.
+/* Reads the first `declared` bits of a body of P planes, or all that it has. Values by the default rule, as for txp_decode.
  * values, precisions, marks: TXP_ENTRIES(n) or more each. Refusals 1, 2, 9, 5: nothing that is lent is touched.
  * Refusals 12, 13: the first I entries of the three are 0. Done: as for txp_decode. Answer: bits (used), finished, error, ending. */
 uint32_t txp_decode_body(uint32_t n, uint32_t l, uint32_t p, const uint8_t *body, size_t body_len, uint32_t declared,
                          int32_t *values, size_t values_len, uint8_t *precisions, size_t precisions_len, uint8_t *marks,
                          size_t marks_len, txp_answer *answer);
 
+/* The same, values by the midpoint, as for txp_decode_midpoint. */
+uint32_t txp_decode_body_midpoint(uint32_t n, uint32_t l, uint32_t p, const uint8_t *body, size_t body_len, uint32_t declared,
+                                  int32_t *values, size_t values_len, uint8_t *precisions, size_t precisions_len, uint8_t *marks,
+                                  size_t marks_len, txp_answer *answer);
+
 /* ---- steps: the body read bit by bit, forward and back
  *
- * A caller keeps a record and the three tables of txp_decode_body, and moves them through a body. They stand at a number of bits, and
- * hold what txp_decode_body leaves in the tables for as many usable bits. A step changes a few entries and reads no prefix again.
+ * A caller keeps a record and the three tables of txp_decode_body_midpoint, and moves them through a body. They stand at a number of
+ * bits, and hold what txp_decode_body_midpoint leaves in the tables for as many usable bits: values by the midpoint. A step changes a few entries and reads no prefix again.
  * This holds while the caller changes neither body, record nor tables between the calls. With anything else in them every call still
  * ends without a fault, refuses a record that is out of range, and touches no entry past the first I of a table. */
 

@@ -46,8 +46,9 @@ def main(command):
     for b, plane in zip(reversed(range(P)), second.stream_by_plane(N, L, A)):
         count += len(plane)
         cut = second.write_file(N, L, P, count, bits[:count])
-        values = second.to_raster(
-            N, second.decode(N, L, P, bits[:count]).values)
+        # as txpshow has them
+        values = second.to_raster(N, second.decode(
+            N, L, P, bits[:count], second.midpoint).values)
         printed = shown(command, cut)
         agrees = printed == second.show(cut) and values == [
             int(word) for line in printed.split('\n')[-9:-1]

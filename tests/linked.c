@@ -326,10 +326,14 @@ static uint32_t call(char letter, lent_case *c)
         return txp_encode_body(n[0], n[1], coefs, coefs_len, desc, t[DESC].count, grand, t[GRAND].count, marks, t[MARKS].count,
                                bytes, t[BYTES].count, n[2], n[3], answer);
     case 'D':
-        return txp_decode(file, file_len, values, t[VALUES].count, bytes, t[BYTES].count, marks, t[MARKS].count, answer);
+    case 'd':
+        return (letter == 'D' ? txp_decode : txp_decode_midpoint)(file, file_len, values, t[VALUES].count, bytes, t[BYTES].count,
+                                                                  marks, t[MARKS].count, answer);
     case 'C':
-        return txp_decode_body(n[0], n[1], n[2], file, file_len, n[3], values, t[VALUES].count, bytes, t[BYTES].count, marks,
-                               t[MARKS].count, answer);
+    case 'c':
+        return (letter == 'C' ? txp_decode_body : txp_decode_body_midpoint)(n[0], n[1], n[2], file, file_len, n[3], values,
+                                                                            t[VALUES].count, bytes, t[BYTES].count, marks,
+                                                                            t[MARKS].count, answer);
     case 'Y':
     case 'f':
     case 'b':

@@ -140,9 +140,13 @@ def generations(I, what, i):
 
 
 def decode(N, L, P, bits):
-    """Values, precisions, marks, the last finished plane (or P), the scan
-    record, and whether the scan ended by itself, after it reads bits that begin
-    some array's stream. Nothing is refused.
+    """Values by the rules lower and midpoint, precisions, marks, the last
+    finished plane (or P), the scan record, and whether the scan ended by
+    itself, after it reads bits that begin some array's stream. Nothing is
+    refused.
+
+    A place's size has exactly the "Known bits m". In document 02, "The default
+    becomes m itself, with its sign; midpoint stays by name."
 
     A precision is the last finished plane (or P) or, where that is lower, the
     last plane in which the place's own bit was read or, in document 02, "a set
@@ -181,11 +185,14 @@ def decode(N, L, P, bits):
 
     mark = scan(N, L, P, next_bit, plane_end)
     precision = [min(k, last) for k in read]
-    values = [s * (m + 2 ** k // 2) if m else 0
-              for s, m, k in zip(sign, size, precision)]
+    lower = [s * m for s, m in zip(sign, size)]
+    # "if m is 0 the value is 0, else m + 2^(k-1) with its sign; for k = 0 it is
+    # m"
+    midpoint = [s * (m + 2 ** k // 2) if m else 0
+                for s, m, k in zip(sign, size, precision)]
     plane, stage, place, pending = rest
     record = N, L, P, plane, stage, place, used, pending
-    return values, precision, mark, last, record, ended
+    return lower, midpoint, precision, mark, last, record, ended
 
 
 def ending(N, L, P, body, declared):

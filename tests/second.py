@@ -1,8 +1,8 @@
 #!/usr/bin/env python3
 """A second coder for the texture stream of document 01 (docs/01-scope.md), with
 the stepped decoder of document 02's request T-01, the sizes of its T-02, the
-precisions of its T-04, the transform of its T-05 and the words of its T-06 for
-why the bits ended.
+precisions of its T-04, the transform of its T-05, the words of its T-06 for why
+the bits ended and the two rules of its T-07 for a value.
 
 It reaches the answers of document 01 by other means than the scan with marks,
 so that a coder written from the marks can be compared with it.
@@ -28,7 +28,7 @@ that is said.  Bits and places count from 0.
 
 import sys
 from collections import namedtuple
-from functools import lru_cache, reduce
+from functools import cached_property, lru_cache, reduce
 from heapq import heapify, heappop, heappush
 from itertools import chain
 from operator import add, or_, sub
@@ -445,6 +445,20 @@ def output_bytes(N, L, P, budget):
     return HEADER_BYTES + bytes_for(min(budget, worst_body(N, L, P)))
 
 
+# Rules for a value: its magnitude, from the precision k and the known bits m.
+
+def lower(k, m):
+    """The default, document 02: "The default becomes m itself, with its
+    sign"."""
+    return m
+
+
+def midpoint(k, m):
+    """The rule of document 01: "if m is 0 the value is 0, else m + 2^(k-1) with
+    its sign; for k = 0 it is m". Document 02: "midpoint stays by name"."""
+    return m + (1 << k >> 1) if m else 0
+
+
 # Decoder.
 
 class Cut(Exception):
@@ -522,7 +536,8 @@ class Decoder:
     bit was read, fresh those of a set split in it whose own bit was not, zero
     the sets tested 0, and the refinement pass has passed all places below
     passed. stage is the pass in progress, question what was asked last, and
-    pending says that it was answered 1 and its sign is not read.
+    pending says that it was answered 1 and its sign is not read. precisions and
+    marks are asked for when all bits are read, and are made once.
     """
 
     def __init__(self, N, L, P, bits, ceiling=None):
@@ -639,6 +654,7 @@ class Decoder:
         return Record(self.N, self.L, self.P, plane, stage, place, self.used,
                       int(self.pending))
 
+    @cached_property
     def precisions(self):
         """Each coefficient's precision k: "b if its own bit of the plane b in
         progress was read (with its sign, where one follows); else the number
@@ -653,18 +669,18 @@ class Decoder:
                 precisions[m] = self.b
         return precisions
 
-    def values(self, precisions):
-        """Each value from the bits k and above of the magnitude: "Known bits
-        m: if m is 0 the value is 0, else m + 2^(k-1) with its sign; for k = 0
-        it is m". Where no coefficient was found nothing is known."""
+    def values(self, rule):
+        """Each value by a rule, from the bits k and above of the magnitude: the
+        "Known bits m". Where no coefficient was found nothing is known, m is 0,
+        and so is the value by any rule."""
         values = [0] * self.shape.I
         for i in self.found:
-            k = precisions[i]
-            m = self.known[i] >> k << k
-            size = m + (1 << k >> 1) if m else 0
+            k = self.precisions[i]
+            size = rule(k, self.known[i] >> k << k)
             values[i] = -size if self.negative[i] else size
         return values
 
+    @cached_property
     def marks(self):
         """The table of marks, from the parts that stand and the scan's place.
 
@@ -691,21 +707,22 @@ class Decoder:
 @lru_cache(maxsize=1)
 def ran(N, L, P, bits, ceiling):
     """A decoder that has run, and its refusal or None; kept for whoever asks
-    next, since an encoder's marks and a decoder's answer come from one run."""
+    next, since an encoder's marks and the answers by both rules come from one
+    run."""
     decoder = Decoder(N, L, P, bits, ceiling)
     return decoder, decoder.run()
 
 
-def decode(N, L, P, bits, ceiling=None):
-    """The answer to the usable bits, or refusal 12 or 13 with its bit. Its
-    ending is WHOLE or None: why there are no more bits is not said to it."""
+def decode(N, L, P, bits, rule=lower, ceiling=None):
+    """The answer to the usable bits, with values by a rule, or refusal 12 or 13
+    with its bit. Its ending is WHOLE or None: why there are no more bits is not
+    said to it."""
     decoder, refused = ran(N, L, P, tuple(bits), ceiling and tuple(ceiling))
     if refused:
         return refused
-    precisions = decoder.precisions()
     # document 02: "`whole` means plane 0 ended (or P is 0)"
     ending = WHOLE if decoder.finished == P else None
-    return Decoded(decoder.values(precisions), precisions, decoder.marks(),
+    return Decoded(decoder.values(rule), decoder.precisions, decoder.marks,
                    decoder.used, decoder.finished,
                    2 ** decoder.last_plane() - 1, decoder.plane_bits,
                    decoder.record(), ending)
@@ -735,7 +752,7 @@ def marks_after(N, L, P, bits):
     decoder, refused = ran(N, L, P, tuple(bits), None)
     if refused:
         raise ValueError('no array has a stream that begins so')
-    return decoder.marks()
+    return decoder.marks
 
 
 # Parts that stand.
@@ -837,16 +854,16 @@ def read_file(data):
     return Header(N, L, P, declared, bits[:declared])
 
 
-def decode_file(data, lent=None):
-    """A header and its decoded array, or a refusal. lent gives the lengths of
-    the lent values, precisions and marks; None stands for lengths that
-    suffice."""
+def decode_file(data, lent=None, rule=lower):
+    """A header and its decoded array, with values by a rule, or a refusal. lent
+    gives the lengths of the lent values, precisions and marks; None stands for
+    lengths that suffice."""
     header = read_file(data)
     if isinstance(header, Refused):
         return header
     if lent and min(lent) < 4 ** header.N:
         return Refused(5, 0)
-    decoded = ended(decode(header.N, header.L, header.P, header.bits),
+    decoded = ended(decode(header.N, header.L, header.P, header.bits, rule),
                     header.declared, data[HEADER_BYTES:])
     return decoded if isinstance(decoded, Refused) else (header, decoded)
 
@@ -862,20 +879,27 @@ def check_body(N, L, P, lent):
     return Refused(5, 0) if min(lent) < 4 ** N else None
 
 
-def decode_body(N, L, P, body, declared, lent):
-    """What a body of so many declared bits decodes to, or a refusal. lent as
-    for check_body."""
+def decode_body(N, L, P, body, declared, lent, rule=lower):
+    """What a body of so many declared bits decodes to, with values by a rule,
+    or a refusal. lent as for check_body."""
     return check_body(N, L, P, lent) or ended(
-        decode(N, L, P, unpack(body)[:declared]), declared, body)
+        decode(N, L, P, unpack(body)[:declared], rule), declared, body)
 
 
 # Stepped decoder.
 
+def position_after(N, L, P, bits):
+    """The position after some bits, or the refusal of the first of them that is
+    refused. A position is what decoding a prefix answers, with its record;
+    document 02: "The stepped decoder and `txpshow` must ask for the
+    midpoint"."""
+    return decode(N, L, P, bits, midpoint)
+
+
 def start(N, L, P, lent):
-    """The position before the first bit, or a refusal. A position is what
-    decoding a prefix answers, with its record. No body is at hand, so that the
-    word is WHOLE where P is 0, and else None."""
-    return check_body(N, L, P, lent) or decode(N, L, P, [])
+    """The position before the first bit, or a refusal. No body is at hand, so
+    that the word is WHOLE where P is 0, and else None."""
+    return check_body(N, L, P, lent) or position_after(N, L, P, [])
 
 
 def in_range(record, usable):
@@ -908,8 +932,8 @@ def prefix(record, body, declared, count):
     """The position after so many of the usable bits of a body, with the word
     for it, or the refusal of the first of them that is refused."""
     bits = unpack(body)[:declared]
-    return ended(decode(record.N, record.L, record.P, bits[:count]), declared,
-                 body)
+    return ended(position_after(record.N, record.L, record.P, bits[:count]),
+                 declared, body)
 
 
 def forward(record, body, declared, lent):
@@ -957,10 +981,11 @@ def too_large(data):
 
 
 def show(data):
-    """The whole text that txpshow prints for a file."""
+    """The whole text that txpshow prints for a file. Its values are by the
+    midpoint."""
     if too_large(data):
         return 'too large\n'
-    answer = decode_file(data)
+    answer = decode_file(data, rule=midpoint)
     if isinstance(answer, Refused):
         return 'refused %d %d\n' % answer
     (N, L, P, declared, _), decoded = answer

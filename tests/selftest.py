@@ -1,5 +1,6 @@
 """The checks of second.py: the samples of document 01, exhaustive comparisons
-on small cases and random comparisons with the literal scan; the transform
+on small cases and random comparisons with the literal scan; both rules for a
+value, by hand and by their laws on every cut that is compared; the transform
 worked by hand, and compared with one that takes pair after pair; why the bits
 ended, by hand and by every length of small bodies.
 
@@ -17,13 +18,13 @@ import literal
 from arrays import STYLES, placed, random_array, random_bits, scattered
 from second import (
     BUDGET, COEFFICIENT_LIMIT, CUT, DESC, GRAND, HEADER_BYTES, N_LIMIT, PIXEL,
-    SAMPLE_LEAST, SAMPLE_MOST, STEP, WHOLE, Decoder, Encoded, Record, Refused,
-    back, bytes_for, decode, decode_body, decode_file, encode, encode_file,
-    ended, forward, lacking, lent_after, linear_place, linear_places,
-    marks_after, output_bytes, pack, parts_after, plane_count, plane_figures,
-    read_file, restore, shape_of, show, start, stream_by_plane, summaries,
-    to_coefficients, to_linear, to_raster, to_samples, transform, turn,
-    worst_body, write_file)
+    PLANE_LIMIT, SAMPLE_LEAST, SAMPLE_MOST, STEP, WHOLE, Decoder, Encoded,
+    Record, Refused, back, bytes_for, decode, decode_body, decode_file, encode,
+    encode_file, ended, forward, lacking, lent_after, linear_place,
+    linear_places, lower, marks_after, midpoint, output_bytes, pack,
+    parts_after, plane_count, plane_figures, read_file, restore, shape_of, show,
+    start, stream_by_plane, summaries, to_coefficients, to_linear, to_raster,
+    to_samples, transform, turn, worst_body, write_file)
 
 NO_BUDGET = 2 ** 32 - 1
 
@@ -78,6 +79,11 @@ def bits_of(text):
 
 # Samples.
 
+def nonzero(values):
+    """The values other than 0, by place."""
+    return {i: v for i, v in enumerate(values) if v}
+
+
 def samples():
     """The "Sample values", starred and unstarred, and the text of txpshow."""
     equal(SAMPLE, [5, -3, 0, 1, 0, 0, 2, 0, 0, 0, 0, 0, 0, -1, 0, 0], 'linear')
@@ -92,9 +98,8 @@ def samples():
     equal(write_file(2, 1, 3, 37, bits), SAMPLE_FILE, 'file')
 
     def cut(count):
-        answer = decode(2, 1, 3, bits[:count])
-        nonzero = {i: v for i, v in enumerate(answer.values) if v}
-        return nonzero, answer.error
+        answer = decode(2, 1, 3, bits[:count], midpoint)
+        return nonzero(answer.values), answer.error
 
     equal(cut(1)[0], {}, '1 bit')
     equal(cut(2)[0], {0: 6}, '2 bits')
@@ -172,6 +177,80 @@ def ezw():
     words = '10 11 0 0 1 10 0 0 0 1 0 0 0 0 0 0 1 0 1 0 10 0 0 0 0'
     equal(planes[0], bits_of(words.replace(' ', '')), 'its first plane')
     every_cut(3, 2, A)
+
+
+# Rules for a value.
+
+# Cuts of the sample worked by hand, from the table of docs/FORMAT.md that has
+# for each bit what is known after it: the bits used, and the values other than
+# 0 by lower and by the midpoint. Document 01 has those by the midpoint for 1, 2,
+# 9, 21 and 37 bits.
+RULED = (
+    (1, {}, {}),                                # a test bit without its sign
+    (2, {0: 4}, {0: 6}),                        # place 0: 4, down to 2
+    (9, {0: 4}, {0: 6}),
+    (10, {0: 4, 1: -2}, {0: 6, 1: -3}),         # place 1: -2, down to 1
+    (20, {0: 4, 1: -2, 6: 2}, {0: 6, 1: -3, 6: 3}),
+    (21, {0: 4, 1: -2, 6: 2}, {0: 5, 1: -3, 6: 3}),     # place 0: down to 1
+    (24, {0: 4, 1: -2, 3: 1, 6: 2},             # place 3: 1, down to 0
+     {0: 5, 1: -3, 3: 1, 6: 3}),
+    (35, {0: 5, 1: -2, 3: 1, 6: 2, 13: -1},     # place 0: 5, down to 0
+     {0: 5, 1: -3, 3: 1, 6: 3, 13: -1}),
+    (37, {0: 5, 1: -3, 3: 1, 6: 2, 13: -1},     # all is known
+     {0: 5, 1: -3, 3: 1, 6: 2, 13: -1}))
+
+# The text of the cut after 21 bits, of which document 01 has the values.
+RULED_TEXT = '''\
+TXP 1 2 1 3 21 21 budget
+plane 2 8 7 0
+plane 1 13 10 1
+5 -3 0 0
+0 0 3 0
+0 0 0 0
+0 0 0 0
+'''
+
+
+def worked_rules():
+    """The cuts worked by hand, of files and bodies by both rules and by the
+    default; those of the stepped decoder and of txpshow by the midpoint."""
+    enough = (16,) * 3
+    first = start(2, 1, 3, enough).record
+    _, bits = encode(2, 1, SAMPLE, NO_BUDGET)
+    for count, low, middle in RULED:
+        data = write_file(2, 1, 3, count, bits[:count])
+        for wanted, rule in ((low, {}), (low, {'rule': lower}),
+                             (middle, {'rule': midpoint})):
+            equal(nonzero(decode_file(data, **rule)[1].values), wanted,
+                  'a file by a rule')
+            got = decode_body(2, 1, 3, SAMPLE_BODY, count, enough, **rule)
+            equal(nonzero(got.values), wanted, 'a body by a rule')
+        _, position = turn(first, SAMPLE_BODY, 37, count, enough)
+        equal(nonzero(position.values), middle, 'a turn is by the midpoint')
+    equal(show(write_file(2, 1, 3, 21, bits[:21])), RULED_TEXT,
+          'txpshow is by the midpoint')
+
+
+def upper(k, m):
+    """The largest rule that document 02's bound is about."""
+    return m + 2 ** k - 1 if m else 0
+
+
+def rule_bounds():
+    """Document 02: "any rule that gives 0 for m = 0 and else stays from m to
+    m + 2^k - 1". Both rules are such; and the bound on single errors holds by
+    the largest one, too."""
+    for rule, k in product((lower, midpoint, upper), range(PLANE_LIMIT + 1)):
+        equal(rule(k, 0), 0, 'a rule for m = 0')
+        for m in (2 ** k, 2 ** (k + 1), 7 * 2 ** k):
+            equal(m <= rule(k, m) <= m + 2 ** k - 1, True, 'a rule from m on')
+    for N, L, A in SMALL:
+        P, bits = encode(N, L, A, NO_BUDGET)
+        for count in range(len(bits) + 1):
+            answer = decode(N, L, P, bits[:count], upper)
+            equal(all(abs(a - v) < 2 ** k for a, v, k
+                      in zip(A, answer.values, answer.precisions)), True,
+                  'own error by the largest rule')
 
 
 # Index layer.
@@ -291,59 +370,85 @@ def own_map(shape, answers, last):
     return precisions
 
 
-def midpoint(a, k):
-    """The value of a coefficient that is known to precision k."""
-    m = abs(a) >> k << k
-    size = m + (1 << k >> 1) if m else 0
-    return -size if a < 0 else size
+def both_values(a, k):
+    """The values of a coefficient that is known to precision k, by lower and by
+    the midpoint."""
+    m, half = abs(a) - abs(a) % 2 ** k, 2 ** k // 2 if abs(a) >= 2 ** k else 0
+    return (-m, -m - half) if a < 0 else (m, m + half)
 
 
 # Comparisons on random arrays.
 
 def compare_cut(N, L, A, budget):
-    """One cut: bits, marks, values and precisions against the literal scan,
-    and the bounds on the error. Gives the answer."""
+    """One cut: bits, marks, values by both rules and precisions against the
+    literal scan, and the bounds on the error. Gives the precisions, and at how
+    many places the midpoint is off by half of 2^k."""
     P, bits, mark = literal.encode(N, L, A, budget)
     equal(encode(N, L, A, budget), (P, bits), 'bits')
     answer = decode(N, L, P, bits)
-    values, precisions, marks, last, record, by_itself = literal.decode(
+    lows, middles, precisions, marks, last, record, by_itself = literal.decode(
         N, L, P, bits)
     equal(answer.marks, mark, 'marks of the encoder')
     equal(answer.marks, marks, 'marks of the decoder')
-    equal(answer.values, values, 'values')
+    equal(answer.values, lows, 'values by lower')
     equal(answer.precisions, precisions, 'precisions')
     equal(answer.used, len(bits), 'used')
     equal(answer.record, record, 'record')
     equal(answer.ending, WHOLE if by_itself else None, 'whole')
     equal((answer.finished, answer.error), (P - last, 2 ** last - 1), 'error')
-    # "differs nowhere by more than the worst error"
-    equal(max(abs(a - v) for a, v in zip(A, values)) <= answer.error, True,
-          'worst error')
-    equal(all(abs(a) >> k == abs(v) >> k and (v == 0 or (a < 0) == (v < 0))
-              for a, v, k in zip(A, values, precisions)), True, 'known bits')
-    # document 02: "each coefficient is wrong by less than 2^k of its own k",
-    # and "Values don't change"
-    equal(all(abs(a - v) < 2 ** k for a, v, k in zip(A, values, precisions)),
-          True, 'own error')
+    equal(decode(N, L, P, bits, midpoint), answer._replace(values=middles),
+          'values by the midpoint, and the same answer else')
+    for values in lows, middles:
+        # "differs nowhere by more than the worst error"
+        equal(max(abs(a - v) for a, v in zip(A, values)) <= answer.error, True,
+              'worst error')
+        equal(all(abs(a) >> k == abs(v) >> k and (v == 0 or (a < 0) == (v < 0))
+                  for a, v, k in zip(A, values, precisions)), True,
+              'known bits')
+        # document 02: "each coefficient is wrong by less than 2^k of its own k"
+        equal(all(abs(a - v) < 2 ** k
+                  for a, v, k in zip(A, values, precisions)), True,
+              'own error')
+    # document 02, T-04: "Values don't change"
     before = own_map(shape_of(N, L), asked(N, L, P, bits), last)
-    equal(values, list(map(midpoint, A, before)), 'values of own bits alone')
-    return answer
+    equal(list(zip(lows, middles)), list(map(both_values, A, before)),
+          'values of own bits alone')
+    return precisions, compare_rules(A, lows, middles, precisions)
+
+
+def compare_rules(A, lows, middles, precisions):
+    """The laws of the two rules at one cut of an array's stream. Gives at how
+    many places the midpoint is off by half of 2^k."""
+    # document 02: "Midpoints make quiet partials louder than composed"
+    equal(all(abs(v) <= abs(a) for a, v in zip(A, lows)), True,
+          'lower is no larger')
+    equal([low != middle for low, middle in zip(lows, middles)],
+          [k > 0 and abs(a) >= 2 ** k for a, k in zip(A, precisions)],
+          'the rules differ where something is known and not all')
+    off = [(2 * abs(a - v), 2 ** k) for a, v, k in zip(A, middles, precisions)
+           if v and k]
+    equal(all(twice <= most for twice, most in off), True,
+          'the midpoint is off by at most half of 2^k')
+    return sum(twice == most for twice, most in off)
 
 
 def every_cut(N, L, A):
     """All cuts of a stream in turn. No bit makes a precision larger, and the
-    last bit of a plane leaves its number everywhere."""
+    last bit of a plane leaves its number everywhere. Gives how often the
+    midpoint is off by half of 2^k."""
     ends = [0]
     for plane in stream_by_plane(N, L, A):
         ends.append(ends[-1] + len(plane))
     P = plane_count(A)
-    last = [P] * 4 ** N
+    last, all_halves = [P] * 4 ** N, 0
     for cut in range(ends[-1] + 1):
-        precisions = compare_cut(N, L, A, cut).precisions
+        precisions, halves = compare_cut(N, L, A, cut)
         equal(all(map(le, precisions, last)), True, 'no precision is larger')
         if cut in ends:
             equal(precisions, [P - ends.index(cut)] * 4 ** N, 'end of a plane')
         last = precisions
+        all_halves += halves
+    return all_halves
 
 
 def compare_planes(N, L, A):
@@ -403,10 +508,11 @@ def random_arrays(count):
 
 
 def small_streams():
-    """Every cut of small streams."""
+    """Every cut of small streams, in each of which a value by the midpoint is
+    as far off as it can be."""
     rng = random.Random(9)
     for N, L, A in SMALL:
-        every_cut(N, L, A)
+        equal(every_cut(N, L, A) > 0, True, 'half of 2^k is reached')
         every_cut(N, L, scattered(rng, N, 3))
 
 
@@ -456,7 +562,8 @@ def brute_force(N, L, P, ceiling):
             continue
         _, bits = encode(N, L, list(A), NO_BUDGET)
         _, mirrored = encode(N, L, [-a for a in A], NO_BUDGET)
-        equal(decode(N, L, P, bits, ceiling).values, list(A), 'an array fits')
+        equal(decode(N, L, P, bits, ceiling=ceiling).values, list(A),
+              'an array fits')
         equal(decode(N, L, P, mirrored).used, len(bits), 'signs are free')
         node = trie
         for bit, other in zip(bits, mirrored):
@@ -476,7 +583,8 @@ def brute_force(N, L, P, ceiling):
                 for bit in (0, 1):
                     if node[bit] is None:
                         number = 13 if id(node) in ends else 12
-                        equal(decode(N, L, P, bits[:n] + [bit], ceiling),
+                        equal(decode(N, L, P, bits[:n] + [bit],
+                                     ceiling=ceiling),
                               Refused(number, n), 'no array fits')
             if n < len(bits):
                 node = node[bits[n]]
@@ -646,7 +754,7 @@ def turns(count):
             equal((refused, position), wanted, 'a turn by steps')
             seen[refused and refused.number] += 1
             equal(position._replace(ending=None), decode(
-                N, L, P, (bits + more + [0] * 8)[:position.used]
+                N, L, P, (bits + more + [0] * 8)[:position.used], midpoint
                 )._replace(ending=None), 'the prefix decoded')
             on = forward(position.record, body, declared, lent)
             if not isinstance(on, Refused):
@@ -1148,6 +1256,8 @@ def run(full=False):
     started = time.time()
     samples()
     ezw()
+    worked_rules()
+    rule_bounds()
     top_planes()
     trees()
     random_arrays(6000 if full else 1200)

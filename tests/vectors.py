@@ -43,6 +43,16 @@ ANSWER = ('result', 'refusal', 'place', 'n', 'l', 'planes', 'declared', 'bits',
 # bits go on.
 ENDINGS = None, second.WHOLE, second.BUDGET, second.CUT
 
+# The rules of the calls that decode, by the letters of their cases: of those on
+# a file, and of those on a body; and the letters of each rule.
+FILES = {'D': second.lower, 'd': second.midpoint}
+BODIES = {'C': second.lower, 'c': second.midpoint}
+BY_DEFAULT, BY_MIDPOINT = 'DC', 'dc'
+
+# The lent tables that these calls and the steps change, in the order of their
+# parameters.
+DECODED = 'values', 'bytes', 'marks'
+
 # Entries past a table's lent end that are compared too.
 PAST = 64
 
@@ -168,21 +178,31 @@ def lent_for(data):
     return 16
 
 
-def decode_case(data, lent=None):
-    """A call of txp_decode."""
+def decode_case(data, lent=None, letter='d'):
+    """A call of txp_decode_midpoint, or by the letter D of txp_decode."""
     if lent is None:
         lent = (lent_for(data),) * 3
-    got = second.decode_file(data, lent)
+    got = second.decode_file(data, lent, FILES[letter])
     if isinstance(got, Refused):
         tables = cleared(got, data[5:6])
         answered = answer(got)
     else:
         (N, L, P, declared, _), decoded = got
-        tables = decoded.values, decoded.precisions, decoded.marks
+        tables = tables_of(decoded)
         answered = answer(n=N, l=L, planes=P, declared=declared,
                           **decoded_numbers(decoded))
-    return case('D', (), answered, (), data,
-                **dict(zip(('values', 'bytes', 'marks'), zip(lent, tables))))
+    return case(letter, (), answered, (), data,
+                **dict(zip(DECODED, zip(lent, tables))))
+
+
+def tables_of(decoded):
+    """What is decoded of each of the DECODED."""
+    return decoded.values, decoded.precisions, decoded.marks
+
+
+def lent_of(one):
+    """The lengths that a case lends of the DECODED."""
+    return [one.lent[TABLES.index(name)] for name in DECODED]
 
 
 def decoded_numbers(decoded):
@@ -197,16 +217,33 @@ def cleared(refused, side):
     return ([0] * 4 ** side[0] if refused.number in (12, 13) else (),) * 3
 
 
-def decode_body_case(N, L, P, body, declared, lent):
-    """A call of txp_decode_body."""
-    got = second.decode_body(N, L, P, body, declared, lent)
+def decode_body_case(N, L, P, body, declared, lent, letter='c'):
+    """A call of txp_decode_body_midpoint, or by the letter C of
+    txp_decode_body."""
+    got = second.decode_body(N, L, P, body, declared, lent, BODIES[letter])
     if isinstance(got, Refused):
         tables, answered = cleared(got, (N,)), answer(got)
     else:
-        tables = got.values, got.precisions, got.marks
+        tables = tables_of(got)
         answered = answer(**decoded_numbers(got))
-    return case('C', (N, L, P, declared), answered, (), body,
-                **dict(zip(('values', 'bytes', 'marks'), zip(lent, tables))))
+    return case(letter, (N, L, P, declared), answered, (), body,
+                **dict(zip(DECODED, zip(lent, tables))))
+
+
+def body_case_of(one):
+    """The call by the midpoint on the body of a case's file."""
+    N, L, P = one.file[5:8]
+    declared = int.from_bytes(one.file[8:12], 'big')
+    return decode_body_case(N, L, P, one.file[second.HEADER_BYTES:], declared,
+                            lent_of(one))
+
+
+def default_case(one):
+    """The call by the default rule on what a case by the midpoint is lent."""
+    if one.letter in FILES:
+        return decode_case(one.file, lent_of(one), 'D')
+    N, L, P, declared = one.numbers
+    return decode_body_case(N, L, P, one.file, declared, lent_of(one), 'C')
 
 
 def summaries_case(one):
@@ -391,12 +428,12 @@ def cut_kinds(answers, count):
         yield 'before a sign'
 
 
-def cut_counts(cases):
+def cut_counts(cases, letter):
     """The number of cuts of each kind of the small streams. Every cut has to
-    be among the cases, and every kind among the cuts of each stream, but for
-    those of a GRAND where there is one level."""
+    be among the cases of this letter, and every kind among the cuts of each
+    stream, but for those of a GRAND where there is one level."""
     stored = {one.file: one for _, one in cases
-              if one.letter == 'D' and not one.answer[0]}
+              if one.letter == letter and not one.answer[0]}
     counts, marks = Counter(), set()
     for N, L, A in SMALL:
         P, bits = encode(N, L, A, NO_BUDGET)
@@ -404,7 +441,8 @@ def cut_counts(cases):
         for count in range(len(bits) + 1):
             one = stored.get(write_file(N, L, P, count, bits[:count]))
             if one is None:
-                raise SystemExit('a cut of a small stream is not stored')
+                raise SystemExit('%s: a cut of a small stream is not stored'
+                                 % letter)
             here.update(cut_kinds(answers, count))
             last = P - one.answer[ANSWER.index('finished')]
             here['with a precision by a set alone'] += one.bytes != own_map(
@@ -417,6 +455,19 @@ def cut_counts(cases):
     if not marks >= set(range(second.MN(3) + 1)):
         raise SystemExit('a mark is missing in the small streams')
     return counts
+
+
+def print_cuts(cases):
+    """How many cuts of each kind there are, of each call on files."""
+    counts = {letter: cut_counts(cases, letter) for letter in FILES}
+    for kind in CUT_KINDS:
+        print('cuts %s: %s' % (kind, numbered(
+            (letter, counts[letter][kind]) for letter in FILES)))
+
+
+def numbered(pairs):
+    """Names with their numbers, but for those of 0."""
+    return ', '.join('%s %d' % pair for pair in pairs if pair[1])
 
 
 def absent_body(rng, N, L):
@@ -615,11 +666,7 @@ def coder_cases(seed, decodes):
             yield kind, encode_body_case(one, offset)
     for kind, one in decoded[::9]:
         if not 0 < one.answer[0] < 12:
-            N, L, P = one.file[5:8]
-            body = one.file[second.HEADER_BYTES:]
-            declared = int.from_bytes(one.file[8:12], 'big')
-            lent = one.lent[4], one.lent[3], one.lent[2]
-            yield kind, decode_body_case(N, L, P, body, declared, lent)
+            yield kind, body_case_of(one)
     yield from body_limits(rng)
     for kind, one in encoded[4::9]:
         if not one.answer[0]:
@@ -878,14 +925,6 @@ FORWARD, BACK = -1, -2
 # The letters of a step forward, a step back and a turn by themselves.
 STEPS = 'fbt'
 
-# The lent tables that a step changes, in the order of its parameters.
-STEPPED = 'values', 'bytes', 'marks'
-
-
-def tables_of(position):
-    """What a position has of each of the STEPPED."""
-    return position.values, position.precisions, position.marks
-
 
 def walked(N, L, P, body, declared, commands, lent):
     """The last answer of a dial, a refusal or None, and the position that it
@@ -917,7 +956,7 @@ def dial_case(N, L, P, body, declared, commands=(), lent=None):
     numbers = {} if refused else decoded_numbers(position)
     return case('Y', (N, L, P, declared), answer(refused, **numbers),
                 commands, body, desc=(8, position.record if position else ()),
-                **dict(zip(STEPPED, zip(lent, tables))))
+                **dict(zip(DECODED, zip(lent, tables))))
 
 
 def step_case(letter, record, tables, body, declared, to=0, own=0):
@@ -941,7 +980,7 @@ def step_case(letter, record, tables, body, declared, to=0, own=0):
     return case(letter, (declared, to, own), answer(refused, **numbers),
                 list(record) + [x for table in tables for x in table], body,
                 desc=(8, position.record if position else record),
-                **dict(zip(STEPPED, zip(lent, after))))
+                **dict(zip(DECODED, zip(lent, after))))
 
 
 def small_bodies():
@@ -1068,7 +1107,7 @@ def given_steps(rng):
     for N, L, P, bits, body in small_bodies():
         count = len(bits)
         for at in sorted(rng.sample(range(count + 1), 14 if N < 4 else 4)):
-            position = second.decode(N, L, P, bits[:at])
+            position = second.position_after(N, L, P, bits[:at])
             more = rng.choice((0, 1, 5))
             tables = [list(held) + [rng.randrange(256) for _ in range(more)]
                       for held in tables_of(position)]
@@ -1102,10 +1141,10 @@ def unfit_records():
                            ('t', largest)):
             yield step_case(letter, record, tables, body, declared, to)
 
-    middle = second.decode(2, 1, P, bits[:20])
-    whole = second.decode(2, 1, P, bits)
-    first = second.decode(2, 1, P, [])
-    zero = second.decode(2, 1, 0, [])
+    middle = second.position_after(2, 1, P, bits[:20])
+    whole = second.position_after(2, 1, P, bits)
+    first = second.position_after(2, 1, P, [])
+    zero = second.position_after(2, 1, 0, [])
     for name, numbers in wrong.items():
         for x in numbers:
             for one in each(middle, {name: x}, (0, 0, 0)):
@@ -1583,7 +1622,8 @@ def end_walks(N, L, end, past):
 def end_step(letter, N, L, end, at, to=0):
     """(kind, case) of a step or a turn in a body, on the record and the tables
     of so many bits."""
-    position = second.decode(N, L, end.P, second.unpack(end.body)[:at])
+    position = second.position_after(N, L, end.P,
+                                     second.unpack(end.body)[:at])
     return 'ending', step_case(letter, position.record, tables_of(position),
                                end.body, end.declared, to)
 
@@ -1648,10 +1688,10 @@ def end_kinds(one, P, declared, body):
 def lent_body(one):
     """N, L, P, the declared bits and the body of a case, or None where it is
     lent none, or where its tables are those of no prefix."""
-    if one.letter == 'D' and one.answer[0] in (0, 13):
+    if one.letter in FILES and one.answer[0] in (0, 13):
         return (*second.read_header(one.file),
                 one.file[second.HEADER_BYTES:])
-    if one.letter == 'C' or one.letter == 'Y' and one.ints:
+    if one.letter in BODIES or one.letter == 'Y' and one.ints:
         return (*one.numbers, one.file)
     if one.letter in STEPS and not one.numbers[2]:
         return (*one.ints[:3], one.numbers[0], one.file)
@@ -1677,7 +1717,7 @@ def counted(cases, counts):
         yield kind, one
 
 
-def check_ends(counts, asked):
+def check_kinds(counts, asked):
     """Every kind has to be there, of every size, of each letter of those that
     are asked for, which are (letters, kinds, sizes)."""
     for letters, kinds, sizes in asked:
@@ -1695,13 +1735,13 @@ def stored_ends(cases):
     counts = end_counts(cases)
     sizes = {one.numbers[:2] for one in cases
              if one.letter == 'E' and not one.answer[0]}
-    sizes |= {size for letter, size, _ in counts if letter == 'D'}
+    sizes |= {size for letter, size, _ in counts if letter in FILES}
     if not sizes >= {*shapes(6), *BETWEEN} | {(STORED_N, L)
                                               for L in range(1, STORED_N)}:
         raise SystemExit('a size has no cases')
-    check_ends(counts, (
-        ('D', WORDS, sorted(sizes)), ('D', DELICATE, shapes(6)),
-        ('C', WORDS, shapes(6)), ('C', DELICATE, shapes(4)),
+    check_kinds(counts, (
+        (FILES, WORDS, sorted(sizes)), (FILES, DELICATE, shapes(6)),
+        (BODIES, WORDS, shapes(6)), (BODIES, DELICATE, shapes(4)),
         ('Y', (GOES_ON,) + WORDS, shapes(6)),
         ('Y', DELICATE + (LEFT,), shapes(4)),
         ('ft', (GOES_ON,) + WORDS, shapes(4)), ('b', (GOES_ON,), shapes(4)),
@@ -1713,31 +1753,130 @@ def stored_ends(cases):
     return counts
 
 
+def check_refusals(cases):
+    """Each number for no has to be there, of each call that decodes."""
+    seen = {(one.letter, one.answer[0]) for one in cases}
+    wanted = {*product(FILES, (7, 8, 1, 2, 9, 10, 11, 5, 12, 13)),
+              *product(BODIES, (1, 2, 9, 5, 12, 13))}
+    if not wanted <= seen:
+        raise SystemExit('%s: no case refused by %d' % min(wanted - seen))
+
+
 def print_ends(counts):
     """How many cases of each kind there are, of each letter."""
     totals = Counter()
     for (letter, _, kind), count in counts.items():
         totals[kind, letter] += count
     for kind in (GOES_ON,) + WORDS + DELICATE + (LEFT,):
-        print('ends %s: %s' % (kind, ', '.join(
-            '%s %d' % (letter, totals[kind, letter])
-            for letter in 'DCY' + STEPS if totals[kind, letter])))
+        print('ends %s: %s' % (kind, numbered(
+            (letter, totals[kind, letter])
+            for letter in (*FILES, *BODIES, 'Y', *STEPS))))
 
 
 def shown_ends(cases, shown):
     """Holds the files of txpshow, which come with its text, to the words and
     the kinds of the cases of the same files."""
-    known = {one.file: one for one in cases if one.letter == 'D'}
-    check_ends(end_counts(known[data] for data in shown if data in known), (
-        ('D', WORDS + DELICATE, shapes(second.SHOW_N)),))
+    known = {one.file: one for one in cases if one.letter == 'd'}
+    check_kinds(end_counts(known[data] for data in shown if data in known), (
+        ('d', WORDS + DELICATE, shapes(second.SHOW_N)),))
     words = Counter()
     for data, text in shown.items():
         if text.startswith('TXP'):
-            words['D', tuple(data[5:7]), text.split('\n')[0].split()[-1]] += 1
-    check_ends(words, (('D', WORDS, shapes(second.SHOW_N)),))
+            words['d', tuple(data[5:7]), text.split('\n')[0].split()[-1]] += 1
+    check_kinds(words, (('d', WORDS, shapes(second.SHOW_N)),))
+
+
+# Rules for a value.
+
+# Kinds with many or long cases: of those by the midpoint with the same values
+# by the default rule, one in so many is a case by this rule too. Of all others
+# each is.
+MANY = ('whole', 'cut', 'short', 'absent', 'header', 'padding', 'surplus',
+        'dense')
+ONE_IN = 4
+
+# What is told apart among the cases by the default rule: where its values are
+# others than the midpoint's, the precisions of found coefficients, and whether
+# there are two of them. By both rules a value is the same where the precision
+# is 0, and where nothing is known.
+DIFFERENT = 'values are not those of the midpoint'
+FOUND = ['a found coefficient has precision %d' % k
+         for k in range(second.PLANE_LIMIT)]
+TWO = 'found coefficients have two precisions'
+UNKNOWN = 'a coefficient not found has a precision over 0'
+
+
+def rule_kinds(one, other):
+    """The kinds of a case by the default rule, the other being by the
+    midpoint."""
+    if one.answer[0]:
+        return []
+    pairs = set(zip(one.values, one.bytes))
+    found = {k for value, k in pairs if value}
+    kinds = {DIFFERENT: one.values != other.values, TWO: len(found) > 1,
+             UNKNOWN: any(k and not value for value, k in pairs)}
+    return [FOUND[k] for k in found] + [kind for kind, holds in kinds.items()
+                                        if holds]
+
+
+def with_default(cases, counts):
+    """(kind, case) cases, those by the midpoint followed by one by the default
+    rule on what they are lent, of which the kinds of each letter and size are
+    counted."""
+    alike = Counter()
+    for kind, one in cases:
+        yield kind, one
+        if one.letter not in BY_MIDPOINT:
+            continue
+        default = default_case(one)
+        kinds = rule_kinds(default, one)
+        if kind in MANY and DIFFERENT not in kinds:
+            alike[kind] += 1
+            if alike[kind] % ONE_IN:
+                continue
+        size = one.file[5:7] if one.letter in FILES else one.numbers[:2]
+        counts.update((default.letter, tuple(size), what) for what in kinds)
+        yield kind, default
+
+
+def default_cases(cases):
+    """(kind, case) of the calls by the default rule on what those by the
+    midpoint are lent, in which nothing may be missing: of every size values
+    that are others than the midpoint's and, of a file, both kinds that are the
+    same; of a small one found coefficients of two precisions; and of N = 2
+    those of each precision."""
+    counts = Counter()
+    made = grouped(pair for pair in with_default(cases, counts)
+                   if pair[1].letter in BY_DEFAULT)
+    largest = [(STORED_N, L) for L in range(1, STORED_N)]
+    check_kinds(counts, (
+        ('D', (DIFFERENT, FOUND[0], UNKNOWN),
+         [*shapes(6), *BETWEEN, *largest]),
+        ('D', (TWO,), shapes(5)), ('D', FOUND, shapes(2)),
+        ('C', (DIFFERENT, FOUND[0], UNKNOWN), shapes(6)),
+        ('C', (TWO,), shapes(3)), ('C', (DIFFERENT, UNKNOWN), largest)))
+    print_rules(counts)
+    return made
+
+
+def print_rules(counts):
+    """How many cases by the default rule there are of each kind, for each
+    N."""
+    totals = Counter()
+    for (letter, (N, _), kind), count in counts.items():
+        totals[letter, kind, N] += count
+    for letter, kind in product(BY_DEFAULT,
+                                (DIFFERENT, TWO, FOUND[0], UNKNOWN)):
+        print('rules %s %s: %s' % (letter, kind, numbered(
+            ('N %d:' % N, totals[letter, kind, N])
+            for N in range(2, second.N_LIMIT + 1))))
 
 
 # Cases of a large N.
+
+# The L of which there are cases on a body of the largest N.
+WIDE_BODIES = 1, 4, 9
+
 
 def stored_cases(seed):
     """(kind, case) of cases that are short to write, of the largest N that
@@ -1767,7 +1906,7 @@ def large_cases(seed):
     for L in range(1, N):
         kind = 'N %d L %d' % (N, L)
         yield from sparse_cases(rng, kind, N, L)
-        if L in (1, 4, 9):
+        if L in WIDE_BODIES:
             yield from body_cases(rng, kind, N, L)
         yield from cut_cases(rng, kind, N, L, stretched(rng, N, 20))
     yield from cut_cases(rng, 'dense', N, 8, random_array(rng, N, 20, 'decay'))
@@ -1949,11 +2088,10 @@ def damaged_cases(cases):
                  write_file(2, 1, 3, 39, bits + [1, 0]),
                  write_file(2, 1, 3, 20, [0] * 20),
                  b'TXP\0\2' + bytes(7)):
-        chosen.append(decode_case(data, (17, 18, 19)))
+        decoded = [decode_case(data, (17, 18, 19))]
         if data[4] == 1:
-            chosen.append(decode_body_case(
-                2, 1, 3, data[second.HEADER_BYTES:],
-                int.from_bytes(data[8:12], 'big'), (17, 18, 19)))
+            decoded.append(body_case_of(decoded[0]))
+        chosen += decoded + list(map(default_case, decoded))
     chosen += damaged_steps(bits)
     chosen += damaged_changes()
     letters = {one.letter for one in chosen if not one.answer[0]}
@@ -1966,6 +2104,32 @@ def damaged_cases(cases):
     for one in chosen:
         for what, wrong in damaged(one):
             yield 'damaged: ' + what, wrong
+    for what, wrong in wrong_rules(bits):
+        yield 'damaged: ' + what, wrong
+
+
+# Places of the sample after so many bits, each with the value that a wrong rule
+# gives it: place 3 is 1 with precision 0, and half of 2^0, rounded up, is added;
+# of places 13 and 2 nothing is known, with precisions 1 and 2, and half of 2^k
+# is given.
+WRONG_VALUES = {10: (('half of nothing', 2, 2),),
+                30: (('half of 2^0', 3, 2), ('half of nothing', 13, 1))}
+
+
+def wrong_rules(bits):
+    """(what, case) of the calls on cuts of the sample, whose bits these are, and
+    on their bodies, as programs with a wrong rule would have them: with all
+    values by the other rule, or with a single one of the WRONG_VALUES."""
+    for count, wrong in WRONG_VALUES.items():
+        one = decode_case(write_file(2, 1, 3, count, bits[:count]))
+        for middle in (one, body_case_of(one)):
+            low = default_case(middle)
+            for right, other in ((middle, low), (low, middle)):
+                yield 'the other rule', right._replace(values=other.values)
+                for what, place, value in wrong:
+                    values = list(right.values)
+                    values[place] = value
+                    yield what, right._replace(values=values)
 
 
 def damaged_steps(bits):
@@ -1976,7 +2140,7 @@ def damaged_steps(bits):
                                (20, [21])):
         yield dial_case(2, 1, 3, body, declared, commands, longer)
     yield dial_case(2, 2, 3, body, 37, [], longer)
-    position = second.decode(2, 1, 3, bits[:20])
+    position = second.position_after(2, 1, 3, bits[:20])
     tables = [list(held) + [9] * (lent - 16) for held, lent
               in zip(tables_of(position), longer)]
     unfit = position.record._replace(stage=3)
@@ -2023,9 +2187,10 @@ MALFORMED = (
 
 def damaged_wide(N, work_N):
     """(kind, case) of cases of a large N that must differ: encoding nothing
-    and decoding it, and the transform of the least samples and its inverse, for
-    the N of the largest work table."""
+    and decoding it by both rules, and the transform of the least samples and
+    its inverse, for the N of the largest work table."""
     taken = list(coded(N, N - 1, NO_BUDGET, [0] * 4 ** N))
+    taken.append(default_case(taken[-1]))
     taken += [one for _, one in there_and_back('', work_N, work_N - 1,
                                                [EXTREMES[0]] * 4 ** work_N)]
     for one in taken:
@@ -2093,7 +2258,7 @@ def write(directory, seed):
     endings = grouped(ending_cases(seed))
     more = list(show_cases(seed))
     more += [(kind, one.file) for kind, one in endings
-             if one.letter == 'D' and one.file[5] <= second.SHOW_N]
+             if one.letter == 'd' and one.file[5] <= second.SHOW_N]
     for number, (kind, data) in enumerate(more, len(decodes)):
         write_show(number, kind, data)
     cases = list(coder_cases(seed, decodes))
@@ -2102,12 +2267,12 @@ def write(directory, seed):
                  every_bit_cases(), step_cases(seed),
                  grouped(transform_cases(seed)), endings):
         cases += more
-    counts = cut_counts(cases)
-    for kind in CUT_KINDS:
-        print('cuts %s: %d' % (kind, counts[kind]))
+    cases += default_cases(cases)
+    print_cuts(cases)
     stored = [one for _, one in cases]
     print_ends(stored_ends(stored))
     shown_ends(stored, shown)
+    check_refusals(stored)
     good = remarked(cases, True)
     wrong = remarked(damaged_cases(cases), True)
     wrong += remarked(damaged_wide(STORED_N, WORK_N), True)
@@ -2119,10 +2284,15 @@ def write(directory, seed):
     print(write_cases('', good, wrong, malformed), end='')
     print('large')
     N = second.N_LIMIT
-    counts = Counter()
-    print(write_cases('large', remarked(counted(large_cases(seed), counts),
-                                        False)
+    counts, rules = Counter(), Counter()
+    large = counted(with_default(large_cases(seed), rules), counts)
+    print(write_cases('large', remarked(large, False)
                       + remarked(wide_transforms(seed), True),
                       remarked(damaged_wide(N, N), False), []), end='')
-    check_ends(counts, (('D', WORDS, [(N, L) for L in range(1, N)]),))
+    largest = [(N, L) for L in range(1, N)]
+    check_kinds(counts, ((FILES, WORDS, largest),))
+    check_kinds(rules, (
+        ('D', (DIFFERENT, FOUND[0], UNKNOWN), largest),
+        ('C', (DIFFERENT, UNKNOWN), [(N, L) for L in WIDE_BODIES])))
+    print_rules(rules)
     print('files %d' % (len(os.listdir(files)) // 2))

@@ -43,8 +43,9 @@ static size_t known(const uint8_t *precisions, size_t all, uint32_t last)
     return count;
 }
 
-/* Decodes the first bytes of a file, and prints why its bits ended and how near the values are. The header says how much is to be
- * lent. */
+/* Decodes the first bytes of a file, and prints why its bits ended and how near the values are; of a file that is not whole, whose
+ * values are those of a rule, the row by both: as txp_decode has it, known bits as they are, and by the midpoint. The header says how
+ * much is to be lent. */
 static void show(const uint8_t *file, size_t bytes)
 {
     txp_answer answer;
@@ -69,6 +70,13 @@ static void show(const uint8_t *file, size_t bytes)
         }
         printf(", worst error %u; row 0:", (unsigned)answer.error);
         print_row(n, values, values + all);
+        if (answer.ending != TXP_WHOLE) {
+            if (txp_decode_midpoint(file, bytes, values, all, tables, all, tables + all, all, &answer) != TXP_DONE) {
+                stop("txp_decode_midpoint", &answer);
+            }
+            printf("           by the midpoint:");
+            print_row(n, values, values + all);
+        }
     }
     free(values);
     free(tables);

@@ -42,15 +42,23 @@ static size_t store(const int32_t *samples, uint8_t file[TXP_MOST_FILE(N)])
     return answer.bytes;
 }
 
-/* Makes samples of the first bytes of a file, prints how far they are from those that were stored, and gives this back; -1 where
- * there are none. */
-static int32_t load(const uint8_t *file, size_t bytes, const int32_t *stored)
+/* The calls that decode a file. They differ in the rule that makes the values of a cut one: known bits as they are, and the midpoint. */
+typedef uint32_t decoding(const uint8_t *file, size_t file_len, int32_t *values, size_t values_len, uint8_t *precisions,
+                          size_t precisions_len, uint8_t *marks, size_t marks_len, txp_answer *answer);
+static const struct {
+    const char *name;
+    decoding *decode;
+} rules[] = {{"lower", txp_decode}, {"midpoint", txp_decode_midpoint}};
+
+/* Makes samples of the first bytes of a file by rule `r`, prints how far they are from those that were stored, and gives this back;
+ * -1 where there are none. */
+static int32_t load(int r, const uint8_t *file, size_t bytes, const int32_t *stored)
 {
     int32_t values[ALL], samples[ALL], work[ALL], most = 0;
     uint8_t precisions[ALL], marks[ALL];
     txp_answer answer;
-    expect(txp_decode(file, bytes, values, ALL, precisions, ALL, marks, ALL, &answer) == TXP_DONE, "txp_decode", &answer);
-    printf("%4zu bytes, %2u of %u planes: ", bytes, (unsigned)answer.finished, (unsigned)answer.planes);
+    expect(rules[r].decode(file, bytes, values, ALL, precisions, ALL, marks, ALL, &answer) == TXP_DONE, rules[r].name, &answer);
+    printf("%4zu bytes, %2u of %u planes, %8s: ", bytes, (unsigned)answer.finished, (unsigned)answer.planes, rules[r].name);
     if (txp_restore(N, L, values, ALL, samples, ALL, work, ALL, &answer) != TXP_DONE) {
         printf("refusal %u: %s\n", (unsigned)answer.refusal, txp_refusal_text(answer.refusal));
         return -1;
@@ -76,10 +84,14 @@ int main(int argc, char **argv)
     /* The whole file gives every sample back, and a part of it something near. It is kept where a name is given. */
     play(64, samples);
     size_t bytes = store(samples, file);
-    for (size_t cut = TXP_HEADER_SIZE; cut < bytes; cut *= 3) {
-        load(file, cut, samples);
+    for (size_t cut = 3 * TXP_HEADER_SIZE; cut < bytes; cut *= 3) {
+        for (int r = 0; r < 2; r++) {
+            load(r, file, cut, samples);
+        }
     }
-    expect(load(file, bytes, samples) == 0, "other samples than those stored", &answer);
+    for (int r = 0; r < 2; r++) {
+        expect(load(r, file, bytes, samples) == 0, "other samples than those stored", &answer);
+    }
     if (argc == 2) {
         FILE *to = fopen(argv[1], "wb");
         expect(to != NULL && fwrite(file, 1, bytes, to) == bytes && fclose(to) == 0, "the file was not written", &answer);
@@ -88,8 +100,10 @@ int main(int argc, char **argv)
     /* So loud that samples stand at the ends of their range: what is only near may lie outside. */
     play(1024, samples);
     bytes = store(samples, file);
-    load(file, bytes / 2, samples);
-    expect(load(file, bytes, samples) == 0, "other samples than those stored", &answer);
+    for (int r = 0; r < 2; r++) {
+        load(r, file, bytes / 2, samples);
+    }
+    expect(load(0, file, bytes, samples) == 0, "other samples than those stored", &answer);
 
     samples[3 * SIDE + 5] = 32768; /* no sample of 16 bits */
     expect(txp_transform(N, L, samples, ALL, coefs, ALL, work, ALL, &answer) == TXP_REFUSED_SAMPLE, "txp_transform", &answer);

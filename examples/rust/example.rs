@@ -1,7 +1,7 @@
 //! Encodes a small picture, decodes it whole, cut and stored small, and shows what a damaged file is answered. README.md has the commands.
 mod txp;
 
-use txp::Refusal;
+use txp::{Refusal, Rule};
 
 const N: u32 = 3;
 const L: u32 = 2;
@@ -19,20 +19,27 @@ fn row(n: u32, linear: &[i32]) -> Result<String, Refusal> {
     Ok(text)
 }
 
-/// What the first bytes of a file give. The header says how much is to be lent.
+/// What the first bytes of a file give; where planes are left, and so values are those of a rule, the row by both of them. The header
+/// says how much is to be lent.
 fn shown(file: &[u8]) -> Result<String, Refusal> {
     let n = txp::header(file)?.n;
     let all = txp::entries(n);
-    let (mut values, mut precisions) = (vec![0; all], vec![0; all]);
-    let d = txp::decode(file, &mut values, &mut precisions, &mut vec![0; all])?;
-    let row = row(n, &values)?;
+    let (mut values, mut precisions, mut marks) = (vec![0; all], vec![0; all], vec![0; all]);
+    let d = txp::decode(file, &mut values, &mut precisions, &mut marks, Rule::Lower)?;
     let last = d.planes - d.finished;
     let next = match last {
         0 => String::new(),
         _ => format!(" and of the next {} of {all}", precisions.iter().filter(|&&k| u32::from(k) < last).count()),
     };
     let word = d.ending_text();
-    Ok(format!("{word}, {} of {} bits, {} of {} planes{next}, worst error {}; row 0:{row}", d.bits, d.declared, d.finished, d.planes, d.error))
+    let mut text = format!("{word}, {} of {} bits, {} of {} planes{next}, worst error {}; row 0:", d.bits, d.declared, d.finished, d.planes, d.error);
+    text += &row(n, &values)?;
+    if last > 0 {
+        txp::decode(file, &mut values, &mut precisions, &mut marks, Rule::Midpoint)?;
+        text += "\n           by the midpoint:";
+        text += &row(n, &values)?;
+    }
+    Ok(text)
 }
 
 fn show(file: &[u8]) {

@@ -88,6 +88,17 @@ mod c {
             marks_len: usize,
             answer: *mut Answer,
         ) -> u32;
+        pub fn txp_decode_midpoint(
+            file: *const u8,
+            file_len: usize,
+            values: *mut i32,
+            values_len: usize,
+            precisions: *mut u8,
+            precisions_len: usize,
+            marks: *mut u8,
+            marks_len: usize,
+            answer: *mut Answer,
+        ) -> u32;
         pub fn txp_header(file: *const u8, file_len: usize, answer: *mut Answer) -> u32;
         pub fn txp_to_linear(n: u32, from: *const i32, from_len: usize, to: *mut i32, to_len: usize, answer: *mut Answer) -> u32;
         pub fn txp_to_raster(n: u32, from: *const i32, from_len: usize, to: *mut i32, to_len: usize, answer: *mut Answer) -> u32;
@@ -131,10 +142,21 @@ pub fn header(file: &[u8]) -> Result<Answer, Refusal> {
     answer(|a| unsafe { c::txp_header(file.as_ptr(), file.len(), a) })
 }
 
-/// Reads a file, whole or cut.
-pub fn decode(file: &[u8], values: &mut [i32], precisions: &mut [u8], marks: &mut [u8]) -> Result<Answer, Refusal> {
+/// How the value of a coefficient is made of its known bits: they stand for themselves, or for the middle of what they leave open.
+#[derive(Clone, Copy, Debug, PartialEq, Eq)]
+pub enum Rule {
+    Lower,
+    Midpoint,
+}
+
+/// Reads a file, whole or cut, values by a rule.
+pub fn decode(file: &[u8], values: &mut [i32], precisions: &mut [u8], marks: &mut [u8], rule: Rule) -> Result<Answer, Refusal> {
+    let call = match rule {
+        Rule::Lower => c::txp_decode,
+        Rule::Midpoint => c::txp_decode_midpoint,
+    };
     answer(|a| unsafe {
-        c::txp_decode(
+        call(
             file.as_ptr(),
             file.len(),
             values.as_mut_ptr(),

@@ -11,6 +11,7 @@ use Rattle.refusals.proofs.Decided.{OneOutcome}
 use Rattle.transform.specs.Transform.{coefficientsOf}
 use Rattle.transform.specs.Answers.{allZero}
 use Rattle.encoder.specs.Body.{Loan, loan}
+use Rattle.nls.specs.Reading.{lower, midpoint}
 use Rattle.decoder.specs.Body.{Tables, tables}
 use Rattle.decoder.specs.Ending.{ending}
 use Rattle.decoder.specs.declared.body.ReadAnswer.{ReadAnswer}
@@ -23,6 +24,8 @@ use Rattle.ctxp.specs.Lent.{FileDecoded, BodyDecoded, dialOf, numbersOf}
 use Rattle.ctxp.proofs.Laws.{lent-by}
 use Rattle.ctxp.proofs.txp_decode.Reads as decode
 use Rattle.ctxp.proofs.txp_decode_body.Reads as decode-body
+use Rattle.ctxp.proofs.txp_decode_midpoint.Reads as decode-midpoint
+use Rattle.ctxp.proofs.txp_decode_body_midpoint.Reads as decode-body-midpoint
 use Rattle.ctxp.proofs.txp_start.Reads as start
 use Rattle.ctxp.proofs.txp_forward.Reads as forward
 use Rattle.ctxp.proofs.txp_back.Reads as back
@@ -192,28 +195,38 @@ pub coarsest-decided : OneOutcome {Lent = List ℕ} coarsest.Learnt (λ k s. now
 coarsest-decided k args r r' s s' p q = one-answer refl p q
 
 -- decoding: two outcomes of reading one file, or one body, are equal
-file-one : (bytes : List ℕ) (held : Tables) (r r' : ℕ) (a a' : List ℕ) (left left' : Tables) → FileDecoded bytes held r a left → FileDecoded bytes held r' a' left'
+file-one : (rule : ℕ → ℕ → ℕ) (bytes : List ℕ) (held : Tables) (r r' : ℕ) (a a' : List ℕ) (left left' : Tables) → FileDecoded rule bytes held r a left → FileDecoded rule bytes held r' a' left'
     → (r ≡ r') × (a ≡ a') × (left ≡ left')
-file-one bytes held r r' a a' left left' p q =
-    let one = decodes-one bytes held (p .said) (q .said) left left' (p .decodes) (q .decodes) in
+file-one rule bytes held r r' a a' left left' p q =
+    let one = decodes-one rule bytes held (p .said) (q .said) left left' (p .decodes) (q .decodes) in
     let said = one-answer (ap ofDecoded (one .0)) (p .answers) (q .answers) in
     (said .0, said .1, one .1)
 
-body-one : (N L P declared : ℕ) (bytes : List ℕ) (held : Tables) (r r' : ℕ) (a a' : List ℕ) (left left' : Tables)
-    → BodyDecoded N L P declared bytes held r a left → BodyDecoded N L P declared bytes held r' a' left' → (r ≡ r') × (a ≡ a') × (left ≡ left')
-body-one N L P declared bytes held r r' a a' left left' p q =
-    let one = reads-one (ending declared bytes) N L P declared bytes held (p .said) (q .said) left left' (p .decodes) (q .decodes) in
+body-one : (rule : ℕ → ℕ → ℕ) (N L P declared : ℕ) (bytes : List ℕ) (held : Tables) (r r' : ℕ) (a a' : List ℕ) (left left' : Tables)
+    → BodyDecoded rule N L P declared bytes held r a left → BodyDecoded rule N L P declared bytes held r' a' left' → (r ≡ r') × (a ≡ a') × (left ≡ left')
+body-one rule N L P declared bytes held r r' a a' left left' p q =
+    let one = reads-one rule (ending declared bytes) N L P declared bytes held (p .said) (q .said) left left' (p .decodes) (q .decodes) in
     let said = one-answer (ap ofRead (one .0)) (p .answers) (q .answers) in
     (said .0, said .1, one .1)
 
 pub decode-decided : OneOutcome {Lent = List ℕ × Tables} decode.Learnt (λ k s. (now (s .1 .1 .1 .1 .0), tables (now (s .1 .0)) (now (s .1 .1 .0)) (now (s .1 .1 .1 .0))))
 decode-decided k args r r' s s' p q =
-    let one = file-one (now (args .0)) (tables (now (args .1 .0)) (now (args .1 .1 .0)) (now (args .1 .1 .1 .0))) r r' (now (s .1 .1 .1 .1 .0)) (now (s' .1 .1 .1 .1 .0)) (tables (now (s .1 .0)) (now (s .1 .1 .0)) (now (s .1 .1 .1 .0))) (tables (now (s' .1 .0)) (now (s' .1 .1 .0)) (now (s' .1 .1 .1 .0))) p q in
+    let one = file-one lower (now (args .0)) (tables (now (args .1 .0)) (now (args .1 .1 .0)) (now (args .1 .1 .1 .0))) r r' (now (s .1 .1 .1 .1 .0)) (now (s' .1 .1 .1 .1 .0)) (tables (now (s .1 .0)) (now (s .1 .1 .0)) (now (s .1 .1 .1 .0))) (tables (now (s' .1 .0)) (now (s' .1 .1 .0)) (now (s' .1 .1 .1 .0))) p q in
+    (one .0, λ i. (one .1 i, one .2 i))
+
+pub decode-midpoint-decided : OneOutcome {Lent = List ℕ × Tables} decode-midpoint.Learnt (λ k s. (now (s .1 .1 .1 .1 .0), tables (now (s .1 .0)) (now (s .1 .1 .0)) (now (s .1 .1 .1 .0))))
+decode-midpoint-decided k args r r' s s' p q =
+    let one = file-one midpoint (now (args .0)) (tables (now (args .1 .0)) (now (args .1 .1 .0)) (now (args .1 .1 .1 .0))) r r' (now (s .1 .1 .1 .1 .0)) (now (s' .1 .1 .1 .1 .0)) (tables (now (s .1 .0)) (now (s .1 .1 .0)) (now (s .1 .1 .1 .0))) (tables (now (s' .1 .0)) (now (s' .1 .1 .0)) (now (s' .1 .1 .1 .0))) p q in
     (one .0, λ i. (one .1 i, one .2 i))
 
 pub decode-body-decided : OneOutcome {Lent = List ℕ × Tables} decode-body.Learnt (λ k s. (now (s .1 .1 .1 .1 .1 .1 .1 .1 .0), tables (now (s .1 .1 .1 .1 .1 .0)) (now (s .1 .1 .1 .1 .1 .1 .0)) (now (s .1 .1 .1 .1 .1 .1 .1 .0))))
 decode-body-decided k args r r' s s' p q =
-    let one = body-one (args .0) (args .1 .0) (args .1 .1 .0) (args .1 .1 .1 .1 .0) (now (args .1 .1 .1 .0)) (tables (now (args .1 .1 .1 .1 .1 .0)) (now (args .1 .1 .1 .1 .1 .1 .0)) (now (args .1 .1 .1 .1 .1 .1 .1 .0))) r r' (now (s .1 .1 .1 .1 .1 .1 .1 .1 .0)) (now (s' .1 .1 .1 .1 .1 .1 .1 .1 .0)) (tables (now (s .1 .1 .1 .1 .1 .0)) (now (s .1 .1 .1 .1 .1 .1 .0)) (now (s .1 .1 .1 .1 .1 .1 .1 .0))) (tables (now (s' .1 .1 .1 .1 .1 .0)) (now (s' .1 .1 .1 .1 .1 .1 .0)) (now (s' .1 .1 .1 .1 .1 .1 .1 .0))) p q in
+    let one = body-one lower (args .0) (args .1 .0) (args .1 .1 .0) (args .1 .1 .1 .1 .0) (now (args .1 .1 .1 .0)) (tables (now (args .1 .1 .1 .1 .1 .0)) (now (args .1 .1 .1 .1 .1 .1 .0)) (now (args .1 .1 .1 .1 .1 .1 .1 .0))) r r' (now (s .1 .1 .1 .1 .1 .1 .1 .1 .0)) (now (s' .1 .1 .1 .1 .1 .1 .1 .1 .0)) (tables (now (s .1 .1 .1 .1 .1 .0)) (now (s .1 .1 .1 .1 .1 .1 .0)) (now (s .1 .1 .1 .1 .1 .1 .1 .0))) (tables (now (s' .1 .1 .1 .1 .1 .0)) (now (s' .1 .1 .1 .1 .1 .1 .0)) (now (s' .1 .1 .1 .1 .1 .1 .1 .0))) p q in
+    (one .0, λ i. (one .1 i, one .2 i))
+
+pub decode-body-midpoint-decided : OneOutcome {Lent = List ℕ × Tables} decode-body-midpoint.Learnt (λ k s. (now (s .1 .1 .1 .1 .1 .1 .1 .1 .0), tables (now (s .1 .1 .1 .1 .1 .0)) (now (s .1 .1 .1 .1 .1 .1 .0)) (now (s .1 .1 .1 .1 .1 .1 .1 .0))))
+decode-body-midpoint-decided k args r r' s s' p q =
+    let one = body-one midpoint (args .0) (args .1 .0) (args .1 .1 .0) (args .1 .1 .1 .1 .0) (now (args .1 .1 .1 .0)) (tables (now (args .1 .1 .1 .1 .1 .0)) (now (args .1 .1 .1 .1 .1 .1 .0)) (now (args .1 .1 .1 .1 .1 .1 .1 .0))) r r' (now (s .1 .1 .1 .1 .1 .1 .1 .1 .0)) (now (s' .1 .1 .1 .1 .1 .1 .1 .1 .0)) (tables (now (s .1 .1 .1 .1 .1 .0)) (now (s .1 .1 .1 .1 .1 .1 .0)) (now (s .1 .1 .1 .1 .1 .1 .1 .0))) (tables (now (s' .1 .1 .1 .1 .1 .0)) (now (s' .1 .1 .1 .1 .1 .1 .0)) (now (s' .1 .1 .1 .1 .1 .1 .1 .0))) p q in
     (one .0, λ i. (one .1 i, one .2 i))
 
 -- the stepped decoder: outcomes of equal answers, records and tables are equal. The record's numbers are the first parameter

@@ -36,9 +36,10 @@ pub record FileEncoded (N L : ℕ) (A : List ℤ) (budget : ℕ) (held : Loan) (
   pub encodes : Encodes N L A budget held said left
   pub answers : Answers r answer (ofEncoded said)
 
-pub record FileDecoded (file : List ℕ) (held : Tables) (r : ℕ) (answer : List ℕ) (left : Tables) : Type 0 where
+-- decoding is by the rule that the call names
+pub record FileDecoded (rule : ℕ → ℕ → ℕ) (file : List ℕ) (held : Tables) (r : ℕ) (answer : List ℕ) (left : Tables) : Type 0 where
   pub said : DecodeAnswer
-  pub decodes : Decodes file held said left
+  pub decodes : Decodes rule file held said left
   pub answers : Answers r answer (ofDecoded said)
 
 -- the same of a body
@@ -47,9 +48,9 @@ pub record BodyEncoded (N L : ℕ) (A : List ℤ) (offset budget : ℕ) (held : 
   pub encodes : Writes N L A offset budget held said left
   pub answers : Answers r answer (ofWritten said)
 
-pub record BodyDecoded (N L P declared : ℕ) (bytes : List ℕ) (held : Tables) (r : ℕ) (answer : List ℕ) (left : Tables) : Type 0 where
+pub record BodyDecoded (rule : ℕ → ℕ → ℕ) (N L P declared : ℕ) (bytes : List ℕ) (held : Tables) (r : ℕ) (answer : List ℕ) (left : Tables) : Type 0 where
   pub said : ReadAnswer
-  pub decodes : Reads N L P declared bytes held said left
+  pub decodes : Reads rule N L P declared bytes held said left
   pub answers : Answers r answer (ofRead said)
 
 -- the scan record that eight numbers are, in the order of the header's `txp_record`; the numbers of a record

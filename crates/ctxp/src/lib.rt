@@ -17,6 +17,7 @@ ghost use Rattle.coef.specs.Coef as coefficient;
 ghost use Rattle.tree.specs.Summaries.{summaryChecks, descTable, grandTable};
 ghost use Rattle.figures.specs.Figures.{figuresOf, figuresChecks, answered, allFigures, allFiguresChecks};
 ghost use Rattle.room.specs.Room as room;
+ghost use Rattle.nls.specs.Reading.{lower, midpoint};
 ghost use Rattle.encoder.specs.Body.{loan};
 ghost use Rattle.decoder.specs.Body.{tables};
 ghost use Rattle.txp.specs.Header.{headerOf};
@@ -45,7 +46,7 @@ pub extern "C" fn txp_encode(
     put(answer, answers::of_encoded(done))
 }
 
-// Reads a file, whole or cut.
+// Reads a file, whole or cut: known bits stand for themselves.
 #[no_mangle]
 pub extern "C" fn txp_decode(
     file: &[u8],
@@ -54,9 +55,24 @@ pub extern "C" fn txp_decode(
     marks: &mut [u8],
     answer: &mut [u32; 16],
 ) -> u32
-    ensures { λ r. ⌜ FileDecoded (now (file .entry)) (tables (now (values .entry)) (now (precisions .entry)) (now (marks .entry))) r (now (answer .exit)) (tables (now (values .exit)) (now (precisions .exit)) (now (marks .exit))) ⌝ }
+    ensures { λ r. ⌜ FileDecoded lower (now (file .entry)) (tables (now (values .entry)) (now (precisions .entry)) (now (marks .entry))) r (now (answer .exit)) (tables (now (values .exit)) (now (precisions .exit)) (now (marks .exit))) ⌝ }
 {
     let done = txp::decode(file, values, precisions, marks);
+    put(answer, answers::of_decoded(done))
+}
+
+// The same, values by the midpoint.
+#[no_mangle]
+pub extern "C" fn txp_decode_midpoint(
+    file: &[u8],
+    values: &mut [i32],
+    precisions: &mut [u8],
+    marks: &mut [u8],
+    answer: &mut [u32; 16],
+) -> u32
+    ensures { λ r. ⌜ FileDecoded midpoint (now (file .entry)) (tables (now (values .entry)) (now (precisions .entry)) (now (marks .entry))) r (now (answer .exit)) (tables (now (values .exit)) (now (precisions .exit)) (now (marks .exit))) ⌝ }
+{
+    let done = txp::decode_midpoint(file, values, precisions, marks);
     put(answer, answers::of_decoded(done))
 }
 
@@ -100,7 +116,7 @@ pub extern "C" fn txp_encode_body(
     put(answer, answers::of_written(done))
 }
 
-// Reads the first `declared` bits of a body, or all that it has.
+// Reads the first `declared` bits of a body, or all that it has: known bits stand for themselves.
 #[no_mangle]
 pub extern "C" fn txp_decode_body(
     n: u32,
@@ -113,9 +129,28 @@ pub extern "C" fn txp_decode_body(
     marks: &mut [u8],
     answer: &mut [u32; 16],
 ) -> u32
-    ensures { λ r. ⌜ BodyDecoded n l p declared (now (body .entry)) (tables (now (values .entry)) (now (precisions .entry)) (now (marks .entry))) r (now (answer .exit)) (tables (now (values .exit)) (now (precisions .exit)) (now (marks .exit))) ⌝ }
+    ensures { λ r. ⌜ BodyDecoded lower n l p declared (now (body .entry)) (tables (now (values .entry)) (now (precisions .entry)) (now (marks .entry))) r (now (answer .exit)) (tables (now (values .exit)) (now (precisions .exit)) (now (marks .exit))) ⌝ }
 {
     let done = decoder::decode(n, l, p, body, declared, values, precisions, marks);
+    put(answer, answers::of_read(done))
+}
+
+// The same, values by the midpoint.
+#[no_mangle]
+pub extern "C" fn txp_decode_body_midpoint(
+    n: u32,
+    l: u32,
+    p: u32,
+    body: &[u8],
+    declared: u32,
+    values: &mut [i32],
+    precisions: &mut [u8],
+    marks: &mut [u8],
+    answer: &mut [u32; 16],
+) -> u32
+    ensures { λ r. ⌜ BodyDecoded midpoint n l p declared (now (body .entry)) (tables (now (values .entry)) (now (precisions .entry)) (now (marks .entry))) r (now (answer .exit)) (tables (now (values .exit)) (now (precisions .exit)) (now (marks .exit))) ⌝ }
+{
+    let done = decoder::decode_midpoint(n, l, p, body, declared, values, precisions, marks);
     put(answer, answers::of_read(done))
 }
 

@@ -17,7 +17,7 @@ use Rattle.bits.proofs.Laws.{bitsOf-length}
 use Rattle.coef.specs.Coef.{at}
 use Rattle.nls.specs.Marks.{startMarks}
 use Rattle.nls.specs.Stream.{after}
-use Rattle.nls.specs.Reading.{known, midpoint, valueBy, lastPlane}
+use Rattle.nls.specs.Reading.{known, valueBy, lastPlane}
 use Rattle.nls.specs.Turns.{standing, precisionBy}
 use Rattle.nls.specs.Judging.{Verdict, taken, contradiction, beyond, Judged}
 use Rattle.nls.proofs.Known.{left-most}
@@ -139,16 +139,16 @@ module _ (N L P values precisions marks : ℕ) (ready : ReadReady N L P values p
           go (beyond k) f j = absurd (omega (arith, h, f .1, f .2))
 
       -- refused: the tables are cleared
-      module _ (word : ℕ → ℕ → Ending) (held : Tables) (hv : length (held .values) ≡ allOf N) (hp : length (held .precisions) ≡ allOf N) (hm : length (held .marks) ≡ allOf N)
+      module _ (rule : ℕ → ℕ → ℕ) (word : ℕ → ℕ → Ending) (held : Tables) (hv : length (held .values) ≡ allOf N) (hp : length (held .precisions) ≡ allOf N) (hm : length (held .marks) ≡ allOf N)
           (w : List ℤ) (q o : List ℕ) (ew : w ≡ replicate (allOf N) (pos 0)) (eq : q ≡ replicate (allOf N) 0) (eo : o ≡ replicate (allOf N) 0) where
         cleared : tables w q o ≡ over (allOf N) (zeros (allOf N)) held
         cleared =
             same-tables w _ q _ o _ (ew ∙ sym (whole (allOf N) (replicate (allOf N) (pos 0)) (held .values) hv)) (eq ∙ sym (whole (allOf N) (replicate (allOf N) 0) (held .precisions) hp)) (eo ∙ sym (whole (allOf N) (replicate (allOf N) 0) (held .marks) hm))
 
-        pub refused-12 : bad ≡ true → BodyRead word N L P (bitsOf usable body) held (Refused (Contradiction n)) (tables w q o)
+        pub refused-12 : bad ≡ true → BodyRead rule word N L P (bitsOf usable body) held (Refused (Contradiction n)) (tables w q o)
         refused-12 b = record { verdict = contradiction n; judged = judged-12 b; answered = refl; filled = cleared }
 
-        pub refused-13 : bad ≡ false → n < usable → BodyRead word N L P (bitsOf usable body) held (Refused (Beyond n)) (tables w q o)
+        pub refused-13 : bad ≡ false → n < usable → BodyRead rule word N L P (bitsOf usable body) held (Refused (Beyond n)) (tables w q o)
         refused-13 b h = record { verdict = beyond n; judged = judged-13 b h; answered = refl; filled = cleared }
 
     -- taken
@@ -182,18 +182,18 @@ module _ (N L P values precisions marks : ℕ) (ready : ReadReady N L P values p
       power-one = omega (arith, power, one-le-pow left 2 (omega arith))
 
       -- and what it leaves
-      pub accepted : Judged N L P (bitsOf usable body) taken → (word : ℕ → ℕ → Ending) (said : Ending) → said ≡ word n left → (held : Tables) → length (held .values) ≡ allOf N → length (held .precisions) ≡ allOf N → length (held .marks) ≡ allOf N
+      pub accepted : Judged N L P (bitsOf usable body) taken → (rule : ℕ → ℕ → ℕ) (word : ℕ → ℕ → Ending) (said : Ending) → said ≡ word n left → (held : Tables) → length (held .values) ≡ allOf N → length (held .precisions) ≡ allOf N → length (held .marks) ≡ allOf N
           → (w : List ℤ) (q : List ℕ) (all : ℕ) → all ≡ allOf N
-          → w ≡ table all (λ i. valueBy midpoint (precisionBy all m left now i) (plainOf (at v i))) → q ≡ table all (λ i. precisionBy all m left now i)
-          → BodyRead word N L P (bitsOf usable body) held (Done (record { used = n; finished = P - left; error = (1 * 2 ^ left) % 4294967296 - 1; ending = said })) (tables w q m)
-      accepted j word said is held hv hp hm w q all ea ew eq =
+          → w ≡ table all (λ i. valueBy rule (precisionBy all m left now i) (plainOf (at v i))) → q ≡ table all (λ i. precisionBy all m left now i)
+          → BodyRead rule word N L P (bitsOf usable body) held (Done (record { used = n; finished = P - left; error = (1 * 2 ^ left) % 4294967296 - 1; ending = said })) (tables w q m)
+      accepted j rule word said is held hv hp hm w q all ea ew eq =
           record {
             verdict = taken;
             judged = j;
             answered = λ i. Done (record { used = used i; finished = P - t .lefts i; error = error i; ending = spoken i });
             filled =
                 same-tables w _ q _ m _
-                (ew ∙ ap (λ (k : ℕ). table k (λ i. valueBy midpoint (precisionBy k m left now i) (plainOf (at v i)))) ea ∙ values-are (stood j) v (t .valued) ∙ sym (whole (allOf N) _ (held .values) hv))
+                (ew ∙ ap (λ (k : ℕ). table k (λ i. valueBy rule (precisionBy k m left now i) (plainOf (at v i)))) ea ∙ values-are (stood j) v (t .valued) rule ∙ sym (whole (allOf N) _ (held .values) hv))
                 (eq ∙ ap (λ (k : ℕ). table k (λ i. precisionBy k m left now i)) ea ∙ precisions-are (stood j) ∙ sym (whole (allOf N) _ (held .precisions) hp))
                 (t .marked ∙ sym (whole (allOf N) _ (held .marks) hm));
           }
@@ -208,7 +208,7 @@ module _ (N L P values precisions marks : ℕ) (ready : ReadReady N L P values p
           error = ap (λ (x : ℕ). x - 1) power ∙ ap (λ (x : ℕ). 2 ^ x - 1) (t .lefts)
 
 -- the lent parts put back into the wholes
-module _ (word : ℕ → ℕ → Ending) (N L P most usable all : ℕ) (body : List ℕ) (v : List ℤ) (p m : List ℕ) (answer : ReadAnswer) (w : List ℤ) (q o : List ℕ) where
+module _ (rule : ℕ → ℕ → ℕ) (word : ℕ → ℕ → Ending) (N L P most usable all : ℕ) (body : List ℕ) (v : List ℤ) (p m : List ℕ) (answer : ReadAnswer) (w : List ℤ) (q o : List ℕ) where
   part-back : {A : Type 0} (own part held : List A) → all ≡ allOf N → all ≤ length held → part ≡ own ++ drop (allOf N) (take all held)
       → part ++ drop all held ≡ own ++ drop (allOf N) held
   part-back {A} own part held e h is =
@@ -216,17 +216,17 @@ module _ (word : ℕ → ℕ → Ending) (N L P most usable all : ℕ) (body : L
       ap (λ (l : List A). l ++ drop all held) part-is ∙ ap (λ (k : ℕ). own ++ drop k held) e
 
   pub decoded-back : most ≡ min usable (8 * length body) → all ≡ allOf N → all ≤ length v → all ≤ length p → all ≤ length m
-      → BodyRead word N L P (bitsOf most body) (tables (take all v) (take all p) (take all m)) answer (tables w q o)
-      → BodyRead word N L P (bodyBits usable body) (tables v p m) answer (tables (w ++ drop all v) (q ++ drop all p) (o ++ drop all m))
+      → BodyRead rule word N L P (bitsOf most body) (tables (take all v) (take all p) (take all m)) answer (tables w q o)
+      → BodyRead rule word N L P (bodyBits usable body) (tables v p m) answer (tables (w ++ drop all v) (q ++ drop all p) (o ++ drop all m))
   decoded-back em ea hv hp hm d =
-      subst (λ (k : ℕ). BodyRead word N L P (bitsOf k body) (tables v p m) answer (tables (w ++ drop all v) (q ++ drop all p) (o ++ drop all m))) em
+      subst (λ (k : ℕ). BodyRead rule word N L P (bitsOf k body) (tables v p m) answer (tables (w ++ drop all v) (q ++ drop all p) (o ++ drop all m))) em
       (record {
         verdict = d .verdict;
         judged = d .judged;
         answered = d .answered;
         filled =
             same-tables (w ++ drop all v) _ (q ++ drop all p) _ (o ++ drop all m) _
-            (part-back (ownTables N L P (bitsOf most body) (d .verdict) .values) w v ea hv (ap (λ (t : Tables). t .values) (d .filled)))
-            (part-back (ownTables N L P (bitsOf most body) (d .verdict) .precisions) q p ea hp (ap (λ (t : Tables). t .precisions) (d .filled)))
-            (part-back (ownTables N L P (bitsOf most body) (d .verdict) .marks) o m ea hm (ap (λ (t : Tables). t .marks) (d .filled)));
+            (part-back (ownTables rule N L P (bitsOf most body) (d .verdict) .values) w v ea hv (ap (λ (t : Tables). t .values) (d .filled)))
+            (part-back (ownTables rule N L P (bitsOf most body) (d .verdict) .precisions) q p ea hp (ap (λ (t : Tables). t .precisions) (d .filled)))
+            (part-back (ownTables rule N L P (bitsOf most body) (d .verdict) .marks) o m ea hm (ap (λ (t : Tables). t .marks) (d .filled)));
       })

@@ -2,92 +2,54 @@
 use mathlib.Core.Path.{_≡_, refl, sym, ap, _∙_}
 use mathlib.Core.Bool.{Bool, true, false, cond}
 use mathlib.Core.List.{List, [], _∷_, _++_, append-nil, append-assoc}
-use Prim.Native.Nat.{ℕ, zero, suc, _+_, _*_, _-_, _/_, _%_, _^_, _≤_, _<_}
-use native.Mathlib.Nat.{pow-suc}
+use Prim.Native.Nat.{ℕ, zero, suc, _+_, _*_, _-_, _/_, _%_, _≤_, _<_}
 use native.Mathlib.Omega.{arith}
-use native.Mathlib.Decide.{ℕ-discrete}
-use borrow.Author.Tests.{eq-eqb, ne-eqb, le-leb}
+use borrow.Author.Tests.{eqb-true, eqb-false}
 use lib.Dec.{eqb}
 use lib.IntN.{ℤ, pos}
 use lib.ListN.{length, getD, take, drop, replicate, replicate-append-replicate}
-use lib.Pow.{pow-mono}
 use lib.Seq.{getD-drop, getD-append-add, drop-length, drop-drop, take-at, drop-at}
 use borrow.Rule.Slice.PartMut.{midOf, postOf, putMid, mid-len}
-use Rattle.sizes.specs.Sizes.{limit, mostPlanes}
+use Rattle.sizes.specs.Sizes.{limit}
 use Rattle.sizes.specs.Tables.{table}
 use Rattle.sizes.proofs.Tables.{table-length, table-suc}
 use Rattle.coef.specs.Coef.{magnitude, negative, signed}
-use Rattle.coef.proofs.Laws.{magnitude-signed, negative-signed}
-use Rattle.nls.specs.Reading.{midpoint, valueBy}
-use Rattle.decoder.specs.Finishing.{joinedOr0, middleOf, uncoded}
+use Rattle.coef.proofs.Laws.{magnitude-signed}
+use Rattle.nls.specs.Reading.{valueBy, Between}
+use Rattle.nls.proofs.HighBits.{neg-signed, signed-zero}
+use Rattle.decoder.specs.Finishing.{uncoded}
 
--- the middle of what known bits may be, as the machine makes it: half of 2^k, which is 0 for k = 0
-halved : (k : ℕ) → k ≤ mostPlanes → (1 * 2 ^ k) % 4294967296 / 2 ≡ cond (eqb k 0) 0 (2 ^ (k - 1))
-halved zero h = refl
-halved (suc k) h =
-    rw (ne-eqb (suc k) 0 (λ e. omega (arith, e)))
-    (omega (arith, pow-suc 2 k, pow-mono {i = k} {j = mostPlanes} (omega arith), ap (λ (n : ℕ). 2 ^ n) {x = suc k - 1} {y = k} (omega arith)))
-
-module _ (size k : ℕ) where
-  pub middle-none : size ≡ 0 → 0 ≡ middleOf k size
-  middle-none e = rw (eq-eqb size 0 e)
-
-  pub middle-some : (size ≡ 0 → ⊥) → k ≤ mostPlanes → size + (1 * 2 ^ k) % 4294967296 / 2 ≡ middleOf k size
-  middle-some e h = rw (ne-eqb size 0 e) (ap (λ (n : ℕ). size + n) (halved k h) ∙ go (eqb k 0))
-    where
-      go : (t : Bool) → size + cond t 0 (2 ^ (k - 1)) ≡ cond t size (size + 2 ^ (k - 1))
-      go true = omega arith
-      go false = refl
-
--- a value by a rule, where known bits are not 0
-some-value : (z : ℤ) (k : ℕ) → (magnitude z ≡ 0 → ⊥) → valueBy midpoint k z ≡ signed (negative z) (midpoint k (magnitude z))
-unfolding valueBy
-some-value z k h = rw (ne-eqb (magnitude z) 0 h)
-
--- a code undone has its sign and its magnitude
-below-signed : (s : Bool) (n : ℕ) → (n ≡ 0 → ⊥) → negative (signed s n) ≡ s
-below-signed true n h = negative-signed n (omega (arith, h))
-below-signed false n h = refl
-
-nothing-signed : (s : Bool) → signed s 0 ≡ pos 0
-nothing-signed true = refl
-nothing-signed false = refl
-
-module _ (n k : ℕ) (within : magnitude (valueBy midpoint k (uncoded n)) ≤ limit) where
+-- a code undone: its sign, its known bits, and its value by a rule
+module _ (rule : ℕ → ℕ → ℕ) (n k : ℕ) where
   abbrev s : Bool
   s = eqb (n % 2) 1
 
   size : magnitude (uncoded n) ≡ n / 2
   size = magnitude-signed s (n / 2)
 
-  not-zero : (n / 2 ≡ 0 → ⊥) → magnitude (uncoded n) ≡ 0 → ⊥
-  not-zero h e = h (sym size ∙ e)
-
-  some-is : (n / 2 ≡ 0 → ⊥) → valueBy midpoint k (uncoded n) ≡ signed (eqb (n % 2) 1) (midpoint k (n / 2))
-  some-is h = some-value (uncoded n) k (not-zero h) ∙ (λ i. signed (below-signed s (n / 2) h i) (midpoint k (size i)))
-
-  -- the middle is within the limit, and so are the known bits
-  middle-in : (n / 2 ≡ 0 → ⊥) → midpoint k (n / 2) ≤ limit
-  middle-in h = omega (arith, within, ap magnitude (some-is h), magnitude-signed s (midpoint k (n / 2)))
-
-  pub size-in : n / 2 ≤ limit
-  size-in = go (ℕ-discrete (n / 2) 0)
-    where
-      low : (t : Bool) → n / 2 ≤ cond t (n / 2) (n / 2 + 2 ^ (k - 1))
-      low true = omega arith
-      low false = omega arith
-
-      go : Dec (n / 2 ≡ 0) → n / 2 ≤ limit
-      go (yes e) = omega (arith, e)
-      go (no h) = omega (arith, middle-in h, low (eqb k 0))
-
-  pub value-is : joinedOr0 (eqb (n % 2) 1) (middleOf k (n / 2)) ≡ valueBy midpoint k (uncoded n)
+  -- the value of a code has its sign, and the rule's magnitude
+  value-is : signed (eqb (n % 2) 1) (cond (eqb (n / 2) 0) 0 (rule k (n / 2))) ≡ valueBy rule k (uncoded n)
   unfolding valueBy
-  value-is = go (ℕ-discrete (n / 2) 0)
+  value-is = rw size (on (eqb (n / 2) 0) refl)
     where
-      go : Dec (n / 2 ≡ 0) → joinedOr0 (eqb (n % 2) 1) (middleOf k (n / 2)) ≡ valueBy midpoint k (uncoded n)
-      go (yes e) = rw (eq-eqb (n / 2) 0 e, eq-eqb (magnitude (uncoded n)) 0 (size ∙ e)) (nothing-signed s)
-      go (no h) = rw (ne-eqb (n / 2) 0 h, le-leb (midpoint k (n / 2)) limit (middle-in h)) (sym (some-is h))
+      on : (t : Bool) → eqb (n / 2) 0 ≡ t → signed s (cond t 0 (rule k (n / 2))) ≡ cond t (pos 0) (signed (negative (uncoded n)) (rule k (n / 2)))
+      on true e = signed-zero s
+      on false e = ap (λ (b : Bool). signed b (rule k (n / 2))) (sym (neg-signed s (n / 2) (omega (arith, eqb-false (n / 2) 0 e))))
+
+  pub undone : (below : Bool) (shown : ℕ) → eqb (n % 2) 1 ≡ below → shown ≡ cond (eqb (n / 2) 0) 0 (rule k (n / 2)) → signed below shown ≡ valueBy rule k (uncoded n)
+  undone below shown e f = (λ i. signed (sym e i) (f i)) ∙ value-is
+
+  module _ (within : magnitude (valueBy rule k (uncoded n)) ≤ limit) where
+    -- which is within the limit, and so are the known bits
+    pub shown-in : cond (eqb (n / 2) 0) 0 (rule k (n / 2)) ≤ limit
+    shown-in = omega (arith, within, ap magnitude value-is, magnitude-signed s (cond (eqb (n / 2) 0) 0 (rule k (n / 2))))
+
+    pub size-in : Between rule → n / 2 ≤ limit
+    size-in fair = on (eqb (n / 2) 0) refl shown-in
+      where
+        on : (t : Bool) → eqb (n / 2) 0 ≡ t → cond t 0 (rule k (n / 2)) ≤ limit → n / 2 ≤ limit
+        on true e h = omega (arith, eqb-true (n / 2) 0 e)
+        on false e h = omega (arith, h, fair .low k (n / 2) (omega (arith, eqb-false (n / 2) 0 e)))
 
 -- what is not done yet stands as it was
 pub not-yet : {A : Type 0} (q : ℕ) (f : ℕ → A) (held : List A) (d : A) → getD (table q f ++ drop q held) q d ≡ getD held q d

@@ -1,5 +1,5 @@
-pub mod ValueLaws
 pub mod Endings
+pub mod RuleLaws
 pub mod FinishLaws
 pub mod StoodLaws
 pub mod DecodeLaws

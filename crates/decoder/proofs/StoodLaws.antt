@@ -15,7 +15,7 @@ use Rattle.sizes.proofs.Laws.{all-most}
 use Rattle.sizes.proofs.Tables.{table-ext, table-is}
 use Rattle.coef.specs.Coef.{at, negative}
 use Rattle.nls.specs.Marks.{skip}
-use Rattle.nls.specs.Reading.{known, midpoint, valueBy, precisionAt, precisions, valuesBy}
+use Rattle.nls.specs.Reading.{known, valueBy, Between, precisionAt, precisions, valuesBy}
 use Rattle.nls.specs.Turns.{turn, downTo, precisionBy}
 use Rattle.nls.proofs.Tiled.{tiled}
 use Rattle.nls.proofs.Machine.Table.{Cfg}
@@ -23,7 +23,7 @@ use Rattle.nls.proofs.Machine.Cover.{Core, skip-1}
 use Rattle.nls.proofs.Machine.Blocks.{after-block, at-0}
 use Rattle.nls.proofs.Streams.{codes-fit, marks-length}
 use Rattle.nls.proofs.Known.{left-most}
-use Rattle.nls.proofs.Values.{midpoint-between, value-range}
+use Rattle.nls.proofs.Values.{value-range}
 use Rattle.nls.proofs.Precision.Turns.{turn-new, turn-old, precision-of}
 use Rattle.nls.proofs.Precision.Rows.{core-after, turn-head, turn-row, row-same, row-of, row-fits}
 use Rattle.marking.specs.Marking.{codesEnd}
@@ -84,24 +84,24 @@ module _ {m : List ℕ} {left now : ℕ} (s : Stood m left now) where
   pub precisions-are : table (allOf (s .N)) (λ i. precisionBy (allOf (s .N)) m left now i) ≡ precisions (s .N) (s .L) (s .P) (s .bits)
   precisions-are = table-ext (allOf N) _ _ precision-is
 
-  module _ (v : List ℤ) (codes : Codes s v) where
+  module _ (v : List ℤ) (codes : Codes s v) (rule : ℕ → ℕ → ℕ) where
     plain-at : (i : ℕ) → plainOf (at v i) ≡ at (known (s .N) (s .L) (s .P) (s .bits) .bits) i
     plain-at i =
         let b : List ℤ = known N L (s .P) (s .bits) .bits in
         ap (λ (x : List ℤ). plainOf (at x i)) codes ∙ ap plainOf (codes-at b i) ∙ plain-coded (at b i)
 
-    pub values-are : table (allOf (s .N)) (λ i. valueBy midpoint (precisionBy (allOf (s .N)) m left now i) (plainOf (at v i))) ≡ valuesBy (s .N) (s .L) (s .P) (s .bits) midpoint
+    pub values-are : table (allOf (s .N)) (λ i. valueBy rule (precisionBy (allOf (s .N)) m left now i) (plainOf (at v i))) ≡ valuesBy (s .N) (s .L) (s .P) (s .bits) rule
     values-are =
         table-ext (allOf N) _ _
-        (λ i h. ap (λ (k : ℕ). valueBy midpoint k (plainOf (at v i))) (precision-is i h) ∙ ap (λ (z : ℤ). valueBy midpoint (precisionAt N L (s .P) (s .bits) i) z) (plain-at i))
+        (λ i h. ap (λ (k : ℕ). valueBy rule k (plainOf (at v i))) (precision-is i h) ∙ ap (λ (z : ℤ). valueBy rule (precisionAt N L (s .P) (s .bits) i) z) (plain-at i))
 
     -- each code can be undone
-    pub undone : (i : ℕ) → i < length m → Uncodes (at v i) (down i)
-    undone i h = (
+    pub undone : Between rule → (i : ℕ) → i < length m → Uncodes rule (at v i) (down i)
+    undone fair i h = (
       ap (λ (x : List ℤ). negative (at x i)) codes ∙ ap negative (codes-at (known N L (s .P) (s .bits) .bits) i),
       omega (arith, low (ltb (turn (length m) m i) now), left-fits),
       rw (long, precision-is i (omega (arith, h, long)), plain-at i)
-          (omega (arith, value-range N L (s .P) (s .bits) midpoint midpoint-between i (omega (arith, h, long)), pow-mono {i = s .P} {j = mostPlanes} (s .planes))),
+          (omega (arith, value-range N L (s .P) (s .bits) rule fair i (omega (arith, h, long)), pow-mono {i = s .P} {j = mostPlanes} (s .planes))),
     )
       where
         low : (t : Bool) → cond t (left - 1) left ≤ left

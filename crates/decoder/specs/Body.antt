@@ -5,7 +5,7 @@ use lib.{IntN.ℤ, IntN.pos, ListN.length, ListN.drop, ListN.replicate}
 use Rattle.refusals.specs.{Checks.firstOf, declared.Refusal.the-variants.Contradiction, declared.Refusal.the-variants.Beyond, declared.Outcome.Outcome}
 use Rattle.refusals.specs.declared.Outcome.the-variants as outcome
 use Rattle.sizes.specs.Sizes.{allOf}
-use Rattle.nls.specs.{Stream.after, Reading.lastPlane, Reading.midpoint, Reading.valuesBy, Reading.precisions, Reading.planesFinished, Reading.worstError, Judging.Verdict, Judging.taken, Judging.contradiction, Judging.beyond, Judging.Judged}
+use Rattle.nls.specs.{Stream.after, Reading.lastPlane, Reading.valuesBy, Reading.precisions, Reading.planesFinished, Reading.worstError, Judging.Verdict, Judging.taken, Judging.contradiction, Judging.beyond, Judging.Judged}
 use Rattle.room.specs.Room.{readChecks, bodyBits}
 use Rattle.decoder.specs.Ending.{ending}
 use Rattle.decoder.specs.declared.ending.Ending.{Ending}
@@ -33,31 +33,32 @@ tables v p m = record { values = v; precisions = p; marks = m }
 abbrev pub zeros : ℕ → Tables
 zeros I = tables (replicate I (pos 0)) (replicate I 0) (replicate I 0)
 
-abbrev pub ownTables : ℕ → ℕ → ℕ → List Bool → Verdict → Tables
-ownTables N L P u taken = tables (valuesBy N L P u midpoint) (precisions N L P u) ((after N L P u) .marks)
-ownTables N L P u (contradiction bit) = zeros (allOf N)
-ownTables N L P u (beyond bit) = zeros (allOf N)
+-- "Demand 2 names the rule in use" (document 02, T-07): the values are those of the rule that is named
+abbrev pub ownTables : (ℕ → ℕ → ℕ) → ℕ → ℕ → ℕ → List Bool → Verdict → Tables
+ownTables rule N L P u taken = tables (valuesBy N L P u rule) (precisions N L P u) ((after N L P u) .marks)
+ownTables rule N L P u (contradiction bit) = zeros (allOf N)
+ownTables rule N L P u (beyond bit) = zeros (allOf N)
 
 -- the first I entries from `own`, the rest as it was
 abbrev pub over : ℕ → Tables → Tables → Tables
 over I own held = tables (own .values ++ drop I (held .values)) (own .precisions ++ drop I (held .precisions)) (own .marks ++ drop I (held .marks))
 
 -- a call whose checks all hold: the verdict on the usable bits decides the answer and the tables
-pub record BodyRead (word : ℕ → ℕ → Ending) (N L P : ℕ) (u : List Bool) (held : Tables) (answer : ReadAnswer) (left : Tables) : Type 0 where
+pub record BodyRead (rule : ℕ → ℕ → ℕ) (word : ℕ → ℕ → Ending) (N L P : ℕ) (u : List Bool) (held : Tables) (answer : ReadAnswer) (left : Tables) : Type 0 where
   pub verdict : Verdict
   pub judged : Judged N L P u verdict
   pub answered : answer ≡ readAnswer word N L P u verdict
-  pub filled : left ≡ over (allOf N) (ownTables N L P u verdict) held
+  pub filled : left ≡ over (allOf N) (ownTables rule N L P u verdict) held
 
 -- any call, by the outcome of the checks; "Numbers 1 to 11 touch no lent byte"
-abbrev pub ReadsTo : Outcome → (ℕ → ℕ → Ending) → ℕ → ℕ → ℕ → List Bool → Tables → ReadAnswer → Tables → Type 0
-ReadsTo outcome.Done word N L P u held answer left = BodyRead word N L P u held answer left
-ReadsTo (outcome.Refused why) word N L P u held answer left = (answer ≡ decode.Refused why) × (left ≡ held)
+abbrev pub ReadsTo : Outcome → (ℕ → ℕ → ℕ) → (ℕ → ℕ → Ending) → ℕ → ℕ → ℕ → List Bool → Tables → ReadAnswer → Tables → Type 0
+ReadsTo outcome.Done rule word N L P u held answer left = BodyRead rule word N L P u held answer left
+ReadsTo (outcome.Refused why) rule word N L P u held answer left = (answer ≡ decode.Refused why) × (left ≡ held)
 
 -- a call that reads the first n bits of a body, or all that it has
-abbrev pub ReadsBy : (ℕ → ℕ → Ending) → ℕ → ℕ → ℕ → ℕ → List ℕ → Tables → ReadAnswer → Tables → Type 0
-ReadsBy word N L P n body held answer left = ReadsTo (firstOf (readChecks N L P (length (held .values)) (length (held .precisions)) (length (held .marks)))) word N L P (bodyBits n body) held answer left
+abbrev pub ReadsBy : (ℕ → ℕ → ℕ) → (ℕ → ℕ → Ending) → ℕ → ℕ → ℕ → ℕ → List ℕ → Tables → ReadAnswer → Tables → Type 0
+ReadsBy rule word N L P n body held answer left = ReadsTo (firstOf (readChecks N L P (length (held .values)) (length (held .precisions)) (length (held .marks)))) rule word N L P (bodyBits n body) held answer left
 
 -- decoding: as many bits are declared
-abbrev pub Reads : ℕ → ℕ → ℕ → ℕ → List ℕ → Tables → ReadAnswer → Tables → Type 0
-Reads N L P declared body held answer left = ReadsBy (ending declared body) N L P declared body held answer left
+abbrev pub Reads : (ℕ → ℕ → ℕ) → ℕ → ℕ → ℕ → ℕ → List ℕ → Tables → ReadAnswer → Tables → Type 0
+Reads rule N L P declared body held answer left = ReadsBy rule (ending declared body) N L P declared body held answer left

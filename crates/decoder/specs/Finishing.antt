@@ -1,25 +1,17 @@
 -- Words of the decoder's inner contracts, which no promise to a caller uses: what the final pass is given, and the values that it makes of it.
 use Prim.Native.Nat.{ℕ, _/_, _%_, _≤_}
 use mathlib.Core.Path.{_≡_}
-use mathlib.Core.Bool.{Bool, false, cond}
+use mathlib.Core.Bool.{Bool, false}
 use mathlib.Core.List.{List}
-use lib.Dec.{leb, eqb}
-use lib.IntN.{ℤ, pos}
+use lib.Dec.{eqb}
+use lib.IntN.{ℤ}
 use Rattle.sizes.specs.Sizes.{limit, mostN, mostPlanes, allOf, Sized}
 use Rattle.coef.specs.Coef.{magnitude, negative, signed}
 use Rattle.nls.specs.Stream.{after}
-use Rattle.nls.specs.Reading.{known, midpoint, valueBy, lastPlane}
+use Rattle.nls.specs.Reading.{known, valueBy, lastPlane}
 use Rattle.nls.specs.Turns.{standing}
 use Rattle.nls.specs.Judging.{Fits}
 use Rattle.reading.specs.Reading.{codes}
-
--- A value as the final pass makes it of a sign and a magnitude, which there is within the limit.
-abbrev pub joinedOr0 : Bool → ℕ → ℤ
-joinedOr0 below size = cond (leb size limit) (signed below size) (pos 0)
-
--- "if m is 0 the value is 0, else m + 2^(k-1)", of a magnitude
-abbrev pub middleOf : ℕ → ℕ → ℕ
-middleOf k m = cond (eqb m 0) 0 (midpoint k m)
 
 -- the value of a code
 abbrev pub uncoded : ℕ → ℤ
@@ -47,6 +39,6 @@ pub record Stood (m : List ℕ) (left now : ℕ) : Type 0 where
 abbrev pub Codes : {m : List ℕ} {left now : ℕ} → Stood m left now → List ℤ → Type 0
 Codes s v = v ≡ codes (known (s .N) (s .L) (s .P) (s .bits) .bits)
 
--- a code can be undone at precision k
-abbrev pub Uncodes : ℤ → ℕ → Type 0
-Uncodes z k = (negative z ≡ false) × (k ≤ mostPlanes) × (magnitude (valueBy midpoint k (plainOf z)) ≤ limit)
+-- a code can be undone at precision k, by a rule
+abbrev pub Uncodes : (ℕ → ℕ → ℕ) → ℤ → ℕ → Type 0
+Uncodes rule z k = (negative z ≡ false) × (k ≤ mostPlanes) × (magnitude (valueBy rule k (plainOf z)) ≤ limit)

@@ -1,15 +1,18 @@
 // The call that reads a body.
 use crate::Ending;
+use crate::Rule;
 use bits::Next;
 use refusals::Outcome;
 use refusals::Refusal;
 ghost use mathlib.Core.Path.{_≡_};
 ghost use lib.IntN.{pos};
 ghost use lib.ListN.{length, replicate};
+ghost use Rattle.nls.specs.Reading.{lower, midpoint};
 ghost use Rattle.room.specs.Room.{bodyBits};
 ghost use Rattle.decoder.specs.Body.{tables, BodyRead, Reads};
 ghost use Rattle.decoder.specs.Calls.{ReadReady};
 ghost use Rattle.decoder.specs.Ending.{ending};
+ghost use Rattle.decoder.specs.Rules.{ruleOf};
 
 // The bits used, the planes finished, the worst error, and why the bits ended.
 pub struct ReadTo {
@@ -19,7 +22,7 @@ pub struct ReadTo {
     pub ending: Ending,
 }
 
-// What `decode` answers.
+// What the calls answer.
 pub enum ReadAnswer {
     Done(ReadTo),
     Refused(Refusal),
@@ -36,7 +39,7 @@ fn clear(values: &mut [i32], precisions: &mut [u8], marks: &mut [u8])
     marking::fill(marks, 0);
 }
 
-// Reads the first `declared` bits of a body, or all that it has, into tables of I entries each; the checks of the call hold.
+// Reads the first `declared` bits of a body, or all that it has, into tables of I entries each, values by a rule; the checks of the call hold.
 fn read(
     n: u32,
     l: u32,
@@ -46,9 +49,10 @@ fn read(
     values: &mut [i32],
     precisions: &mut [u8],
     marks: &mut [u8],
+    rule: Rule,
 ) -> ReadAnswer
     requires { ⌜ ReadReady n l p (length (now values)) (length (now precisions)) (length (now marks)) ⌝ }
-    ensures { λ r. ⌜ BodyRead (ending declared (now (body .entry))) n l p (bodyBits declared (now (body .entry))) (tables (now (values .entry)) (now (precisions .entry)) (now (marks .entry))) r (tables (now (values .exit)) (now (precisions .exit)) (now (marks .exit))) ⌝ }
+    ensures { λ r. ⌜ BodyRead (ruleOf rule) (ending declared (now (body .entry))) n l p (bodyBits declared (now (body .entry))) (tables (now (values .entry)) (now (precisions .entry)) (now (marks .entry))) r (tables (now (values .exit)) (now (precisions .exit)) (now (marks .exit))) ⌝ }
 {
     let coarsest = sizes::coarsest_of(n, l);
     crate::finish::clear(values);
@@ -66,7 +70,7 @@ fn read(
         }
         Next::NoMore(why) => {
             let left = reached.left;
-            crate::finish::finish(values, precisions, marks, left, reached.stop);
+            crate::finish::finish(values, precisions, marks, left, reached.stop, rule);
             ReadAnswer::Done(ReadTo {
                 used: bits,
                 finished: p - left,
@@ -77,8 +81,8 @@ fn read(
     }
 }
 
-// Reads the first `declared` bits of a body, or all that it has, into the first I entries of the three tables.
-pub fn decode(
+// Reads the first `declared` bits of a body, or all that it has, into the first I entries of the three tables: values by the rule named.
+pub fn decode_by(
     n: u32,
     l: u32,
     p: u32,
@@ -87,8 +91,9 @@ pub fn decode(
     values: &mut [i32],
     precisions: &mut [u8],
     marks: &mut [u8],
+    rule: Rule,
 ) -> ReadAnswer
-    ensures { λ r. ⌜ Reads n l p declared (now (body .entry)) (tables (now (values .entry)) (now (precisions .entry)) (now (marks .entry))) r (tables (now (values .exit)) (now (precisions .exit)) (now (marks .exit))) ⌝ }
+    ensures { λ r. ⌜ Reads (ruleOf rule) n l p declared (now (body .entry)) (tables (now (values .entry)) (now (precisions .entry)) (now (marks .entry))) r (tables (now (values .exit)) (now (precisions .exit)) (now (marks .exit))) ⌝ }
 {
     match room::check_decode(n, l, p, values.len(), precisions.len(), marks.len()) {
         Outcome::Done => {
@@ -102,8 +107,61 @@ pub fn decode(
                 &mut values[..all],
                 &mut precisions[..all],
                 &mut marks[..all],
+                rule,
             )
         }
         Outcome::Refused(why) => ReadAnswer::Refused(why),
     }
+}
+
+// The same with the default rule: known bits stand for themselves.
+pub fn decode(
+    n: u32,
+    l: u32,
+    p: u32,
+    body: &[u8],
+    declared: u32,
+    values: &mut [i32],
+    precisions: &mut [u8],
+    marks: &mut [u8],
+) -> ReadAnswer
+    ensures { λ r. ⌜ Reads lower n l p declared (now (body .entry)) (tables (now (values .entry)) (now (precisions .entry)) (now (marks .entry))) r (tables (now (values .exit)) (now (precisions .exit)) (now (marks .exit))) ⌝ }
+{
+    decode_by(
+        n,
+        l,
+        p,
+        body,
+        declared,
+        values,
+        precisions,
+        marks,
+        Rule::Lower,
+    )
+}
+
+// The same with the midpoint.
+pub fn decode_midpoint(
+    n: u32,
+    l: u32,
+    p: u32,
+    body: &[u8],
+    declared: u32,
+    values: &mut [i32],
+    precisions: &mut [u8],
+    marks: &mut [u8],
+) -> ReadAnswer
+    ensures { λ r. ⌜ Reads midpoint n l p declared (now (body .entry)) (tables (now (values .entry)) (now (precisions .entry)) (now (marks .entry))) r (tables (now (values .exit)) (now (precisions .exit)) (now (marks .exit))) ⌝ }
+{
+    decode_by(
+        n,
+        l,
+        p,
+        body,
+        declared,
+        values,
+        precisions,
+        marks,
+        Rule::Midpoint,
+    )
 }

@@ -1,4 +1,5 @@
 // The final pass of the decoder: precisions and values from the codes that the scan left.
+use crate::Rule;
 ghost use mathlib.Core.Path.{_≡_};
 ghost use mathlib.Core.Bool.{cond};
 ghost use Prim.Native.Nat.{ℕ, _-_, _/_, _≤_, _<_};
@@ -9,9 +10,10 @@ ghost use Rattle.sizes.specs.Sizes.{limit, mostPlanes};
 ghost use Rattle.sizes.specs.Tables.{table};
 ghost use Rattle.coef.specs.Coef.{at, magnitude};
 ghost use Rattle.nls.specs.Marks.{MG};
-ghost use Rattle.nls.specs.Reading.{midpoint, valueBy};
+ghost use Rattle.nls.specs.Reading.{valueBy};
 ghost use Rattle.nls.specs.Turns.{downTo, precisionBy};
-ghost use Rattle.decoder.specs.Finishing.{joinedOr0, middleOf, uncoded, plainOf, Uncodes, Stood, Codes};
+ghost use Rattle.decoder.specs.Finishing.{uncoded, plainOf, Uncodes, Stood, Codes};
+ghost use Rattle.decoder.specs.Rules.{ruleOf};
 
 // Every entry becomes 0.
 pub(crate) fn clear(dst: &mut [i32])
@@ -22,47 +24,27 @@ pub(crate) fn clear(dst: &mut [i32])
     }
 }
 
-// A value of a sign and a magnitude; 0 for one over the limit.
-pub fn value_of(negative: bool, magnitude: u32) -> i32
-    ensures { λ r. ⌜ r ≡ joinedOr0 negative magnitude ⌝ }
-{
-    match coef::join_of(coef::Signed {
-        negative,
-        magnitude,
-    }) {
-        coef::Joined::Is(v) => v,
-        coef::Joined::TooLarge => 0,
-    }
-}
-
-// What known bits stand for at precision k: the middle of what they may be, and 0 for 0.
-fn middle(size: u32, k: u32) -> u32
-    requires { ⌜ (size ≤ limit) × (k ≤ mostPlanes) ⌝ }
-    ensures { λ r. ⌜ r ≡ middleOf k size ⌝ }
-{
-    if size == 0 {
-        return 0;
-    }
-    size + (1u32 << k) / 2
-}
-
 // The value at precision k of known bits in a code.
-fn value_at(code: u32, k: u32) -> i32
-    requires { ⌜ (k ≤ mostPlanes) × (magnitude (valueBy midpoint k (uncoded code)) ≤ limit) ⌝ }
-    ensures { λ r. ⌜ r ≡ valueBy midpoint k (uncoded code) ⌝ }
+fn value_at(rule: Rule, code: u32, k: u32) -> i32
+    requires { ⌜ (k ≤ mostPlanes) × (magnitude (valueBy (ruleOf rule) k (uncoded code)) ≤ limit) ⌝ }
+    ensures { λ r. ⌜ r ≡ valueBy (ruleOf rule) k (uncoded code) ⌝ }
 {
-    let size = middle(code / 2, k);
-    value_of(code % 2 == 1, size)
+    let size = crate::rule::size_by(rule, code / 2, k);
+    let value = size as i32;
+    if code % 2 == 1 {
+        return -value;
+    }
+    value
 }
 
-// Each code becomes the value of its known bits.
-fn uncode(values: &mut [i32], precisions: &[u8])
-    requires { ⌜ (length (now values) ≡ length (now precisions)) × ((i : ℕ) → i < length (now values) → Uncodes (at (now values) i) (getD (now precisions) i 0)) ⌝ }
-    ensures { λ _. ⌜ now (values .exit) ≡ table (length (now (values .entry))) (λ i. valueBy midpoint (getD (now (precisions .entry)) i 0) (plainOf (at (now (values .entry)) i))) ⌝ }
+// Each code becomes the value of its known bits, by a rule.
+fn uncode(values: &mut [i32], precisions: &[u8], rule: Rule)
+    requires { ⌜ (length (now values) ≡ length (now precisions)) × ((i : ℕ) → i < length (now values) → Uncodes (ruleOf rule) (at (now values) i) (getD (now precisions) i 0)) ⌝ }
+    ensures { λ _. ⌜ now (values .exit) ≡ table (length (now (values .entry))) (λ i. valueBy (ruleOf rule) (getD (now (precisions .entry)) i 0) (plainOf (at (now (values .entry)) i))) ⌝ }
 {
     for i in 0..values.len() {
         let code = values[i];
-        let v = value_at(code as u32, precisions[i] as u32);
+        let v = value_at(rule, code as u32, precisions[i] as u32);
         values[i] = v;
     }
 }
@@ -139,18 +121,19 @@ fn precise(precisions: &mut [u8], marks: &[u8], left: u32, stop: usize)
     settle(precisions, marks, left, stop);
 }
 
-// The final pass: the precisions, and from them and the codes the values.
+// The final pass: the precisions, and from them and the codes the values by a rule.
 pub(crate) fn finish(
     values: &mut [i32],
     precisions: &mut [u8],
     marks: &[u8],
     left: u32,
     stop: usize,
+    rule: Rule,
 )
     requires { ⌜ (length (now values) ≡ length (now marks)) × (length (now precisions) ≡ length (now marks)) × ((s : Stood (now marks) left stop) × Codes s (now values)) ⌝ }
-    ensures { λ _. ⌜ now (values .exit) ≡ table (length (now (marks .entry))) (λ i. valueBy midpoint (precisionBy (length (now (marks .entry))) (now (marks .entry)) left stop i) (plainOf (at (now (values .entry)) i))) ⌝ }
+    ensures { λ _. ⌜ now (values .exit) ≡ table (length (now (marks .entry))) (λ i. valueBy (ruleOf rule) (precisionBy (length (now (marks .entry))) (now (marks .entry)) left stop i) (plainOf (at (now (values .entry)) i))) ⌝ }
     ensures { λ _. ⌜ now (precisions .exit) ≡ table (length (now (marks .entry))) (λ i. precisionBy (length (now (marks .entry))) (now (marks .entry)) left stop i) ⌝ }
 {
     precise(precisions, marks, left, stop);
-    uncode(values, precisions);
+    uncode(values, precisions, rule);
 }

@@ -10,12 +10,12 @@ use lib.IntN.{ℤ, pos, natAbs, _-ℤ_}
 use lib.ListN.{length, take, replicate, getD}
 use Rattle.sizes.specs.Sizes.{allOf, coarsestOf, Sized}
 use Rattle.sizes.specs.Tables.{table}
-use Rattle.coef.specs.Coef.{at, IsPlanes}
+use Rattle.coef.specs.Coef.{at, magnitude, IsPlanes}
 use Rattle.nls.specs.Marks.{noMark}
 use Rattle.nls.specs.Scan.{Question, State, silent, look, ask}
 use Rattle.nls.specs.Stream.{answers, begin, after, stream, during, worstBody}
 use Rattle.nls.specs.Parts.{sumTo, parts, partSizes, splits, splitsIn, foundIn, nonzeros}
-use Rattle.nls.specs.Reading.{midpoint, known, valueBy, highBits, lastPlane, precisionAt, valuesBy, precisions, planesFinished, worstError, completes, CompletedBy}
+use Rattle.nls.specs.Reading.{lower, midpoint, known, valueBy, Between, highBits, lastPlane, precisionAt, valuesBy, precisions, planesFinished, worstError, completes, CompletedBy}
 use Rattle.nls.specs.Turns.{precisionOf}
 use Rattle.nls.specs.Judging.{Begins, Fits, Verdict, taken, Judged}
 use Rattle.nls.proofs.Streams as streams
@@ -49,8 +49,15 @@ module _ (N L P : ℕ) (sized : Sized N L) where
 
   -- "A whole stream decodes to the same array": with precisions 0, all planes finished and worst error 0
   module _ (A : List ℤ) (size : length A ≡ allOf N) (planes : IsPlanes A P) where
-    pub whole : valuesBy N L P (stream N L P A) midpoint ≡ A
-    whole = values.whole N L sized P A size planes midpoint values.midpoint-exact
+    -- by any rule that stays within what known bits leave open, so by the one in use, `lower`, and by `midpoint`
+    pub whole-by : (rule : ℕ → ℕ → ℕ) → Between rule → valuesBy N L P (stream N L P A) rule ≡ A
+    whole-by = values.whole N L sized P A size planes
+
+    pub whole : valuesBy N L P (stream N L P A) lower ≡ A
+    whole = whole-by lower values.lower-between
+
+    pub whole-midpoint : valuesBy N L P (stream N L P A) midpoint ≡ A
+    whole-midpoint = whole-by midpoint values.midpoint-between
 
     pub whole-precisions : precisions N L P (stream N L P A) ≡ replicate (allOf N) 0
     whole-precisions = values.whole-precisions N L sized P A size planes
@@ -62,20 +69,37 @@ module _ (N L P : ℕ) (sized : Sized N L) where
     whole-error = values.whole-error N L sized P A size planes
 
   -- "a shorter one by the reconstruction rule": for every array whose stream begins with the bits u, each value is the rule at that
-  -- coefficient's own bits from its precision up
+  -- coefficient's own bits from its precision up; the rule in use is `lower`, and `midpoint` by name
   module _ (A : List ℤ) (u : List Bool) (begins : Begins N L P A u) where
-    pub cut : valuesBy N L P u midpoint
+    pub cut-by : (rule : ℕ → ℕ → ℕ)
+        → valuesBy N L P u rule ≡ table (allOf N) (λ i. valueBy rule (precisionAt N L P u i) (highBits (precisionAt N L P u i) (at A i)))
+    cut-by = values.cut N L sized P A u begins
+
+    pub cut : valuesBy N L P u lower ≡ table (allOf N) (λ i. valueBy lower (precisionAt N L P u i) (highBits (precisionAt N L P u i) (at A i)))
+    cut = cut-by lower
+
+    pub cut-midpoint : valuesBy N L P u midpoint
         ≡ table (allOf N) (λ i. valueBy midpoint (precisionAt N L P u i) (highBits (precisionAt N L P u i) (at A i)))
-    cut = values.cut N L sized P A u begins midpoint
+    cut-midpoint = cut-by midpoint
 
-    -- "Every array whose stream begins so differs nowhere by more than the worst error."
-    pub near : (i : ℕ) → i < allOf N → natAbs (at (valuesBy N L P u midpoint) i -ℤ at A i) ≤ worstError N L P u
-    near i h = values.near N L sized P A u begins midpoint values.midpoint-between i h
+    -- "The bound on single errors is proved once, over any rule .." (document 02, T-07)
+    module _ (rule : ℕ → ℕ → ℕ) (fair : Between rule) where
+      -- "Every array whose stream begins so differs nowhere by more than the worst error."
+      pub near : (i : ℕ) → i < allOf N → natAbs (at (valuesBy N L P u rule) i -ℤ at A i) ≤ worstError N L P u
+      near = values.near N L sized P A u begins rule fair
 
-    -- "each coefficient is wrong by less than 2^k of its own k" (document 02, T-04), by any rule that stays within what the known bits leave open
-    pub own-near : (rule : ℕ → ℕ → ℕ) → values.Between rule → (i : ℕ) → i < allOf N
-        → natAbs (at (valuesBy N L P u rule) i -ℤ at A i) < 2 ^ precisionAt N L P u i
-    own-near rule fair i h = values.near-own N L sized P A u begins rule fair i h
+      -- "each coefficient is wrong by less than 2^k of its own k" (document 02, T-04)
+      pub own-near : (i : ℕ) → i < allOf N → natAbs (at (valuesBy N L P u rule) i -ℤ at A i) < 2 ^ precisionAt N L P u i
+      own-near = values.near-own N L sized P A u begins rule fair
+
+    -- with `lower` no value is larger in magnitude than the true one: "Midpoints make quiet partials louder than composed"
+    pub lower-under : (i : ℕ) → i < allOf N → magnitude (at (valuesBy N L P u lower) i) ≤ magnitude (at A i)
+    lower-under = values.lower-under N L sized P A u begins
+
+    -- with `midpoint` one that is found, at a precision k > 0, is wrong by at most 2^(k-1)
+    pub midpoint-half : (i : ℕ) → i < allOf N → 1 ≤ precisionAt N L P u i → (at (valuesBy N L P u midpoint) i ≡ pos 0 → ⊥)
+        → natAbs (at (valuesBy N L P u midpoint) i -ℤ at A i) ≤ 2 ^ (precisionAt N L P u i - 1)
+    midpoint-half = values.midpoint-half N L sized P A u begins
 
     -- "Values don't change": they are those of a map that notes each coefficient's own bits alone
     pub values-before : (rule : ℕ → ℕ → ℕ)
@@ -128,18 +152,19 @@ module _ (N L P : ℕ) (sized : Sized N L) where
     no-more n = omega (arith, budget-length A planes n, counts.stream-bound N L P sized A planes)
 
   -- "A line for each finished plane: plane, bits read in it, parts standing, sets split in it", of a whole stream or a cut one: the figures
-  -- that the values give are those of every array whose stream begins with the bits u, and number the bits of u that plane b took
-  module _ (A : List ℤ) (u : List Bool) (begins : Begins N L P A u) (b : ℕ) (ended : lastPlane N L P u ≤ b) where
-    pub plane-parts : parts N L (valuesBy N L P u midpoint) b ≡ parts N L A b
-    plane-parts = finished.parts-shown N L sized P A u begins b ended midpoint values.midpoint-between
+  -- that the values give, by any such rule, are those of every array whose stream begins with the bits u, and number the bits of u that
+  -- plane b took
+  module _ (A : List ℤ) (u : List Bool) (begins : Begins N L P A u) (b : ℕ) (ended : lastPlane N L P u ≤ b) (rule : ℕ → ℕ → ℕ) (fair : Between rule) where
+    pub plane-parts : parts N L (valuesBy N L P u rule) b ≡ parts N L A b
+    plane-parts = finished.parts-shown N L sized P A u begins b ended rule fair
 
-    pub plane-splits : splitsIn N L (valuesBy N L P u midpoint) b ≡ splitsIn N L A b
-    plane-splits = finished.splits-shown N L sized P A u begins b ended midpoint values.midpoint-between
+    pub plane-splits : splitsIn N L (valuesBy N L P u rule) b ≡ splitsIn N L A b
+    plane-splits = finished.splits-shown N L sized P A u begins b ended rule fair
 
     pub plane-bits : b < P
         → length (during N b (begin N L P) u)
-        ≡ parts N L (valuesBy N L P u midpoint) b + splitsIn N L (valuesBy N L P u midpoint) b + foundIn N L (valuesBy N L P u midpoint) b
-    plane-bits h = finished.bits-shown N L sized P A u begins b ended midpoint values.midpoint-between h
+        ≡ parts N L (valuesBy N L P u rule) b + splitsIn N L (valuesBy N L P u rule) b + foundIn N L (valuesBy N L P u rule) b
+    plane-bits h = finished.bits-shown N L sized P A u begins b ended rule fair h
 
   -- "and the bound is reached for each N, L, P": by 2^(P-1) everywhere
   pub reached : 1 ≤ P

@@ -6,7 +6,7 @@ use mathlib.Core.List.{List, [], _∷_, _++_, append-nil}
 use mathlib.Core.Logic.{⊎-elim}
 use native.Mathlib.Nat.{add-mul, mul-le-mul-right, one-le-pow, div-eq-of-lt-le, le-div-iff-mul-le}
 use native.Mathlib.Omega.{arith}
-use borrow.Author.Tests.{leb-true, le-leb, ne-eqb, eqb-true}
+use borrow.Author.Tests.{leb-true, le-leb, ne-eqb, eqb-true, eqb-false}
 use lib.Dec.{eqb, leb, ltb}
 use lib.IntN.{ℤ, pos}
 use lib.ListN.{length, getD, drop, take-append-drop, List·getD-eq-default}
@@ -20,7 +20,7 @@ use Rattle.nls.specs.Scan.{State, Look, over, silent, asks, Pass, pixels
 use Rattle.nls.specs.Stream.{begin, after, stream, during}
 use Rattle.nls.specs.Parts as spec
 use Rattle.nls.specs.Parts.{countTo, found, descSplit, grandSplit, standsAlone, descStands, grandStands, parts, splits, founds, splitsIn, foundIn}
-use Rattle.nls.specs.Reading.{valueBy, highBits, lastPlane, precisionAt, valuesBy}
+use Rattle.nls.specs.Reading.{valueBy, Between, highBits, lastPlane, precisionAt, valuesBy}
 use Rattle.nls.specs.Judging.{Begins}
 use Rattle.nls.proofs.Booleans.{same-bool}
 use Rattle.nls.proofs.Counting.Sums.{order}
@@ -29,7 +29,7 @@ use Rattle.nls.proofs.Joined.Planes.{during-append}
 use Rattle.nls.proofs.Kept.{AfterMove, settle-keeps}
 use Rattle.nls.proofs.HighBits.{high-magnitude}
 use Rattle.nls.proofs.Known.{precision-left}
-use Rattle.nls.proofs.Values.{Between, cut}
+use Rattle.nls.proofs.Values.{cut}
 use Rattle.nls.proofs.Counts.{plane-count}
 
 -- ---- numbers that agree from one bit up: from a higher bit too, and either both reach its level or neither does
@@ -66,7 +66,9 @@ value-high rule fair k z = on (eqb m 0) refl
 
     on : (t : Bool) → eqb m 0 ≡ t → magnitude (cond t (pos 0) (signed (negative (highBits k z)) (rule k m))) / 2 ^ k ≡ q
     on true e = within 0 (omega (arith, eqb-true m 0 e)) (omega (arith, one))
-    on false e = rw magnitude-signed (within (rule k m) (fair .low k m) (omega (arith, fair .high k m, one)))
+    on false e =
+        let some : 1 ≤ m = omega (arith, eqb-false m 0 e) in
+        rw magnitude-signed (within (rule k m) (fair .low k m some) (omega (arith, fair .high k m some, one)))
 
 -- ---- two arrays whose coefficients at level 2^b are at the same places: the same sets are split and the same parts stand
 count-same : (n : ℕ) (p q : ℕ → Bool) → ((i : ℕ) → p i ≡ q i) → countTo n p ≡ countTo n q

@@ -39,4 +39,4 @@ unfolding body raster linear whole valuesAt errorAt precisionsAt pictured wholeP
     children descendants desc grand anyIn flatMap orAll descOr grandOr skip setSkip pushFrom pushRoots startMarks
     silently settle ask next reach start answer answers worstBody stream during
     sumTo found descSplit grandSplit standsAlone descStands grandStands parts splits nonzeros setEach learned valueBy
-all-samples = (refl, (refl, (refl, (refl, (refl, (refl, (refl, (refl, (refl, (refl, (refl, (refl, (refl, (refl, (refl, (refl, (six, (eight, (refl, (refl, (refl, (refl, (refl, tt)))))))))))))))))))))))
+all-samples = (refl, (refl, (refl, (refl, (refl, (refl, (refl, (refl, (refl, (refl, (refl, (refl, (refl, (refl, (refl, (refl, (refl, (refl, (six, (eight, (refl, (refl, (refl, (refl, (refl, tt)))))))))))))))))))))))))

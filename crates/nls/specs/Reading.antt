@@ -1,6 +1,6 @@
 -- Reading a cut stream (document 01, "Reading a cut stream"; document 02, T-04).
 use mathlib.Core.{Path._≡_, Bool.Bool, Bool.true, Bool.false, Bool.cond, Bool._&&_, Bool.not, Option.Option, Option.none, Option.some, List.List, List.[], List._∷_}
-use Prim.Native.Nat.{ℕ, _+_, _*_, _-_, _/_, _^_, _<_, min}
+use Prim.Native.Nat.{ℕ, _+_, _*_, _-_, _/_, _^_, _≤_, _<_, min}
 use lib.{Dec.eqb, IntN.ℤ, IntN.pos, ListN.length, ListN.getD, ListN.set, ListN.replicate, ListN.take}
 use Rattle.sizes.specs.{Sizes.allOf, Tables.table}
 use Rattle.bits.specs.Bits.{digit}
@@ -57,13 +57,22 @@ module _ (N L : ℕ) where
   abbrev pub known : ℕ → List Bool → Known
   known P u = learned (begin N L P) (nothing N P) u
 
--- A rule makes a magnitude of known bits m, not 0, at precision k. "m + 2^(k-1) .. for k = 0 it is m"
+-- A rule makes a magnitude of known bits m, not 0, at precision k. Document 02, T-07: "The default becomes m itself"
+abbrev pub lower : ℕ → ℕ → ℕ
+lower k m = m
+
+-- and "midpoint stays by name": "m + 2^(k-1) .. for k = 0 it is m"
 abbrev pub midpoint : ℕ → ℕ → ℕ
 midpoint k m = cond (eqb k 0) m (m + 2 ^ (k - 1))
 
 -- "if m is 0 the value is 0, else .. with its sign"
 unfoldable pub valueBy : (ℕ → ℕ → ℕ) → ℕ → ℤ → ℤ
 valueBy rule k z = cond (eqb (magnitude z) 0) (pos 0) (signed (negative z) (rule k (magnitude z)))
+
+-- document 02, T-07: "any rule that gives 0 for m = 0 and else stays from m to m + 2^k - 1"; for m = 0 no rule is asked
+pub record Between (rule : ℕ → ℕ → ℕ) : Type 0 where
+  pub low : (k m : ℕ) → 1 ≤ m → m ≤ rule k m
+  pub high : (k m : ℕ) → 1 ≤ m → rule k m ≤ m + (2 ^ k - 1)
 
 -- "Known bits m": the bits k and above of the magnitude, with the sign
 unfoldable pub highBits : ℕ → ℤ → ℤ

@@ -6,7 +6,7 @@ use lib.{IntN.ℤ, IntN.pos, IntN.negsuc, ListN.length, ListN.take, ListN.replic
 use Rattle.bits.specs.Bits.{packed}
 use Rattle.places.specs.Order.{linearly}
 use Rattle.coef.specs.Coef.{planesOf}
-use Rattle.nls.specs.{Stream.begin, Stream.worstBody, Stream.stream, Stream.during, Parts.sumTo, Parts.parts, Parts.splits, Parts.splitsIn, Parts.nonzeros, Reading.midpoint, Reading.valuesBy, Reading.precisions, Reading.worstError, Judging.Verdict, Judging.contradiction, Judging.Judged}
+use Rattle.nls.specs.{Stream.begin, Stream.worstBody, Stream.stream, Stream.during, Parts.sumTo, Parts.parts, Parts.splits, Parts.splitsIn, Parts.nonzeros, Reading.lower, Reading.midpoint, Reading.valuesBy, Reading.precisions, Reading.worstError, Judging.Verdict, Judging.contradiction, Judging.Judged}
 
 -- "N=2, L=1, raster rows 5 -3 0 0 / 0 1 2 0 / 0 0 0 -1 / 0 0 0 0."
 unfoldable pub raster : List ℤ
@@ -23,9 +23,9 @@ linear =
 unfoldable pub whole : List Bool
 whole = stream 2 1 3 linear
 
--- the values and the worst error after the first n bits
-unfoldable pub valuesAt : ℕ → List ℤ
-valuesAt n = valuesBy 2 1 3 (take n whole) midpoint
+-- the values by a rule and the worst error after the first n bits
+unfoldable pub valuesAt : (ℕ → ℕ → ℕ) → ℕ → List ℤ
+valuesAt rule n = valuesBy 2 1 3 (take n whole) rule
 
 unfoldable pub errorAt : ℕ → ℕ
 errorAt n = worstError 2 1 3 (take n whole)
@@ -76,16 +76,19 @@ scanSamples =
     ∷ numbers (length whole ∷ sumTo 3 (λ b. parts 2 1 linear b) ∷ splits 2 1 linear 0 ∷ nonzeros 2 1 linear ∷ []) (37 ∷ 30 ∷ 2 ∷ 5 ∷ [])
     -- "body 80 C9 02 0B 30"
     ∷ numbers (packed whole) (0x80 ∷ 0xC9 ∷ 0x02 ∷ 0x0B ∷ 0x30 ∷ [])
-    -- "1 bit: all 0. 2 bits: place 0 is 6"
-    ∷ coefficients (valuesAt 1) (replicate 16 (pos 0))
-    ∷ coefficients (valuesAt 2) (pos 6 ∷ replicate 15 (pos 0))
+    -- by the midpoint: "1 bit: all 0. 2 bits: place 0 is 6"
+    ∷ coefficients (valuesAt midpoint 1) (replicate 16 (pos 0))
+    ∷ coefficients (valuesAt midpoint 2) (pos 6 ∷ replicate 15 (pos 0))
     -- "8 bits: place 0 is 6, worst error 3. 9 bits: the same values"
-    ∷ coefficients (valuesAt 8) (pos 6 ∷ replicate 15 (pos 0))
+    ∷ coefficients (valuesAt midpoint 8) (pos 6 ∷ replicate 15 (pos 0))
     ∷ numbers (errorAt 8 ∷ []) (3 ∷ [])
-    ∷ coefficients (valuesAt 9) (pos 6 ∷ replicate 15 (pos 0))
+    ∷ coefficients (valuesAt midpoint 9) (pos 6 ∷ replicate 15 (pos 0))
     -- "21 bits: 5, -3, place 6 is 3, others 0; worst error 1"
-    ∷ coefficients (valuesAt 21) (pos 5 ∷ negsuc 2 ∷ pos 0 ∷ pos 0 ∷ pos 0 ∷ pos 0 ∷ pos 3 ∷ replicate 9 (pos 0))
+    ∷ coefficients (valuesAt midpoint 21) (pos 5 ∷ negsuc 2 ∷ pos 0 ∷ pos 0 ∷ pos 0 ∷ pos 0 ∷ pos 3 ∷ replicate 9 (pos 0))
     ∷ numbers (errorAt 21 ∷ []) (1 ∷ [])
+    -- the same by `lower`: of 5, -3 and 2 the bits from plane 2 on, and from plane 1 on
+    ∷ coefficients (valuesAt lower 8) (pos 4 ∷ replicate 15 (pos 0))
+    ∷ coefficients (valuesAt lower 21) (pos 4 ∷ negsuc 1 ∷ pos 0 ∷ pos 0 ∷ pos 0 ∷ pos 0 ∷ pos 2 ∷ replicate 9 (pos 0))
     -- after 7 bits two of the three sets of plane 2 were tested 0; after 20 all of plane 1 is known but the refinement of place 0
     ∷ numbers (precisionsAt 7) (2 ∷ 2 ∷ 2 ∷ 2 ∷ 2 ∷ 2 ∷ 2 ∷ 2 ∷ 2 ∷ 2 ∷ 2 ∷ 2 ∷ 3 ∷ 3 ∷ 3 ∷ 3 ∷ [])
     ∷ numbers (precisionsAt 20) (2 ∷ replicate 15 1)

@@ -18,6 +18,7 @@ use Rattle.coef.specs.Coef.{firstOver, planesOf, IsPlanes}
 use Rattle.coef.proofs.Laws.{planes-of}
 use Rattle.tree.specs.Summaries.{lentChecks}
 use Rattle.nls.specs.Stream.{stream}
+use Rattle.nls.specs.Reading.{Between}
 use Rattle.room.specs.Room.{roomIn, roomChecks, writeChecks}
 use Rattle.encoder.specs.Body.{Loan}
 use Rattle.decoder.specs.Body.{Tables}
@@ -25,7 +26,7 @@ use Rattle.txp.specs.declared.Encoded.{Encoded}
 use Rattle.txp.specs.declared.EncodeAnswer.the-variants as encode
 use Rattle.txp.specs.declared.DecodeAnswer.{DecodeAnswer}
 use Rattle.txp.specs.Calls.{Encodes, Decodes}
-use Rattle.txp.proofs.Demands.{given-back}
+use Rattle.txp.proofs.Demands.{given-back-by}
 use Rattle.transform.specs.Transform.{coefficientsOf, samplesOf}
 use Rattle.transform.specs.Answers.{firstOutside, transformChecks, entryChecks, restoreChecks, restoredOf, Transforms, Restores, HasCoefficients}
 use Rattle.transform.proofs.Ends.{coefficients-length, restored-all}
@@ -65,11 +66,11 @@ module _ (N L : ℕ) (S out work out' work' : List ℤ) (transforms : Transforms
   pub planes-few : planesOf (take (allOf N) out') ≤ 17
   planes-few = planes-most N L levels S (planesOf (take (allOf N) out')) inside (subst (λ (C : List ℤ). IsPlanes C (planesOf (take (allOf N) out'))) coefficients-stand (planes-of (take (allOf N) out')))
 
-  -- They are encoded, which is done; the budget cuts nothing. The file is decoded into tables that are long enough, and the values are restored into arrays that are.
+  -- They are encoded, which is done; the budget cuts nothing. The file is decoded, by `lower` or by `midpoint`, into tables that are long enough, and the values are restored into arrays that are.
   module _ (budget : ℕ) (narrow : budget < 2 ^ 32) (whole : length (stream N L (planesOf (take (allOf N) out')) (take (allOf N) out')) ≤ budget)
       (held left : Loan) (e : Encoded) (encodes : Encodes N L (take (allOf N) out') budget held (encode.Done e) left)
       (given after : Tables) (answer : DecodeAnswer) (room : roomIn (allOf N) (length (given .values)) (length (given .precisions)) (length (given .marks)) ≡ true)
-      (decodes : Decodes (take (e .bytes) (left .out)) given answer after)
+      (rule : ℕ → ℕ → ℕ) (fair : Between rule) (decodes : Decodes rule (take (e .bytes) (left .out)) given answer after)
       (to spare to' spare' : List ℤ) (r : Outcome) (toLong : allOf N ≤ length to) (spareLong : allOf N ≤ length spare)
       (restores : Restores N L (take (allOf N) (after .values)) to spare r to' spare') where
     -- decoding gives the coefficients back
@@ -77,7 +78,7 @@ module _ (N L : ℕ) (S out work out' work' : List ℤ) (transforms : Transforms
     coefficients-back =
         let C = take (allOf N) out' in
         let long : length C ≡ allOf N = ap length coefficients-stand ∙ coefficients-length N L S in
-        let t = given-back N L C budget held left (encode.Done e) encodes e refl narrow given after answer room decodes whole in
+        let t = given-back-by N L C budget held left (encode.Done e) encodes e refl narrow rule given after answer room decodes fair whole in
         ap (λ (x : Tables). take (allOf N) (x .values)) (t .1) ∙ take-at C (drop (allOf N) (given .values)) (allOf N) long ∙ coefficients-stand
 
     -- none of 1 to 5 refuses them

@@ -162,7 +162,7 @@ fn encode(
     )
 }
 
-// The calls that decode.
+// The calls that decode a file, by either rule.
 fn decode(
     case: Case,
     file: &[u8],
@@ -174,17 +174,26 @@ fn decode(
     if case.letter == b'D' {
         return ctxp::txp_decode(file, values, bytes, marks, answer);
     }
-    ctxp::txp_decode_body(
-        case.a,
-        case.b,
-        case.c,
-        file,
-        case.d,
-        values,
-        bytes,
-        marks,
-        answer,
-    )
+    ctxp::txp_decode_midpoint(file, values, bytes, marks, answer)
+}
+
+// The calls that decode a body, by either rule.
+fn decode_body(
+    case: Case,
+    body: &[u8],
+    marks: &mut [u8],
+    bytes: &mut [u8],
+    values: &mut [i32],
+    answer: &mut [u32; 16],
+) -> u32 {
+    let a = case.a;
+    let b = case.b;
+    let c = case.c;
+    let d = case.d;
+    if case.letter == b'C' {
+        return ctxp::txp_decode_body(a, b, c, body, d, values, bytes, marks, answer);
+    }
+    ctxp::txp_decode_body_midpoint(a, b, c, body, d, values, bytes, marks, answer)
 }
 
 // The call of a case, on arrays and tables of its lengths.
@@ -202,7 +211,8 @@ pub fn call(
     let letter = case.letter;
     match letter {
         b'E' | b'B' => encode(case, ints, desc, grand, marks, bytes, answer),
-        b'D' | b'C' => decode(case, file, marks, bytes, values, answer),
+        b'D' | b'd' => decode(case, file, marks, bytes, values, answer),
+        b'C' | b'c' => decode_body(case, file, marks, bytes, values, answer),
         b'Y' | b'f' | b'b' | b't' => stepping::call(
             case,
             ints,

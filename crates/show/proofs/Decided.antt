@@ -8,6 +8,7 @@ use lib.ListN.{length}
 use lib.Seq.{sets}
 use Rattle.refusals.proofs.Decided.{OneOutcome}
 use Rattle.sizes.specs.Sizes.{allOf}
+use Rattle.nls.specs.Reading.{midpoint}
 use Rattle.decoder.specs.Body.{Tables, zeros}
 use Rattle.txp.specs.declared.DecodeAnswer.{DecodeAnswer}
 use Rattle.txp.proofs.Decided.{decodes-one}
@@ -17,7 +18,7 @@ use Rattle.show.proofs.render.Reads as render
 by-size : (file text text' : List ℕ) (large : Bool) → ShownIf large file text → ShownIf large file text' → text ≡ text'
 by-size file text text' true p q = p ∙ sym q
 by-size file text text' false p q =
-    let one = decodes-one file (zeros (allOf mostShownN)) (p .said) (q .said) (p .left) (q .left) (p .decodes) (q .decodes) in
+    let one = decodes-one midpoint file (zeros (allOf mostShownN)) (p .said) (q .said) (p .left) (q .left) (p .decodes) (q .decodes) in
     p .shows
     ∙ ap (λ (a : DecodeAnswer). textOf (answerLines a (p .left .values))) (one .0)
     ∙ ap (λ (t : Tables). textOf (answerLines (q .said) (t .values))) (one .1)

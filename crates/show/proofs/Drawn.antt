@@ -77,7 +77,7 @@ module _ (file : List ℕ) (held left : Tables) (d : Decoded) (most : length (he
   Can x =
       Drawn (x .n) (x .l) (take (allOf (x .n)) (left .values)) × (x .p ≤ mostPlanes) × (x .finished ≤ x .p) × (allOf (x .n) ≤ length (held .values))
 
-  by-verdict : checks ≡ outcome.Done → (v : Verdict) → decode.Done d ≡ decodeAnswer (endingOf file) h u v → left ≡ over (allOf (h .n)) (ownTables (h .n) (h .l) (h .p) u v) held → Can d
+  by-verdict : checks ≡ outcome.Done → (v : Verdict) → decode.Done d ≡ decodeAnswer (endingOf file) h u v → left ≡ over (allOf (h .n)) (ownTables midpoint (h .n) (h .l) (h .p) u v) held → Can d
   by-verdict e taken answered filled =
       let ready = decode-passed file (length (held .values)) (length (held .precisions)) (length (held .marks)) e in
       let mine : Decoded =
@@ -106,11 +106,11 @@ module _ (file : List ℕ) (held left : Tables) (d : Decoded) (most : length (he
   by-verdict e (contradiction bit) answered filled = let z : _≡_ {A = ℕ} 0 1 = cc in absurd (omega arith)
   by-verdict e (beyond bit) answered filled = let z : _≡_ {A = ℕ} 0 1 = cc in absurd (omega arith)
 
-  by-outcome : (o : Outcome) → checks ≡ o → DecodesTo o (endingOf file) h u held (decode.Done d) left → Can d
+  by-outcome : (o : Outcome) → checks ≡ o → DecodesTo o midpoint (endingOf file) h u held (decode.Done d) left → Can d
   by-outcome outcome.Done e q = by-verdict e (q .verdict) (q .answered) (q .filled)
   by-outcome (outcome.Refused why) e q = let f = q .0 in let z : _≡_ {A = ℕ} 0 1 = cc in absurd (omega arith)
 
-  pub drawn : Decodes file held (decode.Done d) left → Can d
+  pub drawn : Decodes midpoint file held (decode.Done d) left → Can d
   drawn q = by-outcome checks refl q
 
 -- ---- to the calls that draw
@@ -170,7 +170,7 @@ pub side-shown : (N : ℕ) → N ≤ mostShownN → (1 ≤ 2 ^ N) × (2 ^ N ≤ 
 side-shown N h = (one-le-pow N 2 (omega arith), pow-mono {i = N} {j = 6} h, pow-le-pow-right {n = 4} (omega arith) {i = N} {j = 6} h)
 
 -- what is decoded into the tables that are shown
-pub drawn-own : (file : List ℕ) (left : Tables) (d : Decoded) → Decodes file (zeros (allOf mostShownN)) (decode.Done d) left
+pub drawn-own : (file : List ℕ) (left : Tables) (d : Decoded) → Decodes midpoint file (zeros (allOf mostShownN)) (decode.Done d) left
     → Drawn (d .n) (d .l) (take (allOf (d .n)) (left .values)) × (d .p ≤ mostPlanes) × (d .finished ≤ d .p) × (allOf (d .n) ≤ 4096)
 drawn-own file left d q =
     let size = length-replicate (allOf mostShownN) (pos 0) in

@@ -5,6 +5,7 @@ use mathlib.Core.List.{List, [], _∷_}
 use Prim.Native.Nat.{ℕ}
 use native.Mathlib.Omega.{arith}
 use Rattle.sizes.specs.Sizes.{allOf}
+use Rattle.nls.specs.Reading.{midpoint}
 use Rattle.decoder.specs.Body.{Tables, zeros}
 use Rattle.txp.specs.declared.DecodeAnswer.{DecodeAnswer}
 use Rattle.txp.specs.Calls.{Decodes}
@@ -21,7 +22,7 @@ module _ (file before after : List ℕ) (r : ℕ) where
         stored = a .stored;
       }
 
-  pub shows-answer : (said : DecodeAnswer) (left : Tables) → tooLarge file ≡ false → Decodes file (zeros (allOf mostShownN)) said left
+  pub shows-answer : (said : DecodeAnswer) (left : Tables) → tooLarge file ≡ false → Decodes midpoint file (zeros (allOf mostShownN)) said left
       → Puts before 0 (textOf (answerLines said (left .values))) after r → Rendered file before after r
   shows-answer said left e q a =
       record {

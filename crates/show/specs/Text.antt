@@ -21,6 +21,7 @@ use Rattle.txp.specs.declared.Decoded.{Decoded}
 use Rattle.txp.specs.declared.DecodeAnswer.{DecodeAnswer}
 use Rattle.txp.specs.declared.DecodeAnswer.the-variants as decode
 use Rattle.txp.specs.Header.{version, lettersFit, versionFits, headerOf}
+use Rattle.nls.specs.Reading.{midpoint}
 use Rattle.txp.specs.Calls.{Decodes}
 
 -- ---- lines of words
@@ -123,11 +124,12 @@ tooLarge file =
 unfoldable pub tooLargeLine : List Word
 tooLargeLine = letters (0x74 ∷ 0x6F ∷ 0x6F ∷ []) ∷ letters (0x6C ∷ 0x61 ∷ 0x72 ∷ 0x67 ∷ 0x65 ∷ []) ∷ []
 
--- some answer on the file is one that decoding allows, with tables of zeros that have room for every N shown; and the text is that of this answer and its values
+-- some answer on the file is one that decoding allows, with tables of zeros that have room for every N shown; and the text is that of this answer and its
+-- values, which are by the midpoint: "`txpshow` must ask for the midpoint" (document 02, T-07)
 pub record DecodedText (file text : List ℕ) : Type 0 where
   pub said : DecodeAnswer
   pub left : Tables
-  pub decodes : Decodes file (zeros (allOf mostShownN)) said left
+  pub decodes : Decodes midpoint file (zeros (allOf mostShownN)) said left
   pub shows : text ≡ textOf (answerLines said (left .values))
 
 -- by whether it is too large

@@ -323,7 +323,7 @@ pub fn render(file: &[u8], out: &mut [u8]) -> usize
     let mut values = [0i32; 4096];
     let mut precisions = [0u8; 4096];
     let mut marks = [0u8; 4096];
-    match txp::decode(file, &mut values, &mut precisions, &mut marks) {
+    match txp::decode_midpoint(file, &mut values, &mut precisions, &mut marks) {
         DecodeAnswer::Done(d) => {
             let all = sizes::all_of(d.n);
             put_picture(out, d, &values[..all])

@@ -22,7 +22,7 @@ use Rattle.sizes.proofs.Laws.{both, both-left, both-right, sized}
 use Rattle.sizes.specs.Tables.{table}
 use Rattle.bits.specs.Bits.{bitAt}
 use Rattle.nls.specs.Scan.{State}
-use Rattle.nls.specs.Reading.{lastPlane, planesFinished, worstError}
+use Rattle.nls.specs.Reading.{midpoint, lastPlane, planesFinished, worstError}
 use Rattle.nls.specs.Judging.{Verdict, taken, contradiction, beyond}
 use Rattle.room.specs.Room.{roomIn, tableChecks, readChecks, bodyBits}
 use Rattle.room.proofs.Laws.{DecodeReady, decode-ready}
@@ -413,7 +413,7 @@ module _ (declared to : ℕ) (body : List ℕ) (r : Record) (held : Tables) (mos
 
 -- ---- the start
 
-module _ (N L P : ℕ) (body : List ℕ) (held : Tables) (answer : ReadAnswer) (left : Tables) (read : Reads N L P 0 body held answer left) where
+module _ (N L P : ℕ) (body : List ℕ) (held : Tables) (answer : ReadAnswer) (left : Tables) (read : Reads midpoint N L P 0 body held answer left) where
   abbrev checked : Outcome
   checked = firstOf (readChecks N L P (length (held .values)) (length (held .precisions)) (length (held .marks)))
 
@@ -421,15 +421,15 @@ module _ (N L P : ℕ) (body : List ℕ) (held : Tables) (answer : ReadAnswer) (
   unfolding table
   none-read = let e : min 0 (8 * length body) ≡ 0 = omega arith in rw e
 
-  read-so : (a : ReadAnswer) → answer ≡ a → ReadsTo checked (ending 0 body) N L P [] held a left
+  read-so : (a : ReadAnswer) → answer ≡ a → ReadsTo checked midpoint (ending 0 body) N L P [] held a left
   read-so a e =
-      subst (λ (b : ReadAnswer). ReadsTo checked (ending 0 body) N L P [] held b left) e (subst (λ (u : List Bool). ReadsTo checked (ending 0 body) N L P u held answer left) none-read read)
+      subst (λ (b : ReadAnswer). ReadsTo checked midpoint (ending 0 body) N L P [] held b left) e (subst (λ (u : List Bool). ReadsTo checked midpoint (ending 0 body) N L P u held answer left) none-read read)
 
   -- a call that is done passed its checks
   pub start-ready : (d : ReadTo) → answer ≡ decode.Done d → DecodeReady N L P (length (held .values)) (length (held .precisions)) (length (held .marks))
   start-ready d e = tell checked refl (read-so (decode.Done d) e)
     where
-      tell : (o : Outcome) → checked ≡ o → ReadsTo o (ending 0 body) N L P [] held (decode.Done d) left → DecodeReady N L P (length (held .values)) (length (held .precisions)) (length (held .marks))
+      tell : (o : Outcome) → checked ≡ o → ReadsTo o midpoint (ending 0 body) N L P [] held (decode.Done d) left → DecodeReady N L P (length (held .values)) (length (held .precisions)) (length (held .marks))
       tell outcome.Done h k = decode-ready N L P (length (held .values)) (length (held .precisions)) (length (held .marks)) (sym h)
       tell (outcome.Refused why) h k =
           let f : decode.Done d ≡ decode.Refused why = k .0 in
@@ -438,10 +438,10 @@ module _ (N L P : ℕ) (body : List ℕ) (held : Tables) (answer : ReadAnswer) (
 
   -- the same reading, with the word of a start
   start-as : (a : ReadAnswer) → ((v : Verdict) → answer ≡ readAnswer (ending 0 body) N L P [] v → a ≡ readAnswer unended N L P [] v)
-      → ((why : Refusal) → answer ≡ decode.Refused why → a ≡ decode.Refused why) → ReadsTo checked unended N L P [] held a left
+      → ((why : Refusal) → answer ≡ decode.Refused why → a ≡ decode.Refused why) → ReadsTo checked midpoint unended N L P [] held a left
   start-as a f g = tell checked (read-so answer refl)
     where
-      tell : (o : Outcome) → ReadsTo o (ending 0 body) N L P [] held answer left → ReadsTo o unended N L P [] held a left
+      tell : (o : Outcome) → ReadsTo o midpoint (ending 0 body) N L P [] held answer left → ReadsTo o midpoint unended N L P [] held a left
       tell outcome.Done k = record { verdict = k .verdict; judged = k .judged; answered = f (k .verdict) (k .answered); filled = k .filled }
       tell (outcome.Refused why) k = (g why (k .0), k .1)
 

@@ -33,10 +33,10 @@ use Rattle.nls.proofs.Precision.ValueSteps.{adds, bit-other, Refined, midpoint-
 use Rattle.moves.specs.{Moves.onward, Stands.passNumber}
 use Rattle.moves.proofs.Laws.{told-next}
 use Rattle.undo.proofs.ByValues.{back-by-values}
-use Rattle.decoder.specs.{Body.Tables, Body.tables, Body.readAnswer, Body.ownTables, Finishing.joinedOr0, declared.ending.Ending.Ending}
+use Rattle.decoder.specs.{Body.Tables, Body.tables, Body.readAnswer, Body.ownTables, declared.ending.Ending.Ending}
 use Rattle.steps.specs.Records.{recordAt, recordOf, recordAfter, step}
 use Rattle.steps.specs.declared.Record.{Record}
-use Rattle.steps.specs.Moved.{kindOf, askedIn, noted, foundIn, finer, coarser, heard, unheard, reached, raisedTo, loweredTo, lowered}
+use Rattle.steps.specs.Moved.{kindOf, askedIn, noted, joinedOr0, foundIn, finer, coarser, heard, unheard, reached, raisedTo, loweredTo, lowered}
 
 -- ---- one value
 
@@ -271,7 +271,7 @@ module _ (N L : ℕ) (sized : Sized N L) (most : N ≤ mostN) (P : ℕ) (planes 
 
   -- a step, where q is asked
   raised-asked : (word : ℕ → ℕ → Ending) (q : Question) → ask I s ≡ some q
-      → raisedTo (plain N L P (length u)) word s a (ownTables N L P u taken) ≡ step (readAnswer word N L P (u ++ (a ∷ [])) taken) (recordAfter N L P (u ++ (a ∷ []))) (ownTables N L P (u ++ (a ∷ [])) taken)
+      → raisedTo (plain N L P (length u)) word s a (ownTables midpoint N L P u taken) ≡ step (readAnswer word N L P (u ++ (a ∷ [])) taken) (recordAfter N L P (u ++ (a ∷ []))) (ownTables midpoint N L P (u ++ (a ∷ [])) taken)
   raised-asked word q e =
       let used : length u + 1 ≡ length (u ++ (a ∷ [])) = sym used-more in
       let state : onward I s a ≡ after N L P (u ++ (a ∷ [])) = told-next N L P sized most u a ∙ sym one-more in
@@ -280,7 +280,7 @@ module _ (N L : ℕ) (sized : Sized N L) (most : N ≤ mostN) (P : ℕ) (planes 
       λ i. step (reached word P (used i) (state i .left)) (recordOf N L P (used i) (state i)) (tables (values i) (planes i) (state i .marks))
 
   lowered-asked : (word : ℕ → ℕ → Ending) (q : Question) → ask I s ≡ some q
-      → loweredTo (plain N L P (length (u ++ (a ∷ [])))) word s a (ownTables N L P (u ++ (a ∷ [])) taken) ≡ step (readAnswer word N L P u taken) (recordAfter N L P u) (ownTables N L P u taken)
+      → loweredTo (plain N L P (length (u ++ (a ∷ [])))) word s a (ownTables midpoint N L P (u ++ (a ∷ [])) taken) ≡ step (readAnswer word N L P u taken) (recordAfter N L P u) (ownTables midpoint N L P u taken)
   lowered-asked word q e =
       let used : length (u ++ (a ∷ [])) - 1 ≡ length u = omega (arith, used-more) in
       let values : unheard (askedIn I s) (s .place) (s .left) w ≡ v = ap (λ k. unheard k (s .place) (s .left) w) (kind q e) ∙ heard-is (s .pass) refl q e .1 in
@@ -297,16 +297,16 @@ module _ (N L : ℕ) (sized : Sized N L) (most : N ≤ mostN) (P : ℕ) (planes 
 
 -- One bit forward from what decoding u leaves is what decoding u and that bit leaves,
 pub raised-next : (word : ℕ → ℕ → Ending) (N L : ℕ) → Sized N L → N ≤ mostN → (P : ℕ) → P ≤ mostPlanes → (A : List ℤ) (u : List Bool) (a : Bool) → Begins N L P A (u ++ (a ∷ []))
-    → raisedTo (recordAfter N L P u) word (after N L P u) a (ownTables N L P u taken) ≡ step (readAnswer word N L P (u ++ (a ∷ [])) taken) (recordAfter N L P (u ++ (a ∷ []))) (ownTables N L P (u ++ (a ∷ [])) taken)
+    → raisedTo (recordAfter N L P u) word (after N L P u) a (ownTables midpoint N L P u taken) ≡ step (readAnswer word N L P (u ++ (a ∷ [])) taken) (recordAfter N L P (u ++ (a ∷ []))) (ownTables midpoint N L P (u ++ (a ∷ [])) taken)
 raised-next word N L sized most P planes A u a begins =
     let o = some-asked N L sized most P planes A u a begins in
-    raised-plain word N L P (length u) (after N L P u) (after N L P u) a (ownTables N L P u taken) ∙ raised-asked N L sized most P planes A u a begins word (o .0) (o .1)
+    raised-plain word N L P (length u) (after N L P u) (after N L P u) a (ownTables midpoint N L P u taken) ∙ raised-asked N L sized most P planes A u a begins word (o .0) (o .1)
 
 -- and one bit back from there is what decoding u leaves.
 pub lowered-prior : (word : ℕ → ℕ → Ending) (N L : ℕ) → Sized N L → N ≤ mostN → (P : ℕ) → P ≤ mostPlanes → (A : List ℤ) (u : List Bool) (a : Bool) → Begins N L P A (u ++ (a ∷ []))
-    → lowered (recordAfter N L P (u ++ (a ∷ []))) word (after N L P (u ++ (a ∷ []))) a (ownTables N L P (u ++ (a ∷ [])) taken) ≡ step (readAnswer word N L P u taken) (recordAfter N L P u) (ownTables N L P u taken)
+    → lowered (recordAfter N L P (u ++ (a ∷ []))) word (after N L P (u ++ (a ∷ []))) a (ownTables midpoint N L P (u ++ (a ∷ [])) taken) ≡ step (readAnswer word N L P u taken) (recordAfter N L P u) (ownTables midpoint N L P u taken)
 lowered-prior word N L sized most P planes A u a begins =
     let o = some-asked N L sized most P planes A u a begins in
-    lowered-plain word N L P (length (u ++ (a ∷ []))) (after N L P (u ++ (a ∷ []))) (after N L P (u ++ (a ∷ []))) a (ownTables N L P (u ++ (a ∷ [])) taken)
-    ∙ ap (λ (t : State). loweredTo (plain N L P (length (u ++ (a ∷ [])))) word t a (ownTables N L P (u ++ (a ∷ [])) taken)) (back-by-values N L sized most P A u a begins)
+    lowered-plain word N L P (length (u ++ (a ∷ []))) (after N L P (u ++ (a ∷ []))) (after N L P (u ++ (a ∷ []))) a (ownTables midpoint N L P (u ++ (a ∷ [])) taken)
+    ∙ ap (λ (t : State). loweredTo (plain N L P (length (u ++ (a ∷ [])))) word t a (ownTables midpoint N L P (u ++ (a ∷ [])) taken)) (back-by-values N L sized most P A u a begins)
     ∙ lowered-asked N L sized most P planes A u a begins word (o .0) (o .1)

@@ -14,7 +14,7 @@ use Rattle.sizes.specs.Sizes.{allOf}
 use Rattle.sizes.proofs.Laws.{sized}
 use Rattle.bits.specs.Bits.{bitsOf}
 use Rattle.bits.proofs.Laws.{bitsOf-length}
-use Rattle.nls.specs.Reading.{lastPlane, planesFinished, worstError}
+use Rattle.nls.specs.Reading.{midpoint, lastPlane, planesFinished, worstError}
 use Rattle.nls.specs.Judging.{Verdict, taken, contradiction, beyond, Judged}
 use Rattle.nls.proofs.Verdicts.{judged-only}
 use Rattle.room.specs.Room.{readChecks, bodyBits}
@@ -43,11 +43,11 @@ start-reached N L P r held answer dial left p d is body =
 
 -- What `Follows` promises of a reading of n bits is about something: whatever decoding them leaves, the same tables are also left with the
 -- word that this position has in a body of `declared` bits.
-pub prefix-read : (N L P n declared : ℕ) (body : List ℕ) (held : Tables) (answer : ReadAnswer) (t : Tables) → Reads N L P n body held answer t
-    → (said : ReadAnswer) × ReadsBy (ending declared body) N L P n body held said t
+pub prefix-read : (N L P n declared : ℕ) (body : List ℕ) (held : Tables) (answer : ReadAnswer) (t : Tables) → Reads midpoint N L P n body held answer t
+    → (said : ReadAnswer) × ReadsBy midpoint (ending declared body) N L P n body held said t
 prefix-read N L P n declared body held answer t = tell (firstOf (readChecks N L P (length (held .values)) (length (held .precisions)) (length (held .marks))))
   where
-    tell : (o : Outcome) → ReadsTo o (ending n body) N L P (bodyBits n body) held answer t → (said : ReadAnswer) × ReadsTo o (ending declared body) N L P (bodyBits n body) held said t
+    tell : (o : Outcome) → ReadsTo o midpoint (ending n body) N L P (bodyBits n body) held answer t → (said : ReadAnswer) × ReadsTo o midpoint (ending declared body) N L P (bodyBits n body) held said t
     tell outcome.Done p =
         (readAnswer (ending declared body) N L P (bodyBits n body) (p .verdict), record { verdict = p .verdict; judged = p .judged; answered = refl; filled = p .filled })
     tell (outcome.Refused why) p = (decode.Refused why, (refl, p .1))
@@ -73,7 +73,7 @@ module _ (N L P declared : ℕ) (body : List ℕ) (n : ℕ) (r : Record) (held :
   back-follows h k = follows.back-follows declared body r held (backOf declared body r held) refl N L P n there h k
 
   -- a turn is as many steps, either way, as bring bits used to `to`
-  pub turn-follows : (to : ℕ) → n ≤ usableBits declared body → (said : ReadAnswer) (t : Tables) → ReadsBy (ending declared body) N L P (min to (usableBits declared body)) body held said t
+  pub turn-follows : (to : ℕ) → n ≤ usableBits declared body → (said : ReadAnswer) (t : Tables) → ReadsBy midpoint (ending declared body) N L P (min to (usableBits declared body)) body held said t
       → TurnsTo said t N L P (usableBits declared body) to body held (turnOf declared to body r held)
   turn-follows to h said t p = follows.turn-follows declared body r held (turnOf declared to body r held) to refl N L P n there h said t p
 
@@ -83,7 +83,7 @@ module _ (N L P declared : ℕ) (body : List ℕ) (n : ℕ) (r : Record) (held :
   good h = good-of N L P body n r held there (omega (arith, h))
 
   -- where decoding n bits leaves record and tables, by another way
-  again : (k : ℕ) → n ≤ most → decoded (ending declared body) N L P body n (over (allOf N) (ownTables N L P (bitsOf k body) taken) held) ≡ step (readAnswer (ending declared body) N L P (bodyBits n body) taken) r held
+  again : (k : ℕ) → n ≤ most → decoded (ending declared body) N L P body n (over (allOf N) (ownTables midpoint N L P (bitsOf k body) taken) held) ≡ step (readAnswer (ending declared body) N L P (bodyBits n body) taken) r held
   again k h =
       stopped-over N L P body k (good h .levels) (readAnswer (ending declared body) N L P (bitsOf n body) taken) n held
       ∙ sym (stopped-here N L P body n r held (good h) (readAnswer (ending declared body) N L P (bitsOf n body) taken))

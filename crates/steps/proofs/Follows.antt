@@ -3,6 +3,7 @@ use Prim.Native.Nat.{ℕ, _+_, _-_, _≤_, _<_, min}
 use mathlib.Core.Path.{_≡_, sym, subst}
 use mathlib.Core.List.{List}
 use native.Mathlib.Omega.{arith}
+use Rattle.nls.specs.Reading.{midpoint}
 use Rattle.decoder.specs.{Body.Tables, Body.ReadsBy, Ending.ending}
 use Rattle.decoder.specs.declared.body.ReadAnswer.{ReadAnswer}
 use Rattle.steps.specs.Records.{Step, step}
@@ -22,7 +23,7 @@ module _ (declared : ℕ) (body : List ℕ) (r : Record) (held : Tables) (s : St
       subst (λ (x : Step). Follows N L P declared body (n - 1) r held x) (sym e) (back-good N L P declared body n r held (good-of N L P body n r held w (omega (arith, h))) h k)
 
   pub turn-follows : (to : ℕ) → s ≡ turnOf declared to body r held → (N L P n : ℕ) → Reached N L P body n r held → n ≤ usableBits declared body
-      → (said : ReadAnswer) (t : Tables) → ReadsBy (ending declared body) N L P (min to (usableBits declared body)) body held said t → TurnsTo said t N L P (usableBits declared body) to body held s
+      → (said : ReadAnswer) (t : Tables) → ReadsBy midpoint (ending declared body) N L P (min to (usableBits declared body)) body held said t → TurnsTo said t N L P (usableBits declared body) to body held s
   turn-follows to e N L P n w h said t p =
       subst (λ (x : Step). TurnsTo said t N L P (usableBits declared body) to body held x) (sym e) (turn-good N L P declared body to n r held (good-of N L P body n r held w (omega (arith, h))) h said t p)
 

@@ -84,7 +84,7 @@ pub record Own (I : ℕ) (t : Tables) : Type 0 where
   pub precisions : length (t .precisions) ≡ I
   pub marks : length (t .marks) ≡ I
 
-pub own-tables : (N L P : ℕ) → levelsFit N L ≡ true → (u : List Bool) → Own (allOf N) (ownTables N L P u taken)
+pub own-tables : (N L P : ℕ) → levelsFit N L ≡ true → (u : List Bool) → Own (allOf N) (ownTables midpoint N L P u taken)
 own-tables N L P l u =
     record { values = table-length (allOf N) _; precisions = table-length (allOf N) _; marks = marks-length N L (sized N L l) P u }
 
@@ -113,7 +113,7 @@ pub record Good (N L P : ℕ) (u : List Bool) (r : Record) (held : Tables) : Typ
   pub valuesRoom : allOf N ≤ length (held .values)
   pub precisionsRoom : allOf N ≤ length (held .precisions)
   pub marksRoom : allOf N ≤ length (held .marks)
-  pub filled : held ≡ over (allOf N) (ownTables N L P u taken) held
+  pub filled : held ≡ over (allOf N) (ownTables midpoint N L P u taken) held
 
 -- within the body its first n bits are n
 pub body-bits : (n : ℕ) (body : List ℕ) → n ≤ 8 * length body → bodyBits n body ≡ bitsOf n body
@@ -122,7 +122,7 @@ body-bits n body h = ap {B = List Bool} (λ (k : ℕ). bitsOf k body) {x = min n
 -- a reading that is done
 module _ (word : ℕ → ℕ → Ending) (N L P : ℕ) (u : List Bool) (r : Record) (held : Tables) (same : r ≡ recordAfter N L P u) where
   good-ready : DecodeReady N L P (length (held .values)) (length (held .precisions)) (length (held .marks)) → (v : Verdict) → Judged N L P u v → readAnswer word N L P u taken ≡ readAnswer word N L P u v
-      → held ≡ over (allOf N) (ownTables N L P u v) held → Good N L P u r held
+      → held ≡ over (allOf N) (ownTables midpoint N L P u v) held → Good N L P u r held
   good-ready d taken j a f =
       record {
         side = d .side;
@@ -139,7 +139,7 @@ module _ (word : ℕ → ℕ → Ending) (N L P : ℕ) (u : List Bool) (r : Reco
   good-ready d (beyond k) j a f = let z : _≡_ {A = ℕ} 0 1 = cc in absurd (omega (arith, z))
 
   good-read : (o : Outcome) → o ≡ firstOf (readChecks N L P (length (held .values)) (length (held .precisions)) (length (held .marks)))
-      → ReadsTo o word N L P u held (readAnswer word N L P u taken) held → Good N L P u r held
+      → ReadsTo o midpoint word N L P u held (readAnswer word N L P u taken) held → Good N L P u r held
   good-read outcome.Done e p = good-ready (decode-ready N L P (length (held .values)) (length (held .precisions)) (length (held .marks)) e) (p .verdict) (p .judged) (p .answered) (p .filled)
   good-read (outcome.Refused why) e p = let a : readAnswer word N L P u taken ≡ decode.Refused why = p .0 in let z : _≡_ {A = ℕ} 0 1 = cc in absurd (omega (arith, z))
 
@@ -151,9 +151,9 @@ good-of N L P body n r held w h =
 module _ (N L P : ℕ) (u : List Bool) (r : Record) (held : Tables) (g : Good N L P u r held) where
   -- tables with room, which decoding any bits that are judged fills
   pub reads-judged : (word : ℕ → ℕ → Ending) (body : List ℕ) (k : ℕ) (v : Verdict) → Judged N L P (bodyBits k body) v
-      → ReadsBy word N L P k body held (readAnswer word N L P (bodyBits k body) v) (over (allOf N) (ownTables N L P (bodyBits k body) v) held)
+      → ReadsBy midpoint word N L P k body held (readAnswer word N L P (bodyBits k body) v) (over (allOf N) (ownTables midpoint N L P (bodyBits k body) v) held)
   reads-judged word body k v j =
-      subst (λ (o : Outcome). ReadsTo o word N L P (bodyBits k body) held (readAnswer word N L P (bodyBits k body) v) (over (allOf N) (ownTables N L P (bodyBits k body) v) held))
+      subst (λ (o : Outcome). ReadsTo o midpoint word N L P (bodyBits k body) held (readAnswer word N L P (bodyBits k body) v) (over (allOf N) (ownTables midpoint N L P (bodyBits k body) v) held))
       (decode-well N L P (length (held .values)) (length (held .precisions)) (length (held .marks)) (g .side) (g .levels) (g .planes) (g .valuesRoom) (g .precisionsRoom) (g .marksRoom))
       (record { verdict = v; judged = j; answered = refl; filled = refl })
 
@@ -179,17 +179,17 @@ module _ (N L P : ℕ) (u : List Bool) (r : Record) (held : Tables) (g : Good N 
   pub good-range : inRange r ≡ true
   good-range = good-means .0
 
-  pub good-own : ownOf (allOf N) held ≡ ownTables N L P u taken
-  good-own = ap (λ (t : Tables). ownOf (allOf N) t) (g .filled) ∙ own-over (allOf N) (ownTables N L P u taken) (own-tables N L P (g .levels) u) held
+  pub good-own : ownOf (allOf N) held ≡ ownTables midpoint N L P u taken
+  good-own = ap (λ (t : Tables). ownOf (allOf N) t) (g .filled) ∙ own-over (allOf N) (ownTables midpoint N L P u taken) (own-tables N L P (g .levels) u) held
 
   pub good-state : stateIn r (take (allOf N) (held .marks)) ≡ after N L P u
   good-state = ap (λ (t : Tables). stateIn r (t .marks)) good-own ∙ ap (λ (t : Stand). stateOf t ((after N L P u) .marks)) (good-means .1) ∙ state-stand (after N L P u)
 
 -- where decoding the bits v leaves record and tables
 pub good-at : (N L P : ℕ) → sideFits N ≡ true → levelsFit N L ≡ true → P ≤ mostPlanes → (v : List Bool) → Fits N L P v → (held : Tables)
-    → Good N L P v (recordAfter N L P v) (over (allOf N) (ownTables N L P v taken) held)
+    → Good N L P v (recordAfter N L P v) (over (allOf N) (ownTables midpoint N L P v taken) held)
 good-at N L P side levels planes v w held =
-    let o : Own (allOf N) (ownTables N L P v taken) = own-tables N L P levels v in
+    let o : Own (allOf N) (ownTables midpoint N L P v taken) = own-tables N L P levels v in
     record {
       side = side;
       levels = levels;
@@ -199,7 +199,7 @@ good-at N L P side levels planes v w held =
       valuesRoom = omega (arith, length-append (valuesBy N L P v midpoint) (drop (allOf N) (held .values)), o .values);
       precisionsRoom = omega (arith, length-append (precisions N L P v) (drop (allOf N) (held .precisions)), o .precisions);
       marksRoom = omega (arith, length-append ((after N L P v) .marks) (drop (allOf N) (held .marks)), o .marks);
-      filled = sym (over-over (allOf N) (ownTables N L P v taken) o held (ownTables N L P v taken));
+      filled = sym (over-over (allOf N) (ownTables midpoint N L P v taken) o held (ownTables midpoint N L P v taken));
     }
 
 -- and back: what is so is what decoding leaves
@@ -208,8 +208,8 @@ good-reached N L P body n r held g h =
     let e : bitsOf n body ≡ bodyBits n body = sym (body-bits n body h) in
     record {
       read =
-          subst (λ (t : Tables). Reads N L P n body held (readAnswer (ending n body) N L P (bodyBits n body) taken) t)
-          (sym (g .filled ∙ ap (λ (u : List Bool). over (allOf N) (ownTables N L P u taken) held) e))
+          subst (λ (t : Tables). Reads midpoint N L P n body held (readAnswer (ending n body) N L P (bodyBits n body) taken) t)
+          (sym (g .filled ∙ ap (λ (u : List Bool). over (allOf N) (ownTables midpoint N L P u taken) held) e))
           (reads-judged N L P (bitsOf n body) r held g (ending n body) body n taken (subst (λ (u : List Bool). Fits N L P u) e (g .fits)));
       recorded = g .recorded ∙ ap (λ (u : List Bool). recordAfter N L P u) e;
     }
@@ -221,13 +221,13 @@ module _ (N L P : ℕ) (r : Record) (held : Tables) (answer : ReadAnswer) (dial 
   start-record = p .recorded ∙ ap (λ (a : ReadAnswer). elim a as (λ _. Record) [ decode.Done c ↦ recordAfter N L P [] | decode.Refused why ↦ r ]) is
 
   start-judged : DecodeReady N L P (length (held .values)) (length (held .precisions)) (length (held .marks)) → (v : Verdict) → Judged N L P [] v → answer ≡ readAnswer unended N L P [] v
-      → left ≡ over (allOf N) (ownTables N L P [] v) held → Good N L P [] dial left
+      → left ≡ over (allOf N) (ownTables midpoint N L P [] v) held → Good N L P [] dial left
   start-judged c taken j a f =
       subst (λ (x : Record). Good N L P [] x left) (sym start-record) (subst (λ (t : Tables). Good N L P [] (recordAfter N L P []) t) (sym f) (good-at N L P (c .side) (c .levels) (c .planes) [] j held))
   start-judged c (contradiction k) j a f = let z : _≡_ {A = ℕ} 0 1 = cc in absurd (omega (arith, z))
   start-judged c (beyond k) j a f = let z : _≡_ {A = ℕ} 0 1 = cc in absurd (omega (arith, z))
 
-  start-checked : (o : Outcome) → o ≡ firstOf (readChecks N L P (length (held .values)) (length (held .precisions)) (length (held .marks))) → ReadsTo o unended N L P [] held answer left → Good N L P [] dial left
+  start-checked : (o : Outcome) → o ≡ firstOf (readChecks N L P (length (held .values)) (length (held .precisions)) (length (held .marks))) → ReadsTo o midpoint unended N L P [] held answer left → Good N L P [] dial left
   start-checked outcome.Done e q = start-judged (decode-ready N L P (length (held .values)) (length (held .precisions)) (length (held .marks)) e) (q .verdict) (q .judged) (q .answered) (q .filled)
   start-checked (outcome.Refused why) e q = let a : answer ≡ decode.Refused why = q .0 in let z : _≡_ {A = ℕ} 0 1 = cc in absurd (omega (arith, z))
 

@@ -2,6 +2,7 @@
 mod Lent
 pub mod RecordLaws
 pub mod Standing
+pub mod JoinLaws
 pub mod ValueLaws
 pub mod RowLaws
 pub mod Core

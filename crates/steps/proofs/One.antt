@@ -6,6 +6,7 @@ use mathlib.Core.List.{List, []}
 use lib.ListN.{length}
 use Rattle.refusals.specs.Checks.{firstOf}
 use Rattle.sizes.specs.Tables.{table}
+use Rattle.nls.specs.Reading.{midpoint}
 use Rattle.room.specs.Room.{readChecks, bodyBits}
 use Rattle.decoder.specs.Body.{Tables, ReadsTo, ReadsBy}
 use Rattle.decoder.specs.declared.body.ReadAnswer.{ReadAnswer}
@@ -43,13 +44,13 @@ unfolding table
 no-bits = refl
 
 -- to start is to read no bit
-pub starts-read : (N L P : ℕ) (r : Record) (held : Tables) (answer : ReadAnswer) (dial : Record) (left : Tables) → Starts N L P r held answer dial left → ReadsBy unended N L P 0 [] held answer left
+pub starts-read : (N L P : ℕ) (r : Record) (held : Tables) (answer : ReadAnswer) (dial : Record) (left : Tables) → Starts N L P r held answer dial left → ReadsBy midpoint unended N L P 0 [] held answer left
 starts-read N L P r held answer dial left p =
-    subst (λ (u : List Bool). ReadsTo (firstOf (readChecks N L P (length (held .values)) (length (held .precisions)) (length (held .marks)))) unended N L P u held answer left) (sym no-bits) (p .reads)
+    subst (λ (u : List Bool). ReadsTo (firstOf (readChecks N L P (length (held .values)) (length (held .precisions)) (length (held .marks)))) midpoint unended N L P u held answer left) (sym no-bits) (p .reads)
 
 pub starts-one : (N L P : ℕ) (r : Record) (held : Tables) (answer answer' : ReadAnswer) (dial dial' : Record) (left left' : Tables)
     → Starts N L P r held answer dial left → Starts N L P r held answer' dial' left' → Same answer answer' dial dial' left left'
 starts-one N L P r held answer answer' dial dial' left left' p q =
     let one : (answer ≡ answer') × (left ≡ left') =
-    reads-one unended N L P 0 [] held answer answer' left left' (starts-read N L P r held answer dial left p) (starts-read N L P r held answer' dial' left' q) in
+    reads-one midpoint unended N L P 0 [] held answer answer' left left' (starts-read N L P r held answer dial left p) (starts-read N L P r held answer' dial' left' q) in
     (one .0, p .recorded ∙ ap (λ (a : ReadAnswer). elim a as (λ _. Record) [ decode.Done d ↦ recordAfter N L P [] | decode.Refused why ↦ r ]) (one .0) ∙ sym (q .recorded), one .1)

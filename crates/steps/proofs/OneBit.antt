@@ -17,6 +17,7 @@ use Rattle.sizes.specs.Sizes.{allOf, coarsestOf, levelsFit}
 use Rattle.sizes.proofs.Laws.{sized, side-most}
 use Rattle.bits.specs.Bits.{bitAt, bitsOf}
 use Rattle.bits.proofs.Laws.{bitsOf-length, take-bitsOf}
+use Rattle.nls.specs.Reading.{midpoint}
 use Rattle.nls.specs.Scan.{State}
 use Rattle.nls.specs.Stream.{after}
 use Rattle.nls.specs.Judging.{Begins, Fits, Verdict, taken, contradiction, beyond, Judged}
@@ -79,53 +80,53 @@ module _ (N L P : ℕ) (u : List Bool) (r : Record) (held : Tables) (g : Good N 
       ∙ first-none
 
   -- a step is one over the entries that decoding leaves
-  forward-is : length u < most → forwardOf declared body r held ≡ within (allOf N) held (raised r (ending declared body) (after N L P u) (bitAt body (length u)) (ownTables N L P u taken))
+  forward-is : length u < most → forwardOf declared body r held ≡ within (allOf N) held (raised r (ending declared body) (after N L P u) (bitAt body (length u)) (ownTables midpoint N L P u taken))
   forward-is h =
       ap (λ (o : Outcome). forwardTo o declared body r held) (forward-done h)
       ∙ ap (λ (x : ℕ). within (allOf x) held (raised r (ending declared body) (stateIn r (take (allOf x) (held .marks))) (bitAt body (r .used)) (ownOf (allOf x) held))) (good-side N L P u r held g)
       ∙ ap (λ (s : State). within (allOf N) held (raised r (ending declared body) s (bitAt body (r .used)) (ownOf (allOf N) held))) (good-state N L P u r held g)
       ∙ ap (λ (t : Tables). within (allOf N) held (raised r (ending declared body) (after N L P u) (bitAt body (r .used)) t)) (good-own N L P u r held g)
-      ∙ ap (λ (k : ℕ). within (allOf N) held (raised r (ending declared body) (after N L P u) (bitAt body k) (ownTables N L P u taken))) (good-used N L P u r held g)
+      ∙ ap (λ (k : ℕ). within (allOf N) held (raised r (ending declared body) (after N L P u) (bitAt body k) (ownTables midpoint N L P u taken))) (good-used N L P u r held g)
 
-  back-is : length u ≤ most → 0 < length u → backOf declared body r held ≡ within (allOf N) held (lowered r (ending declared body) (after N L P u) (bitAt body (length u - 1)) (ownTables N L P u taken))
+  back-is : length u ≤ most → 0 < length u → backOf declared body r held ≡ within (allOf N) held (lowered r (ending declared body) (after N L P u) (bitAt body (length u - 1)) (ownTables midpoint N L P u taken))
   back-is h k =
       ap (λ (o : Outcome). backTo o declared body r held) (back-done h k)
       ∙ ap (λ (x : ℕ). within (allOf x) held (lowered r (ending declared body) (stateIn r (take (allOf x) (held .marks))) (bitAt body (r .used - 1)) (ownOf (allOf x) held))) (good-side N L P u r held g)
       ∙ ap (λ (s : State). within (allOf N) held (lowered r (ending declared body) s (bitAt body (r .used - 1)) (ownOf (allOf N) held))) (good-state N L P u r held g)
       ∙ ap (λ (t : Tables). within (allOf N) held (lowered r (ending declared body) (after N L P u) (bitAt body (r .used - 1)) t)) (good-own N L P u r held g)
-      ∙ ap (λ (k : ℕ). within (allOf N) held (lowered r (ending declared body) (after N L P u) (bitAt body (k - 1)) (ownTables N L P u taken))) (good-used N L P u r held g)
+      ∙ ap (λ (k : ℕ). within (allOf N) held (lowered r (ending declared body) (after N L P u) (bitAt body (k - 1)) (ownTables midpoint N L P u taken))) (good-used N L P u r held g)
 
   -- a refusal changes nothing
-  within-stays : (why : Refusal) → within (allOf N) held (stays why r (ownTables N L P u taken)) ≡ stays why r held
+  within-stays : (why : Refusal) → within (allOf N) held (stays why r (ownTables midpoint N L P u taken)) ≡ stays why r held
   within-stays why = ap (λ (t : Tables). stays why r t) (sym (g .filled))
 
   -- a step leaves what decoding leaves, if it leaves what the verdict says
   follow : (k : ℕ) (w : List Bool) → bodyBits k body ≡ w → (v : Verdict) → Judged N L P w v → (s : Step)
-      → FollowsTo (readAnswer (ending declared body) N L P w v) (over (allOf N) (ownTables N L P w v) held) (recordAfter N L P w) r held s → Follows N L P declared body k r held s
+      → FollowsTo (readAnswer (ending declared body) N L P w v) (over (allOf N) (ownTables midpoint N L P w v) held) (recordAfter N L P w) r held s → Follows N L P declared body k r held s
   follow k w e v j s x answer t p =
       let b : List Bool = bodyBits k body in
-      let one : (answer ≡ readAnswer (ending declared body) N L P b v) × (t ≡ over (allOf N) (ownTables N L P b v) held) =
-      reads-one (ending declared body) N L P k body held answer (readAnswer (ending declared body) N L P b v) t (over (allOf N) (ownTables N L P b v) held) p
+      let one : (answer ≡ readAnswer (ending declared body) N L P b v) × (t ≡ over (allOf N) (ownTables midpoint N L P b v) held) =
+      reads-one midpoint (ending declared body) N L P k body held answer (readAnswer (ending declared body) N L P b v) t (over (allOf N) (ownTables midpoint N L P b v) held) p
       (reads-judged N L P u r held g (ending declared body) body k v (subst (λ (c : List Bool). Judged N L P c v) (sym e) j)) in
       subst (λ (y : ReadAnswer). FollowsTo y t (recordAfter N L P b) r held s) (sym (one .0))
       (subst (λ (y : Tables). FollowsTo (readAnswer (ending declared body) N L P b v) y (recordAfter N L P b) r held s) (sym (one .1))
-      (subst (λ (c : List Bool). FollowsTo (readAnswer (ending declared body) N L P c v) (over (allOf N) (ownTables N L P c v) held) (recordAfter N L P c) r held s) (sym e) x))
+      (subst (λ (c : List Bool). FollowsTo (readAnswer (ending declared body) N L P c v) (over (allOf N) (ownTables midpoint N L P c v) held) (recordAfter N L P c) r held s) (sym e) x))
 
 -- ---- at the first n bits of a body
 
 -- record and tables as decoding the first k bits leaves them, with an answer; and with that of decoding
 abbrev pub stopped : ℕ → ℕ → ℕ → List ℕ → ReadAnswer → ℕ → Tables → Step
-stopped N L P body answer k held = step answer (recordAfter N L P (bitsOf k body)) (over (allOf N) (ownTables N L P (bitsOf k body) taken) held)
+stopped N L P body answer k held = step answer (recordAfter N L P (bitsOf k body)) (over (allOf N) (ownTables midpoint N L P (bitsOf k body) taken) held)
 
 abbrev pub decoded : (ℕ → ℕ → Ending) → ℕ → ℕ → ℕ → List ℕ → ℕ → Tables → Step
 decoded word N L P body k held = stopped N L P body (readAnswer word N L P (bitsOf k body) taken) k held
 
 module _ (N L P : ℕ) (body : List ℕ) (n : ℕ) where
   -- what was laid over the tables before is laid over again
-  pub stopped-over : levelsFit N L ≡ true → (answer : ReadAnswer) (k : ℕ) (held : Tables) → stopped N L P body answer k (over (allOf N) (ownTables N L P (bitsOf n body) taken) held) ≡ stopped N L P body answer k held
+  pub stopped-over : levelsFit N L ≡ true → (answer : ReadAnswer) (k : ℕ) (held : Tables) → stopped N L P body answer k (over (allOf N) (ownTables midpoint N L P (bitsOf n body) taken) held) ≡ stopped N L P body answer k held
   stopped-over l answer k held =
       ap (λ (t : Tables). step answer (recordAfter N L P (bitsOf k body)) t)
-      (over-over (allOf N) (ownTables N L P (bitsOf n body) taken) (own-tables N L P l (bitsOf n body)) held (ownTables N L P (bitsOf k body) taken))
+      (over-over (allOf N) (ownTables midpoint N L P (bitsOf n body) taken) (own-tables N L P l (bitsOf n body)) held (ownTables midpoint N L P (bitsOf k body) taken))
 
   pub stopped-here : (r : Record) (held : Tables) → Good N L P (bitsOf n body) r held → (answer : ReadAnswer) → step answer r held ≡ stopped N L P body answer n held
   stopped-here r held g answer = ap (λ (x : Record). step answer x held) (g .recorded) ∙ ap (λ (t : Tables). step answer (recordAfter N L P (bitsOf n body)) t) (g .filled)
@@ -144,7 +145,7 @@ module _ (N L P declared : ℕ) (body : List ℕ) (n : ℕ) (r : Record) (held :
   s = after N L P (bitsOf n body)
 
   abbrev own : Tables
-  own = ownTables N L P (bitsOf n body) taken
+  own = ownTables midpoint N L P (bitsOf n body) taken
 
   barred-next : barred r s (bitAt body n) ≡ barsNext N L P body n
   barred-next =
@@ -163,7 +164,7 @@ module _ (N L P declared : ℕ) (body : List ℕ) (n : ℕ) (r : Record) (held :
       ap (λ (x : Record). within (allOf N) held (raisedTo x (ending declared body) s a own)) (g .recorded)
       ∙ ap (λ (x : Step). within (allOf N) held x)
       (raised-next (ending declared body) N L (sized N L (g .levels)) (side-most N (g .side)) P (g .planes) (w .0) u a (subst (λ (v : List Bool). Begins N L P (w .0) v) (bits-more n body) (w .1)))
-      ∙ ap (λ (v : List Bool). step (readAnswer (ending declared body) N L P v taken) (recordAfter N L P v) (over (allOf N) (ownTables N L P v taken) held)) (sym (bits-more n body))
+      ∙ ap (λ (v : List Bool). step (readAnswer (ending declared body) N L P v taken) (recordAfter N L P v) (over (allOf N) (ownTables midpoint N L P v taken) held)) (sym (bits-more n body))
 
   pub forward-by : n < usableBits declared body → Forward N L P declared body n r held
   forward-by h = go (eqb (s .left) 0) refl
@@ -200,7 +201,7 @@ module _ (N L P declared : ℕ) (body : List ℕ) (n : ℕ) (r : Record) (held :
       back-is N L P u r held g declared body (omega (arith, h, bitsOf-length n body)) (omega (arith, k, bitsOf-length n body))
       ∙ ap (λ (x : ℕ). within (allOf N) held (lowered r (ending declared body) s (bitAt body (x - 1)) own)) (bitsOf-length n body)
       ∙ ap (λ (x : Record). within (allOf N) held (lowered x (ending declared body) s a own)) (g .recorded)
-      ∙ ap (λ (v : List Bool). within (allOf N) held (lowered (recordAfter N L P v) (ending declared body) (after N L P v) a (ownTables N L P v taken))) e
+      ∙ ap (λ (v : List Bool). within (allOf N) held (lowered (recordAfter N L P v) (ending declared body) (after N L P v) a (ownTables midpoint N L P v taken))) e
       ∙ ap (λ (x : Step). within (allOf N) held x)
       (lowered-prior (ending declared body) N L (sized N L (g .levels)) (side-most N (g .side)) P (g .planes) (g .fits .0) (bitsOf (n - 1) body) a (subst (λ (v : List Bool). Begins N L P (g .fits .0) v) e (g .fits .1)))
 

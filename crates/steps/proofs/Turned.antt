@@ -15,6 +15,7 @@ use Rattle.sizes.specs.Sizes.{allOf, levelsFit}
 use Rattle.sizes.proofs.Laws.{sized}
 use Rattle.bits.specs.Bits.{bitsOf}
 use Rattle.bits.proofs.Laws.{bitsOf-length, take-bitsOf}
+use Rattle.nls.specs.Reading.{midpoint}
 use Rattle.nls.specs.Scan.{State}
 use Rattle.nls.specs.Stream.{after}
 use Rattle.nls.specs.Judging.{Fits, Verdict, taken, contradiction, beyond, Contradicts, IsBeyond, Judged}
@@ -86,7 +87,7 @@ module _ (N L P declared : ℕ) (body : List ℕ) where
   endsAt (beyond k) to held = stopped N L P body (decode.Refused (Beyond k)) k held
 
   module _ (l : levelsFit N L ≡ true) (n : ℕ) (held : Tables) where
-    ends-over : (v : Verdict) (to : ℕ) → endsAt v to (over (allOf N) (ownTables N L P (bitsOf n body) taken) held) ≡ endsAt v to held
+    ends-over : (v : Verdict) (to : ℕ) → endsAt v to (over (allOf N) (ownTables midpoint N L P (bitsOf n body) taken) held) ≡ endsAt v to held
     ends-over taken to = stopped-over N L P body n l (cond (leb to most) (readAnswer word N L P (bitsOf (min to most) body) taken) (decode.Refused Spent)) (min to most) held
     ends-over (contradiction k) to = stopped-over N L P body n l (decode.Refused (Contradiction k)) k held
     ends-over (beyond k) to = stopped-over N L P body n l (decode.Refused (Beyond k)) k held
@@ -114,7 +115,7 @@ module _ (N L P declared : ℕ) (body : List ℕ) where
 
   back-more : (k : ℕ) → BackRuns k → BackRuns (suc k)
   back-more k more n r held g h l =
-      let own : Tables = over (allOf N) (ownTables N L P (bitsOf (n - 1) body) taken) held in
+      let own : Tables = over (allOf N) (ownTables midpoint N L P (bitsOf (n - 1) body) taken) held in
       let w : Fits N L P (bitsOf (n - 1) body) = fits-before N L P declared body n r held g (n - 1) (omega arith) in
       let there : Good N L P (bitsOf (n - 1) body) (recordAfter N L P (bitsOf (n - 1) body)) own = good-at N L P (g .side) (g .levels) (g .planes) (bitsOf (n - 1) body) w held in
       steps-done (backOf declared body) k (step (readAnswer word N L P (bitsOf n body) taken) r held) (recordAfter N L P (bitsOf (n - 1) body)) own _ (back-by N L P declared body n r held g h (omega (arith, l)))
@@ -161,7 +162,7 @@ module _ (N L P declared : ℕ) (body : List ℕ) where
 
       on : n < most → Forward N L P declared body n r held → stepsOf (forwardOf declared body) (suc k) first ≡ endsAt v (n + suc k) held
       on x (goes w e) =
-          let later : Tables = over (allOf N) (ownTables N L P (bitsOf (n + 1) body) taken) held in
+          let later : Tables = over (allOf N) (ownTables midpoint N L P (bitsOf (n + 1) body) taken) held in
           let same : n + 1 + k ≡ n + suc k = omega arith in
           steps-done (forwardOf declared body) k first (recordAfter N L P (bitsOf (n + 1) body)) later _ e
           ∙ more (n + 1) (recordAfter N L P (bitsOf (n + 1) body)) later (good-at N L P (g .side) (g .levels) (g .planes) (bitsOf (n + 1) body) w held) (omega (arith, x)) v
@@ -226,37 +227,37 @@ module _ (N L P declared : ℕ) (body : List ℕ) where
 
     -- where a bit is refused: decoding those before it
     refused-at : (why : Refusal) (k e : ℕ) → k < e → e ≤ 8 * length body → Fits N L P (take k (bitsOf e body)) → turnOf declared to body r held ≡ stopped N L P body (decode.Refused why) k held
-        → (answer : ReadAnswer) (last : Tables) → Reads N L P k body held answer last → turnOf declared to body r held ≡ step (decode.Refused why) (recordAfter N L P (bodyBits k body)) last
+        → (answer : ReadAnswer) (last : Tables) → Reads midpoint N L P k body held answer last → turnOf declared to body r held ≡ step (decode.Refused why) (recordAfter N L P (bodyBits k body)) last
     refused-at why k e l i w t answer last p =
         let b : bitsOf k body ≡ bodyBits k body = sym (body-bits k body (omega (arith, l, i))) in
         let fits : Fits N L P (bodyBits k body) = subst (λ (x : List Bool). Fits N L P x) (take-bitsOf k e body (omega (arith, l)) ∙ b) w in
-        let one : (answer ≡ readAnswer (ending k body) N L P (bodyBits k body) taken) × (last ≡ over (allOf N) (ownTables N L P (bodyBits k body) taken) held) =
-        reads-one (ending k body) N L P k body held answer (readAnswer (ending k body) N L P (bodyBits k body) taken) last (over (allOf N) (ownTables N L P (bodyBits k body) taken) held) p
+        let one : (answer ≡ readAnswer (ending k body) N L P (bodyBits k body) taken) × (last ≡ over (allOf N) (ownTables midpoint N L P (bodyBits k body) taken) held) =
+        reads-one midpoint (ending k body) N L P k body held answer (readAnswer (ending k body) N L P (bodyBits k body) taken) last (over (allOf N) (ownTables midpoint N L P (bodyBits k body) taken) held) p
         (reads-judged N L P (bitsOf n body) r held g (ending k body) body k taken fits) in
         t
-        ∙ ap (λ (x : List Bool). step (decode.Refused why) (recordAfter N L P x) (over (allOf N) (ownTables N L P x taken) held)) b
+        ∙ ap (λ (x : List Bool). step (decode.Refused why) (recordAfter N L P x) (over (allOf N) (ownTables midpoint N L P x taken) held)) b
         ∙ ap (λ (x : Tables). step (decode.Refused why) (recordAfter N L P (bodyBits k body)) x) (sym (one .1))
 
     turned : (v : Verdict) → Judged N L P (bitsOf (min to most) body) v
-        → TurnsTo (readAnswer word N L P (bitsOf (min to most) body) v) (over (allOf N) (ownTables N L P (bitsOf (min to most) body) v) held) N L P most to body held (turnOf declared to body r held)
+        → TurnsTo (readAnswer word N L P (bitsOf (min to most) body) v) (over (allOf N) (ownTables midpoint N L P (bitsOf (min to most) body) v) held) N L P most to body held (turnOf declared to body r held)
     turned taken j =
         turn-ends taken j
-        ∙ ap (λ (x : List Bool). step (cond (leb to most) (readAnswer word N L P (bitsOf (min to most) body) taken) (decode.Refused Spent)) (recordAfter N L P x) (over (allOf N) (ownTables N L P (bitsOf (min to most) body) taken) held))
+        ∙ ap (λ (x : List Bool). step (cond (leb to most) (readAnswer word N L P (bitsOf (min to most) body) taken) (decode.Refused Spent)) (recordAfter N L P x) (over (allOf N) (ownTables midpoint N L P (bitsOf (min to most) body) taken) held))
         (sym (body-bits (min to most) body (omega arith)))
     turned (contradiction k) j = refused-at (Contradiction k) k (min to most) (omega (arith, j .there, bitsOf-length (min to most) body)) (omega arith) (j .before) (turn-ends (contradiction k) j)
     turned (beyond k) j = refused-at (Beyond k) k (min to most) (omega (arith, j .there, bitsOf-length (min to most) body)) (omega arith) (j .before) (turn-ends (beyond k) j)
 
-    pub turn-good : (said : ReadAnswer) (t : Tables) → ReadsBy (ending declared body) N L P (min to (usableBits declared body)) body held said t → TurnsTo said t N L P (usableBits declared body) to body held (turnOf declared to body r held)
+    pub turn-good : (said : ReadAnswer) (t : Tables) → ReadsBy midpoint (ending declared body) N L P (min to (usableBits declared body)) body held said t → TurnsTo said t N L P (usableBits declared body) to body held (turnOf declared to body r held)
     turn-good said t p =
         let e : ℕ = min to most in
         let same : bodyBits e body ≡ bitsOf e body = body-bits e body (omega arith) in
         let v : Verdict = verdict N L P (bitsOf e body) in
         let j : Judged N L P (bitsOf e body) v = verdict-judged N L (sized N L (g .levels)) P (bitsOf e body) in
-        let one : (said ≡ readAnswer word N L P (bodyBits e body) v) × (t ≡ over (allOf N) (ownTables N L P (bodyBits e body) v) held) =
-        reads-one word N L P e body held said (readAnswer word N L P (bodyBits e body) v) t (over (allOf N) (ownTables N L P (bodyBits e body) v) held) p
+        let one : (said ≡ readAnswer word N L P (bodyBits e body) v) × (t ≡ over (allOf N) (ownTables midpoint N L P (bodyBits e body) v) held) =
+        reads-one midpoint word N L P e body held said (readAnswer word N L P (bodyBits e body) v) t (over (allOf N) (ownTables midpoint N L P (bodyBits e body) v) held) p
         (reads-judged N L P (bitsOf n body) r held g word body e v (subst (λ (x : List Bool). Judged N L P x v) (sym same) j)) in
         subst (λ (a : ReadAnswer). TurnsTo a t N L P most to body held (turnOf declared to body r held)) (sym (one .0 ∙ ap (λ (x : List Bool). readAnswer word N L P x v) same))
-        (subst (λ (x : Tables). TurnsTo (readAnswer word N L P (bitsOf e body) v) x N L P most to body held (turnOf declared to body r held)) (sym (one .1 ∙ ap (λ (x : List Bool). over (allOf N) (ownTables N L P x v) held) same))
+        (subst (λ (x : Tables). TurnsTo (readAnswer word N L P (bitsOf e body) v) x N L P most to body held (turnOf declared to body r held)) (sym (one .1 ∙ ap (λ (x : List Bool). over (allOf N) (ownTables midpoint N L P x v) held) same))
         (turned v j))
 
     -- a turn that is done ends behind `to` bits, and answers as decoding them does, with the word of that position in the body at hand

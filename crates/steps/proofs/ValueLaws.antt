@@ -24,8 +24,7 @@ use Rattle.nls.specs.Scan.{Pass, pixels, sets, refining, stateAt, lookRefining,
 use Rattle.moves.specs.Stands.{passOf, stand, stateOf}
 use Rattle.moves.proofs.Passes.{pass-0, pass-1, pass-2}
 use Rattle.reading.proofs.ValueLaws.{level-one}
-use Rattle.decoder.specs.Finishing.{joinedOr0}
-use Rattle.steps.specs.Moved.{kindOf, askedIn, foundIn, finer, coarser, heard, unheard}
+use Rattle.steps.specs.Moved.{kindOf, askedIn, joinedOr0, foundIn, finer, coarser, heard, unheard}
 use Rattle.steps.specs.declared.Asked.{Asked}
 use Rattle.steps.specs.declared.Asked.the-variants.{Nothing, Sign, Bit, More, Desc, Grand}
 use Rattle.steps.proofs.Asked.{the-type}

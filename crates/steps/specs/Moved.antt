@@ -3,16 +3,16 @@
 -- proofs/Demands.antt.
 use Prim.Native.Nat.{ℕ, _+_, _-_, _*_, _/_, _^_}
 use mathlib.Core.{Bool.Bool, Bool.not, Bool._&&_, Bool.cond, Option.Option, Option.none, Option.some, List.List}
-use lib.{Dec.eqb, IntN.ℤ, IntN.pos, ListN.set}
+use lib.{Dec.eqb, Dec.leb, IntN.ℤ, IntN.pos, ListN.set}
 use Rattle.refusals.specs.declared.Refusal.the-variants.{Contradiction, Beyond}
-use Rattle.sizes.specs.Sizes.{allOf, coarsestOf}
-use Rattle.coef.specs.Coef.{at, magnitude, negative}
+use Rattle.sizes.specs.Sizes.{limit, allOf, coarsestOf}
+use Rattle.coef.specs.Coef.{at, magnitude, negative, signed}
 use Rattle.tree.specs.Tree.{desc, grand}
 use Rattle.nls.specs.{Scan.Question, Scan.bitOf, Scan.signOf, Scan.inDesc, Scan.inGrand, Scan.Pass, Scan.pixels, Scan.sets, Scan.refining, Scan.State, Scan.ask, Reading.setEach}
 use Rattle.moves.specs.Moves.{onward}
 use Rattle.undo.specs.Back.{bigIn, back}
 use Rattle.reading.specs.Reading.{barsZero}
-use Rattle.decoder.specs.{Body.Tables, Body.tables, Finishing.joinedOr0, declared.body.ReadAnswer.ReadAnswer, declared.ending.Ending.Ending}
+use Rattle.decoder.specs.{Body.Tables, Body.tables, declared.body.ReadAnswer.ReadAnswer, declared.ending.Ending.Ending}
 use Rattle.decoder.specs.declared.body.ReadAnswer.the-variants as decode
 use Rattle.steps.specs.{Records.recordOf, Records.Step, Records.step, Records.stays, declared.Record.Record, declared.Asked.Asked}
 use Rattle.steps.specs.declared.Asked.the-variants as asked
@@ -39,6 +39,10 @@ module _ (N L : ℕ) where
   noted asked.Bit i c a k = cond a k (set k i c)
   noted asked.Desc i c a k = cond a k (setEach (desc N L (i / 4)) c k)
   noted asked.Grand i c a k = cond a k (setEach (grand N L (i / 16)) c k)
+
+-- A value of a sign and a magnitude. In tables that decoding left it is within the limit; in others it may not be.
+abbrev pub joinedOr0 : Bool → ℕ → ℤ
+joinedOr0 below size = cond (leb size limit) (signed below size) (pos 0)
 
 -- a coefficient found in plane b; one with bit b more, x; and one whose last bit is taken back, so that it is known down to plane l
 abbrev pub foundIn : Bool → ℕ → ℤ

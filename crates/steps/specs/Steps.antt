@@ -7,6 +7,7 @@ use Rattle.refusals.specs.declared.Refusal.the-variants as refusal
 use Rattle.refusals.specs.declared.Outcome.the-variants as outcome
 use Rattle.sizes.specs.Sizes.{allOf}
 use Rattle.bits.specs.Bits.{bitAt}
+use Rattle.nls.specs.Reading.{midpoint}
 use Rattle.room.specs.Room.{tableChecks, readChecks, bodyBits}
 use Rattle.nls.specs.Judging.{taken}
 use Rattle.decoder.specs.{Body.readAnswer, Body.Tables, Body.tables, Body.over, Body.ReadsTo, Body.ReadsBy, Body.Reads, Ending.wholeOr, Ending.ending, declared.body.ReadAnswer.ReadAnswer, declared.ending.Ending.Ending, declared.ending.Ending.the-variants.GoesOn}
@@ -79,11 +80,11 @@ abbrev pub turnOf : ℕ → ℕ → List ℕ → Record → Tables → Step
 turnOf declared to body r held =
     turnTo (firstOf (recordChecks r (usableBits declared body) (length (held .values)) (length (held .precisions)) (length (held .marks)))) declared to body r held
 
--- ---- the promise, in the words of decoding
+-- ---- the promise, in the words of decoding, by the midpoint: "The stepped decoder .. must ask for the midpoint" (document 02, T-07)
 
 -- record and tables are what decoding the first n bits leaves: decoding them into these tables is done, and changes nothing
 pub record Reached (N L P : ℕ) (body : List ℕ) (n : ℕ) (r : Record) (held : Tables) : Type 0 where
-  pub read : Reads N L P n body held (readAnswer (ending n body) N L P (bodyBits n body) taken) held
+  pub read : Reads midpoint N L P n body held (readAnswer (ending n body) N L P (bodyBits n body) taken) held
   pub recorded : r ≡ recordAfter N L P (bodyBits n body)
 
 -- "leaves record and buffers as decoding that prefix leaves them"; "A forward bit refused as 12 or 13 leaves record and buffers at the last
@@ -96,7 +97,7 @@ FollowsTo (decode.Refused why) t next r held s = s ≡ stays why r held
 -- go on (document 02, T-06: "Decoder, stepped decoder .. carry it through").
 abbrev pub Follows : ℕ → ℕ → ℕ → ℕ → List ℕ → ℕ → Record → Tables → Step → Type 0
 Follows N L P declared body k r held s =
-    (answer : ReadAnswer) (t : Tables) → ReadsBy (ending declared body) N L P k body held answer t → FollowsTo answer t (recordAfter N L P (bodyBits k body)) r held s
+    (answer : ReadAnswer) (t : Tables) → ReadsBy midpoint (ending declared body) N L P k body held answer t → FollowsTo answer t (recordAfter N L P (bodyBits k body)) r held s
 
 -- Any two positions: turning leaves what decoding as many bits leaves. Where these are more than the usable bits it ends behind the last of
 -- them, with 15; where decoding refuses some, before the first that is refused, with that refusal, whose place is the number of that bit.
@@ -104,7 +105,7 @@ abbrev pub TurnsTo : ReadAnswer → Tables → ℕ → ℕ → ℕ → ℕ → �
 TurnsTo (decode.Done d) t N L P most to body held s =
     s ≡ step (cond (leb to most) (decode.Done d) (decode.Refused Spent)) (recordAfter N L P (bodyBits (min to most) body)) t
 TurnsTo (decode.Refused why) t N L P most to body held s =
-    (answer : ReadAnswer) (last : Tables) → Reads N L P (placeOf why) body held answer last
+    (answer : ReadAnswer) (last : Tables) → Reads midpoint N L P (placeOf why) body held answer last
     → s ≡ step (decode.Refused why) (recordAfter N L P (bodyBits (placeOf why) body)) last
 
 -- ---- the contracts
@@ -115,7 +116,7 @@ unended used left = wholeOr left GoesOn
 
 -- record and tables as decoding no bit leaves them; a refused start leaves the record
 pub record Starts (N L P : ℕ) (r : Record) (held : Tables) (answer : ReadAnswer) (dial : Record) (left : Tables) : Type 0 where
-  pub reads : ReadsTo (firstOf (readChecks N L P (length (held .values)) (length (held .precisions)) (length (held .marks)))) unended N L P [] held answer left
+  pub reads : ReadsTo (firstOf (readChecks N L P (length (held .values)) (length (held .precisions)) (length (held .marks)))) midpoint unended N L P [] held answer left
   pub recorded : dial ≡ elim answer as (λ _. Record) [ decode.Done d ↦ recordAfter N L P [] | decode.Refused why ↦ r ]
 
 -- "One bit forward .. leaves record and buffers as decoding that prefix leaves them."
@@ -131,6 +132,6 @@ pub record Backs (declared : ℕ) (body : List ℕ) (r : Record) (held : Tables)
 -- turning: as many steps, either way, as bring bits used to `to`
 pub record Turns (declared to : ℕ) (body : List ℕ) (r : Record) (held : Tables) (answer : ReadAnswer) (dial : Record) (left : Tables) : Type 0 where
   pub follows : (N L P n : ℕ) → Reached N L P body n r held → n ≤ usableBits declared body
-      → (said : ReadAnswer) (t : Tables) → ReadsBy (ending declared body) N L P (min to (usableBits declared body)) body held said t
+      → (said : ReadAnswer) (t : Tables) → ReadsBy midpoint (ending declared body) N L P (min to (usableBits declared body)) body held said t
       → TurnsTo said t N L P (usableBits declared body) to body held (step answer dial left)
   pub decided : step answer dial left ≡ turnOf declared to body r held

@@ -78,7 +78,7 @@ pub fn take_start(
     ensures { λ z. ⌜ Starts n l p dial (tables (now (values .entry)) (now (precisions .entry)) (now (marks .entry))) (z .answer) (z .dial) (tables (now (values .exit)) (now (precisions .exit)) (now (marks .exit))) ⌝ }
 {
     let none = [0u8; 1];
-    match decoder::decode(n, l, p, &none, 0, values, precisions, marks) {
+    match decoder::decode_midpoint(n, l, p, &none, 0, values, precisions, marks) {
         ReadAnswer::Done(to) => Stepped {
             dial: crate::records::first(n, l, p),
             answer: ReadAnswer::Done(ReadTo {

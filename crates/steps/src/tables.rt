@@ -61,12 +61,25 @@ fn less(a: u32, b: u32) -> u32
     0
 }
 
+// A value of a sign and a magnitude; 0 for one over the limit.
+fn value_of(negative: bool, magnitude: u32) -> i32
+    ensures { λ r. ⌜ r ≡ moved.joinedOr0 negative magnitude ⌝ }
+{
+    match coef::join_of(coef::Signed {
+        negative,
+        magnitude,
+    }) {
+        coef::Joined::Is(v) => v,
+        coef::Joined::TooLarge => 0,
+    }
+}
+
 // A coefficient found in plane b.
 fn found(negative: bool, b: u32) -> i32
     requires { ⌜ b < mostPlanes ⌝ }
     ensures { λ r. ⌜ r ≡ moved.foundIn negative b ⌝ }
 {
-    decoder::value_of(negative, (1u32 << b) + (1u32 << b) / 2)
+    value_of(negative, (1u32 << b) + (1u32 << b) / 2)
 }
 
 // A coefficient with bit b more.
@@ -76,9 +89,9 @@ fn finer(value: i32, b: u32, bit: bool) -> i32
 {
     let size = coef::magnitude(value) + (1u32 << b) / 2;
     if bit {
-        return decoder::value_of(coef::is_negative(value), size);
+        return value_of(coef::is_negative(value), size);
     }
-    decoder::value_of(coef::is_negative(value), less(size, 1u32 << b))
+    value_of(coef::is_negative(value), less(size, 1u32 << b))
 }
 
 // A coefficient whose last bit is taken back: it is known down to plane `left`.
@@ -87,7 +100,7 @@ fn coarser(value: i32, left: u32) -> i32
     ensures { λ r. ⌜ r ≡ moved.coarser left value ⌝ }
 {
     let size = (coef::magnitude(value) >> left) << left;
-    decoder::value_of(coef::is_negative(value), size + (1u32 << left) / 2)
+    value_of(coef::is_negative(value), size + (1u32 << left) / 2)
 }
 
 // The values after an answer at a place, in plane b; past the end nothing is written.

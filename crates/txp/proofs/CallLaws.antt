@@ -120,9 +120,9 @@ unfolding AllHold
 header-passed file e = let p = passed (headerChecks file) e in (letters-room file (p .0), p .1 .1 .0)
 
 module _ (file : List ℕ) (values precisions marks : ℕ) (r : Outcome) (is : r ≡ firstOf (decodeChecks file values precisions marks)) where
-  pub refused-file : (why : Refusal) (held : Tables) → r ≡ Refused why
-      → DecodesTo (firstOf (decodeChecks file values precisions marks)) (endingOf file) (headerOf file) (usableBits file) held (decode.Refused why) held
-  refused-file why held e = rw (sym is ∙ e) (refl, refl)
+  pub refused-file : (rule : ℕ → ℕ → ℕ) (why : Refusal) (held : Tables) → r ≡ Refused why
+      → DecodesTo (firstOf (decodeChecks file values precisions marks)) rule (endingOf file) (headerOf file) (usableBits file) held (decode.Refused why) held
+  refused-file rule why held e = rw (sym is ∙ e) (refl, refl)
 
   module _ (done : r ≡ Done) where
     -- a header stands before the body
@@ -138,18 +138,18 @@ module _ (file : List ℕ) (values precisions marks : ℕ) (r : Outcome) (is : r
         all-pass (room.readChecks (headerOf file .n) (headerOf file .l) (headerOf file .p) values precisions marks)
         (all .1 .1 .0, (all .1 .1 .1 .0, (all .1 .1 .1 .1 .0, (all .1 .1 .1 .1 .1 .1 .1 .0, tt))))
 
-    pub file-decoded : (h : Header) (part : List ℕ) (held left : Tables) (b : answer.ReadAnswer) → h ≡ headerOf file → part ≡ bodyOf file
-        → cutBody.ReadsTo (firstOf (room.readChecks (h .n) (h .l) (h .p) values precisions marks)) (ending (h .declared) part) (h .n) (h .l) (h .p) (room.bodyBits (h .declared) part) held b left
-        → DecodesTo (firstOf (decodeChecks file values precisions marks)) (endingOf file) (headerOf file) (usableBits file) held (withHeader h b) left
-    file-decoded h part held left b eh ep d =
+    pub file-decoded : (rule : ℕ → ℕ → ℕ) (h : Header) (part : List ℕ) (held left : Tables) (b : answer.ReadAnswer) → h ≡ headerOf file → part ≡ bodyOf file
+        → cutBody.ReadsTo (firstOf (room.readChecks (h .n) (h .l) (h .p) values precisions marks)) rule (ending (h .declared) part) (h .n) (h .l) (h .p) (room.bodyBits (h .declared) part) held b left
+        → DecodesTo (firstOf (decodeChecks file values precisions marks)) rule (endingOf file) (headerOf file) (usableBits file) held (withHeader h b) left
+    file-decoded rule h part held left b eh ep d =
         let moved =
-        subst (λ (x : Header). cutBody.ReadsTo (firstOf (room.readChecks (x .n) (x .l) (x .p) values precisions marks)) (ending (x .declared) (bodyOf file)) (x .n) (x .l) (x .p) (room.bodyBits (x .declared) (bodyOf file)) held b left) eh
-        (subst (λ (s : List ℕ). cutBody.ReadsTo (firstOf (room.readChecks (h .n) (h .l) (h .p) values precisions marks)) (ending (h .declared) s) (h .n) (h .l) (h .p) (room.bodyBits (h .declared) s) held b left) ep d) in
-        let got : cutBody.BodyRead (endingOf file) (headerOf file .n) (headerOf file .l) (headerOf file .p) (usableBits file) held b left =
-        subst (λ (o : Outcome). cutBody.ReadsTo o (endingOf file) (headerOf file .n) (headerOf file .l) (headerOf file .p) (usableBits file) held b left) body-passes moved in
+        subst (λ (x : Header). cutBody.ReadsTo (firstOf (room.readChecks (x .n) (x .l) (x .p) values precisions marks)) rule (ending (x .declared) (bodyOf file)) (x .n) (x .l) (x .p) (room.bodyBits (x .declared) (bodyOf file)) held b left) eh
+        (subst (λ (s : List ℕ). cutBody.ReadsTo (firstOf (room.readChecks (h .n) (h .l) (h .p) values precisions marks)) rule (ending (h .declared) s) (h .n) (h .l) (h .p) (room.bodyBits (h .declared) s) held b left) ep d) in
+        let got : cutBody.BodyRead rule (endingOf file) (headerOf file .n) (headerOf file .l) (headerOf file .p) (usableBits file) held b left =
+        subst (λ (o : Outcome). cutBody.ReadsTo o rule (endingOf file) (headerOf file .n) (headerOf file .l) (headerOf file .p) (usableBits file) held b left) body-passes moved in
         let answered : withHeader h b ≡ decodeAnswer (endingOf file) (headerOf file) (usableBits file) (got .verdict) =
         ap (λ (x : Header). withHeader x b) eh ∙ ap (λ (x : answer.ReadAnswer). withHeader (headerOf file) x) (got .answered) ∙ with-verdict (endingOf file) (headerOf file) (usableBits file) (got .verdict) in
-        subst (λ (o : Outcome). DecodesTo o (endingOf file) (headerOf file) (usableBits file) held (withHeader h b) left) (sym done ∙ is)
+        subst (λ (o : Outcome). DecodesTo o rule (endingOf file) (headerOf file) (usableBits file) held (withHeader h b) left) (sym done ∙ is)
         (record { verdict = got .verdict; judged = got .judged; answered = answered; filled = got .filled })
 
 -- where the checks of decoding hold, sizes and planes are in range, and each table has room

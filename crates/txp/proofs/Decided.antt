@@ -10,6 +10,7 @@ use Rattle.refusals.specs.declared.Outcome.{Outcome}
 use Rattle.refusals.specs.declared.Outcome.the-variants.{Done, Refused}
 use Rattle.refusals.proofs.Decided.{OneAnswer, OneOutcome}
 use Rattle.sizes.specs.Sizes.{Sized}
+use Rattle.nls.specs.Reading.{lower, midpoint}
 use Rattle.nls.specs.Judging.{Verdict}
 use Rattle.nls.proofs.Verdicts.{judged-only}
 use Rattle.encoder.specs.Body.{Loan, loan}
@@ -27,6 +28,7 @@ use Rattle.txp.proofs.header_of.Reads as header-of
 use Rattle.txp.proofs.encode.Reads as encode
 use Rattle.txp.proofs.read_header.Reads as read-header
 use Rattle.txp.proofs.decode.Reads as decode
+use Rattle.txp.proofs.decode_midpoint.Reads as decode-midpoint
 
 pub letters-fit-decided : OneAnswer letters-fit.Learnt
 letters-fit-decided k args r r' s s' p q = p ∙ sym q
@@ -45,25 +47,30 @@ pub read-header-decided : OneAnswer read-header.Learnt
 read-header-decided k args r r' s s' p q = p ∙ sym q
 
 -- a file's header and usable bits decide the rest, where its sizes are in range: there is one verdict on the bits
-module _ (word : ℕ → ℕ → Ending) (h : Header) (u : List Bool) (held : Tables) (r r' : DecodeAnswer) (left left' : Tables) where
-  one-verdict : Sized (h .n) (h .l) → DecodedFile word h u held r left → DecodedFile word h u held r' left' → (r ≡ r') × (left ≡ left')
+module _ (rule : ℕ → ℕ → ℕ) (word : ℕ → ℕ → Ending) (h : Header) (u : List Bool) (held : Tables) (r r' : DecodeAnswer) (left left' : Tables) where
+  one-verdict : Sized (h .n) (h .l) → DecodedFile rule word h u held r left → DecodedFile rule word h u held r' left' → (r ≡ r') × (left ≡ left')
   one-verdict z p q =
       let v : p .verdict ≡ q .verdict = judged-only (h .n) (h .l) z (h .p) u (p .verdict) (q .verdict) (p .judged) (q .judged) in
       (p .answered ∙ ap (λ (x : Verdict). decodeAnswer word h u x) v ∙ sym (q .answered), p .filled ∙ rw v (sym (q .filled)))
 
-  one-outcome : (o : Outcome) → (o ≡ Done → Sized (h .n) (h .l)) → DecodesTo o word h u held r left → DecodesTo o word h u held r' left' → (r ≡ r') × (left ≡ left')
+  one-outcome : (o : Outcome) → (o ≡ Done → Sized (h .n) (h .l)) → DecodesTo o rule word h u held r left → DecodesTo o rule word h u held r' left' → (r ≡ r') × (left ≡ left')
   one-outcome Done z p q = one-verdict (z refl) p q
   one-outcome (Refused why) z p q = (p .0 ∙ sym (q .0), p .1 ∙ sym (q .1))
 
 -- so two outcomes of reading one file are equal
-pub decodes-one : (file : List ℕ) (held : Tables) (r r' : DecodeAnswer) (left left' : Tables) → Decodes file held r left → Decodes file held r' left' → (r ≡ r') × (left ≡ left')
-decodes-one file held r r' left left' p q =
-    one-outcome (endingOf file) (headerOf file) (usableBits file) held r r' left left'
+pub decodes-one : (rule : ℕ → ℕ → ℕ) (file : List ℕ) (held : Tables) (r r' : DecodeAnswer) (left left' : Tables) → Decodes rule file held r left → Decodes rule file held r' left' → (r ≡ r') × (left ≡ left')
+decodes-one rule file held r r' left left' p q =
+    one-outcome rule (endingOf file) (headerOf file) (usableBits file) held r r' left left'
     (firstOf (decodeChecks file (length (held .values)) (length (held .precisions)) (length (held .marks))))
     (in-range file (length (held .values)) (length (held .precisions)) (length (held .marks))) p q
 
 -- values, precisions and marks are the second to the fourth parameter
 pub decode-decided : OneOutcome {Lent = Tables} decode.Learnt (λ k s. tables (now (s .1 .0)) (now (s .1 .1 .0)) (now (s .1 .1 .1 .0)))
 decode-decided k args r r' s s' p q =
-    decodes-one (now (args .0)) (tables (now (args .1 .0)) (now (args .1 .1 .0)) (now (args .1 .1 .1 .0))) r r'
+    decodes-one lower (now (args .0)) (tables (now (args .1 .0)) (now (args .1 .1 .0)) (now (args .1 .1 .1 .0))) r r'
+    (tables (now (s .1 .0)) (now (s .1 .1 .0)) (now (s .1 .1 .1 .0))) (tables (now (s' .1 .0)) (now (s' .1 .1 .0)) (now (s' .1 .1 .1 .0))) p q
+
+pub decode-midpoint-decided : OneOutcome {Lent = Tables} decode-midpoint.Learnt (λ k s. tables (now (s .1 .0)) (now (s .1 .1 .0)) (now (s .1 .1 .1 .0)))
+decode-midpoint-decided k args r r' s s' p q =
+    decodes-one midpoint (now (args .0)) (tables (now (args .1 .0)) (now (args .1 .1 .0)) (now (args .1 .1 .1 .0))) r r'
     (tables (now (s .1 .0)) (now (s .1 .1 .0)) (now (s .1 .1 .1 .0))) (tables (now (s' .1 .0)) (now (s' .1 .1 .0)) (now (s' .1 .1 .1 .0))) p q

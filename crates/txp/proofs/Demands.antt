@@ -23,17 +23,17 @@ use Rattle.sizes.specs.Tables.{table}
 use Rattle.sizes.proofs.Laws.{side-most, sized}
 use Rattle.bits.specs.Bits.{bitAt, bytesFor, packed}
 use Rattle.bits.proofs.Laws.{packed-length, bitsOf-length}
-use Rattle.coef.specs.Coef.{at, magAt, planesOf, firstOver, IsPlanes}
+use Rattle.coef.specs.Coef.{at, magnitude, magAt, planesOf, firstOver, IsPlanes}
 use Rattle.coef.proofs.Laws.{planes-of, planes-most, first-all, first-none}
 use Rattle.nls.specs.Scan.{ask}
 use Rattle.nls.specs.Stream.{stream, after, worstBody}
 use Rattle.nls.specs.Parts.{sumTo, parts, splits, nonzeros}
-use Rattle.nls.specs.Reading.{lastPlane, midpoint, valueBy, highBits, precisionAt, valuesBy, precisions, planesFinished, worstError}
+use Rattle.nls.specs.Reading.{lastPlane, lower, midpoint, valueBy, Between, highBits, precisionAt, valuesBy, precisions, planesFinished, worstError}
 use Rattle.nls.specs.Judging.{Begins, Fits, Verdict, taken, contradiction, beyond}
 use Rattle.nls.proofs.Demands as scan
 use Rattle.nls.proofs.Counts.{stream-bound}
 use Rattle.nls.proofs.Streams.{marks-length}
-use Rattle.nls.proofs.Values.{midpoint-between}
+use Rattle.nls.proofs.Values.{lower-between, midpoint-between}
 use Rattle.room.specs.Room.{roomIn}
 use Rattle.room.specs.Ready.{EncodeReady}
 use Rattle.room.proofs.Laws.{encode-ready}
@@ -98,11 +98,18 @@ module _ (N L : ℕ) (side : sideFits N ≡ true) (levels : levelsFit N L ≡ tr
   pub written-bits : usableBits (fileOf N L A budget) ≡ sentBits N L A budget
   written-bits = all-bits (headerFor N L A budget) fits (sentBits N L A budget) refl
 
-  -- with no budget cut they give the array back
-  pub whole-file : length (stream N L (planesOf A) A) ≤ budget → valuesBy N L (planesOf A) (usableBits (fileOf N L A budget)) midpoint ≡ A
-  whole-file h =
-      ap (λ (v : List Bool). valuesBy N L (planesOf A) v midpoint) (written-bits ∙ take-all budget (stream N L (planesOf A) A) h)
-      ∙ scan.whole N L (planesOf A) z A size planes
+  -- with no budget cut they give the array back, by any rule that stays within what known bits leave open, so by the one in use, `lower`,
+  -- and by `midpoint`
+  pub whole-file-by : (rule : ℕ → ℕ → ℕ) → Between rule → length (stream N L (planesOf A) A) ≤ budget → valuesBy N L (planesOf A) (usableBits (fileOf N L A budget)) rule ≡ A
+  whole-file-by rule fair h =
+      ap (λ (v : List Bool). valuesBy N L (planesOf A) v rule) (written-bits ∙ take-all budget (stream N L (planesOf A) A) h)
+      ∙ scan.whole-by N L (planesOf A) z A size planes rule fair
+
+  pub whole-file : length (stream N L (planesOf A) A) ≤ budget → valuesBy N L (planesOf A) (usableBits (fileOf N L A budget)) lower ≡ A
+  whole-file = whole-file-by lower lower-between
+
+  pub whole-file-midpoint : length (stream N L (planesOf A) A) ≤ budget → valuesBy N L (planesOf A) (usableBits (fileOf N L A budget)) midpoint ≡ A
+  whole-file-midpoint = whole-file-by midpoint midpoint-between
 
   -- Why its bits ended (document 02, T-06): `whole` exactly where the budget cut nothing, else `budget`
   written-begins : Begins N L (planesOf A) A (sentBits N L A budget)
@@ -160,20 +167,44 @@ module _ (N L : ℕ) (side : sideFits N ≡ true) (levels : levelsFit N L ≡ tr
         subst (λ (v : List Bool). Begins N L (planesOf A) A v) (sym e)
         (record { size = size; planes = planes; same = prefix (8 * k) budget (stream N L (planesOf A) A) })
 
-    pub cut-values : valuesBy N L (planesOf A) (usableBits (take (headerSize + k) (fileOf N L A budget))) midpoint
+    pub cut-values-by : (rule : ℕ → ℕ → ℕ)
+        → valuesBy N L (planesOf A) (usableBits (take (headerSize + k) (fileOf N L A budget))) rule
+        ≡ table (allOf N) (λ i. valueBy rule (precisionAt N L (planesOf A) (usableBits (take (headerSize + k) (fileOf N L A budget))) i)
+        (highBits (precisionAt N L (planesOf A) (usableBits (take (headerSize + k) (fileOf N L A budget))) i) (at A i)))
+    cut-values-by = scan.cut-by N L (planesOf A) z A (usableBits (take (headerSize + k) (fileOf N L A budget))) cut-begins
+
+    -- by the rule in use, and by the midpoint
+    pub cut-values : valuesBy N L (planesOf A) (usableBits (take (headerSize + k) (fileOf N L A budget))) lower
+        ≡ table (allOf N) (λ i. valueBy lower (precisionAt N L (planesOf A) (usableBits (take (headerSize + k) (fileOf N L A budget))) i)
+        (highBits (precisionAt N L (planesOf A) (usableBits (take (headerSize + k) (fileOf N L A budget))) i) (at A i)))
+    cut-values = cut-values-by lower
+
+    pub cut-values-midpoint : valuesBy N L (planesOf A) (usableBits (take (headerSize + k) (fileOf N L A budget))) midpoint
         ≡ table (allOf N) (λ i. valueBy midpoint (precisionAt N L (planesOf A) (usableBits (take (headerSize + k) (fileOf N L A budget))) i)
         (highBits (precisionAt N L (planesOf A) (usableBits (take (headerSize + k) (fileOf N L A budget))) i) (at A i)))
-    cut-values = scan.cut N L (planesOf A) z A (usableBits (take (headerSize + k) (fileOf N L A budget))) cut-begins
+    cut-values-midpoint = cut-values-by midpoint
 
-    pub cut-near : (i : ℕ) → i < allOf N
-        → natAbs (at (valuesBy N L (planesOf A) (usableBits (take (headerSize + k) (fileOf N L A budget))) midpoint) i -ℤ at A i)
-        ≤ worstError N L (planesOf A) (usableBits (take (headerSize + k) (fileOf N L A budget)))
-    cut-near i h = scan.near N L (planesOf A) z A (usableBits (take (headerSize + k) (fileOf N L A budget))) cut-begins i h
+    module _ (rule : ℕ → ℕ → ℕ) (fair : Between rule) where
+      pub cut-near : (i : ℕ) → i < allOf N
+          → natAbs (at (valuesBy N L (planesOf A) (usableBits (take (headerSize + k) (fileOf N L A budget))) rule) i -ℤ at A i)
+          ≤ worstError N L (planesOf A) (usableBits (take (headerSize + k) (fileOf N L A budget)))
+      cut-near = scan.near N L (planesOf A) z A (usableBits (take (headerSize + k) (fileOf N L A budget))) cut-begins rule fair
 
-    pub cut-own-near : (i : ℕ) → i < allOf N
+      pub cut-own-near : (i : ℕ) → i < allOf N
+          → natAbs (at (valuesBy N L (planesOf A) (usableBits (take (headerSize + k) (fileOf N L A budget))) rule) i -ℤ at A i)
+          < 2 ^ precisionAt N L (planesOf A) (usableBits (take (headerSize + k) (fileOf N L A budget))) i
+      cut-own-near = scan.own-near N L (planesOf A) z A (usableBits (take (headerSize + k) (fileOf N L A budget))) cut-begins rule fair
+
+    -- with `lower` none is larger in magnitude than the true one; with `midpoint` one that is found, at a precision k > 0, is wrong by at most 2^(k-1)
+    pub cut-under : (i : ℕ) → i < allOf N
+        → magnitude (at (valuesBy N L (planesOf A) (usableBits (take (headerSize + k) (fileOf N L A budget))) lower) i) ≤ magnitude (at A i)
+    cut-under = scan.lower-under N L (planesOf A) z A (usableBits (take (headerSize + k) (fileOf N L A budget))) cut-begins
+
+    pub cut-half : (i : ℕ) → i < allOf N → 1 ≤ precisionAt N L (planesOf A) (usableBits (take (headerSize + k) (fileOf N L A budget))) i
+        → (at (valuesBy N L (planesOf A) (usableBits (take (headerSize + k) (fileOf N L A budget))) midpoint) i ≡ pos 0 → ⊥)
         → natAbs (at (valuesBy N L (planesOf A) (usableBits (take (headerSize + k) (fileOf N L A budget))) midpoint) i -ℤ at A i)
-        < 2 ^ precisionAt N L (planesOf A) (usableBits (take (headerSize + k) (fileOf N L A budget))) i
-    cut-own-near i h = scan.own-near N L (planesOf A) z A (usableBits (take (headerSize + k) (fileOf N L A budget))) cut-begins midpoint midpoint-between i h
+        ≤ 2 ^ (precisionAt N L (planesOf A) (usableBits (take (headerSize + k) (fileOf N L A budget))) i - 1)
+    cut-half = scan.midpoint-half N L (planesOf A) z A (usableBits (take (headerSize + k) (fileOf N L A budget))) cut-begins
 
     -- Cut in its body it says `cut`: each of its bytes has bits of the stream, so that not all of these are still there
     pub cut-says : k < bytesFor (length (sentBits N L A budget))
@@ -195,14 +226,14 @@ module _ (N L : ℕ) (side : sideFits N ≡ true) (levels : levelsFit N L ≡ tr
         (omega (arith, body, used, fewer, h))
 
     -- so whatever decoding may answer and leave, it took the bits
-    pub cut-taken : (held left : Tables) (answer : DecodeAnswer) → roomIn (allOf N) (length (held .values)) (length (held .precisions)) (length (held .marks)) ≡ true
-        → Decodes (take (headerSize + k) (fileOf N L A budget)) held answer left
+    pub cut-taken : (rule : ℕ → ℕ → ℕ) (held left : Tables) (answer : DecodeAnswer) → roomIn (allOf N) (length (held .values)) (length (held .precisions)) (length (held .marks)) ≡ true
+        → Decodes rule (take (headerSize + k) (fileOf N L A budget)) held answer left
         → (answer ≡ decodeAnswer (endingOf (take (headerSize + k) (fileOf N L A budget))) (headerFor N L A budget) (usableBits (take (headerSize + k) (fileOf N L A budget))) taken)
-        × (left ≡ over (allOf N) (ownTables N L (planesOf A) (usableBits (take (headerSize + k) (fileOf N L A budget))) taken) held)
-    cut-taken held left answer room d =
-        let got : DecodedFile (endingOf (take (headerSize + k) (fileOf N L A budget))) (headerFor N L A budget) (usableBits (take (headerSize + k) (fileOf N L A budget))) held answer left =
-        subst (λ (h : Header). DecodedFile (endingOf (take (headerSize + k) (fileOf N L A budget))) h (usableBits (take (headerSize + k) (fileOf N L A budget))) held answer left) cut-header
-        (subst (λ (o : Outcome). DecodesTo o (endingOf (take (headerSize + k) (fileOf N L A budget))) (headerOf (take (headerSize + k) (fileOf N L A budget))) (usableBits (take (headerSize + k) (fileOf N L A budget))) held answer left)
+        × (left ≡ over (allOf N) (ownTables rule N L (planesOf A) (usableBits (take (headerSize + k) (fileOf N L A budget))) taken) held)
+    cut-taken rule held left answer room d =
+        let got : DecodedFile rule (endingOf (take (headerSize + k) (fileOf N L A budget))) (headerFor N L A budget) (usableBits (take (headerSize + k) (fileOf N L A budget))) held answer left =
+        subst (λ (h : Header). DecodedFile rule (endingOf (take (headerSize + k) (fileOf N L A budget))) h (usableBits (take (headerSize + k) (fileOf N L A budget))) held answer left) cut-header
+        (subst (λ (o : Outcome). DecodesTo o rule (endingOf (take (headerSize + k) (fileOf N L A budget))) (headerOf (take (headerSize + k) (fileOf N L A budget))) (usableBits (take (headerSize + k) (fileOf N L A budget))) held answer left)
         (cut-passes (length (held .values)) (length (held .precisions)) (length (held .marks)) room) d) in
         let v : got .verdict ≡ taken =
         scan.refused-exactly N L (planesOf A) z (usableBits (take (headerSize + k) (fileOf N L A budget))) (got .verdict) (got .judged) .1 (A, cut-begins) in
@@ -261,22 +292,22 @@ module _ (N L : ℕ) (A : List ℤ) (budget : ℕ) (held left : Loan) (r : Encod
         ap (λ (x : Loan). x .out) (encodes .filled) ∙ ap (λ (o : Outcome). outputAfter o 0 file (held .out)) (says .0) in
         ap (λ (k : ℕ). take k (left .out)) n ∙ ap (λ (s : List ℕ). take (length file) s) begins ∙ take-at file (drop (0 + length file) (held .out)) (length file) refl
 
-    -- That file is decoded, for which decode's contract allows the answer `answer` and leaves the tables `after`.
-    module _ (given after : Tables) (answer : DecodeAnswer)
+    -- That file is decoded, by any rule, for which decode's contract allows the answer `answer` and leaves the tables `after`.
+    module _ (rule : ℕ → ℕ → ℕ) (given after : Tables) (answer : DecodeAnswer)
         (room : roomIn (allOf N) (length (given .values)) (length (given .precisions)) (length (given .marks)) ≡ true) where
       -- CUT after any byte of its body, or after none: its bits are taken, and they begin the stream of A
-      pub cut-given : (k : ℕ) → Decodes (take (headerSize + k) (take (e .bytes) (left .out))) given answer after
+      pub cut-given : (k : ℕ) → Decodes rule (take (headerSize + k) (take (e .bytes) (left .out))) given answer after
           → (answer ≡ decodeAnswer (endingOf (take (headerSize + k) (take (e .bytes) (left .out)))) (headerFor N L A budget) (usableBits (take (headerSize + k) (take (e .bytes) (left .out)))) taken)
-          × (after ≡ over (allOf N) (ownTables N L (planesOf A) (usableBits (take (headerSize + k) (take (e .bytes) (left .out)))) taken) given)
+          × (after ≡ over (allOf N) (ownTables rule N L (planesOf A) (usableBits (take (headerSize + k) (take (e .bytes) (left .out)))) taken) given)
           × Begins N L (planesOf A) A (usableBits (take (headerSize + k) (take (e .bytes) (left .out))))
       cut-given k d =
           let cut : take (headerSize + k) (take (e .bytes) (left .out)) ≡ take (headerSize + k) (fileOf N L A budget) = ap (λ (s : List ℕ). take (headerSize + k) s) file-stands in
           let t =
-          cut-taken N L (so .side) (so .levels) A (so .whole) (so .limited) budget narrow k given after answer room (subst (λ (f : List ℕ). Decodes f given answer after) cut d) in
+          cut-taken N L (so .side) (so .levels) A (so .whole) (so .limited) budget narrow k rule given after answer room (subst (λ (f : List ℕ). Decodes rule f given answer after) cut d) in
           rw cut (t .0, t .1, cut-begins N L (so .side) (so .levels) A (so .whole) (so .limited) budget narrow k)
 
       -- and if bytes of its body are missing, the answer says `cut`
-      pub cut-word : (k : ℕ) → headerSize + k < e .bytes → Decodes (take (headerSize + k) (take (e .bytes) (left .out))) given answer after
+      pub cut-word : (k : ℕ) → headerSize + k < e .bytes → Decodes rule (take (headerSize + k) (take (e .bytes) (left .out))) given answer after
           → (d : Decoded) → answer ≡ decode.Done d → d .ending ≡ Cut
       cut-word k h p d is =
           let cut : take (headerSize + k) (take (e .bytes) (left .out)) ≡ take (headerSize + k) (fileOf N L A budget) = ap (λ (s : List ℕ). take (headerSize + k) s) file-stands in
@@ -285,23 +316,23 @@ module _ (N L : ℕ) (A : List ℤ) (budget : ℕ) (held left : Loan) (r : Encod
           ∙ ap (λ (f : List ℕ). endingOf f (length (usableBits f)) (lastPlane N L (planesOf A) (usableBits f))) cut
           ∙ cut-says N L (so .side) (so .levels) A (so .whole) (so .limited) budget narrow k fewer
 
-      module _ (decodes : Decodes (take (e .bytes) (left .out)) given answer after) where
+      module _ (decodes : Decodes rule (take (e .bytes) (left .out)) given answer after) where
         -- UNCUT: its bits are taken, and they are those that were written
         pub all-taken : (answer ≡ decodeAnswer (endingOf (fileOf N L A budget)) (headerFor N L A budget) (sentBits N L A budget) taken)
-            × (after ≡ over (allOf N) (ownTables N L (planesOf A) (sentBits N L A budget) taken) given)
+            × (after ≡ over (allOf N) (ownTables rule N L (planesOf A) (sentBits N L A budget) taken) given)
         all-taken =
             let file : List ℕ = fileOf N L A budget in
             let k : ℕ = bytesFor (length (sentBits N L A budget)) in
             let uncut : take (headerSize + k) file ≡ file =
             take-all (headerSize + k) file (omega (arith, file-length N L (so .side) (so .levels) A (so .whole) (so .limited) budget narrow)) in
             let t =
-            cut-taken N L (so .side) (so .levels) A (so .whole) (so .limited) budget narrow k given after answer room
-            (subst (λ (f : List ℕ). Decodes f given answer after) (file-stands ∙ sym uncut) decodes) in
+            cut-taken N L (so .side) (so .levels) A (so .whole) (so .limited) budget narrow k rule given after answer room
+            (subst (λ (f : List ℕ). Decodes rule f given answer after) (file-stands ∙ sym uncut) decodes) in
             let bits : usableBits (take (headerSize + k) file) ≡ sentBits N L A budget =
             ap usableBits uncut ∙ written-bits N L (so .side) (so .levels) A (so .whole) (so .limited) budget narrow in (
               t .0 ∙ ap (λ (f : List ℕ). decodeAnswer (endingOf f) (headerFor N L A budget) (usableBits (take (headerSize + k) file)) taken) uncut
                   ∙ ap (λ (v : List Bool). decodeAnswer (endingOf file) (headerFor N L A budget) v taken) bits,
-              t .1 ∙ ap (λ (v : List Bool). over (allOf N) (ownTables N L (planesOf A) v taken) given) bits,
+              t .1 ∙ ap (λ (v : List Bool). over (allOf N) (ownTables rule N L (planesOf A) v taken) given) bits,
             )
 
         -- "After the same bits, encoder and decoder hold equal tables", whatever the budget
@@ -316,28 +347,41 @@ module _ (N L : ℕ) (A : List ℤ) (budget : ℕ) (held left : Loan) (r : Encod
             ∙ sym (ap (λ (s : List ℕ). take (allOf N) s) ours ∙ take-at own (drop (length own) (held .marks)) (allOf N) long)
 
         -- WHOLE, where the budget cut nothing: the array, precisions 0, the encoder's marks; all planes finished, worst error 0
-        pub given-back : length (stream N L (planesOf A) A) ≤ budget
+        pub given-back-by : Between rule → length (stream N L (planesOf A) A) ≤ budget
             → (answer ≡ decode.Done (record { n = N; l = L; p = e .planes; declared = e .bits; used = e .bits; finished = e .planes; error = 0; ending = Whole }))
             × (after ≡ over (allOf N) (tables A (replicate (allOf N) 0) (sentMarks N L A budget)) given)
-        given-back h =
+        given-back-by fair h =
             let P : ℕ = planesOf A in
             let u : List Bool = sentBits N L A budget in
             let z : Sized N L = sized N L (so .levels) in
             let whole : u ≡ stream N L P A = take-all budget (stream N L P A) h in
             let finished : planesFinished N L P u ≡ P = ap (λ (v : List Bool). planesFinished N L P v) whole ∙ scan.whole-finished N L P z A (so .whole) (planes-of A) in
             let error : worstError N L P u ≡ 0 = ap (λ (v : List Bool). worstError N L P v) whole ∙ scan.whole-error N L P z A (so .whole) (planes-of A) in
-            let values : valuesBy N L P u midpoint ≡ A = ap (λ (v : List Bool). valuesBy N L P v midpoint) whole ∙ scan.whole N L P z A (so .whole) (planes-of A) in
+            let values : valuesBy N L P u rule ≡ A = ap (λ (v : List Bool). valuesBy N L P v rule) whole ∙ scan.whole-by N L P z A (so .whole) (planes-of A) rule fair in
             let exact : precisions N L P u ≡ replicate (allOf N) 0 = ap (λ (v : List Bool). precisions N L P v) whole ∙ scan.whole-precisions N L P z A (so .whole) (planes-of A) in
             let word : endingOf (fileOf N L A budget) (length u) (lastPlane N L P u) ≡ Whole =
             written-whole N L (so .side) (so .levels) A (so .whole) (so .limited) budget narrow h in
             let answered : decodeAnswer (endingOf (fileOf N L A budget)) (headerFor N L A budget) u taken ≡ decode.Done (record { n = N; l = L; p = e .planes; declared = e .bits; used = e .bits; finished = e .planes; error = 0; ending = Whole }) =
             rw (says .1) cc in
-            let filled : ownTables N L P u taken ≡ tables A (replicate (allOf N) 0) (sentMarks N L A budget) = cc in
+            let filled : ownTables rule N L P u taken ≡ tables A (replicate (allOf N) 0) (sentMarks N L A budget) = cc in
             (all-taken .0 ∙ answered, all-taken .1 ∙ ap (λ (x : Tables). over (allOf N) x given) filled)
 
         -- and where it cut something the answer says `budget`
         pub budget-word : budget < length (stream N L (planesOf A) A) → (d : Decoded) → answer ≡ decode.Done d → d .ending ≡ Budget
         budget-word h d is = told-word answer _ d is (all-taken .0) ∙ written-budget N L (so .side) (so .levels) A (so .whole) (so .limited) budget narrow h
+
+    -- So `decode`, by the rule in use, and `decode_midpoint` give the array back.
+    module _ (given after : Tables) (answer : DecodeAnswer)
+        (room : roomIn (allOf N) (length (given .values)) (length (given .precisions)) (length (given .marks)) ≡ true) where
+      pub given-back : Decodes lower (take (e .bytes) (left .out)) given answer after → length (stream N L (planesOf A) A) ≤ budget
+          → (answer ≡ decode.Done (record { n = N; l = L; p = e .planes; declared = e .bits; used = e .bits; finished = e .planes; error = 0; ending = Whole }))
+          × (after ≡ over (allOf N) (tables A (replicate (allOf N) 0) (sentMarks N L A budget)) given)
+      given-back d = given-back-by lower given after answer room d lower-between
+
+      pub given-back-midpoint : Decodes midpoint (take (e .bytes) (left .out)) given answer after → length (stream N L (planesOf A) A) ≤ budget
+          → (answer ≡ decode.Done (record { n = N; l = L; p = e .planes; declared = e .bits; used = e .bits; finished = e .planes; error = 0; ending = Whole }))
+          × (after ≡ over (allOf N) (tables A (replicate (allOf N) 0) (sentMarks N L A budget)) given)
+      given-back-midpoint d = given-back-by midpoint given after answer room d midpoint-between
 
 -- "and the bound is reached for each N, L, P": by an array that passes checks 1 to 4
 pub reached : (N L P : ℕ) → sideFits N ≡ true → levelsFit N L ≡ true → 1 ≤ P → P ≤ mostPlanes
@@ -363,14 +407,14 @@ padding-exactly declared body = (padding-refused declared body, λ p. refused-pa
 abbrev pub Refuses : DecodeAnswer → Type 0
 Refuses answer = (why : Refusal) × (answer ≡ decode.Refused why) × ((numberOf why ≡ 12) ⊎ (numberOf why ≡ 13))
 
-module _ (file : List ℕ) (held left : Tables) (answer : DecodeAnswer)
-    (passes : firstOf (decodeChecks file (length (held .values)) (length (held .precisions)) (length (held .marks))) ≡ Done) (decoded : Decodes file held answer left) where
+module _ (rule : ℕ → ℕ → ℕ) (file : List ℕ) (held left : Tables) (answer : DecodeAnswer)
+    (passes : firstOf (decodeChecks file (length (held .values)) (length (held .precisions)) (length (held .marks))) ≡ Done) (decoded : Decodes rule file held answer left) where
   pub refused-exactly : (Refuses answer → Fits (headerOf file .n) (headerOf file .l) (headerOf file .p) (usableBits file) → ⊥)
       × ((Fits (headerOf file .n) (headerOf file .l) (headerOf file .p) (usableBits file) → ⊥) → Refuses answer)
   refused-exactly = (some, none)
     where
-      got : DecodedFile (endingOf file) (headerOf file) (usableBits file) held answer left
-      got = subst (λ (o : Outcome). DecodesTo o (endingOf file) (headerOf file) (usableBits file) held answer left) passes decoded
+      got : DecodedFile rule (endingOf file) (headerOf file) (usableBits file) held answer left
+      got = subst (λ (o : Outcome). DecodesTo o rule (endingOf file) (headerOf file) (usableBits file) held answer left) passes decoded
 
       exact : (got .verdict ≡ taken → Fits (headerOf file .n) (headerOf file .l) (headerOf file .p) (usableBits file))
           × (Fits (headerOf file .n) (headerOf file .l) (headerOf file .p) (usableBits file) → got .verdict ≡ taken)

@@ -44,29 +44,29 @@ module _ (file : List ℕ) where
       ∷ bodyChecks (headerOf file) (bodyOf file) values precisions marks
   decode-checks-to most values precisions marks = refl
 
-  module _ (held : Tables) (answer : DecodeAnswer) (left : Tables) where
+  module _ (rule : ℕ → ℕ → ℕ) (held : Tables) (answer : DecodeAnswer) (left : Tables) where
     -- what `Decodes` says, where the largest N is `most`
     abbrev pub DecodesUpTo : ℕ → Type 0
     DecodesUpTo most =
-        DecodesTo (outcomeTo most (headerOf file .n) (decodeChecks file (length (held .values)) (length (held .precisions)) (length (held .marks)))) (endingOf file) (headerOf file) (usableBits file) held answer left
+        DecodesTo (outcomeTo most (headerOf file .n) (decodeChecks file (length (held .values)) (length (held .precisions)) (length (held .marks)))) rule (endingOf file) (headerOf file) (usableBits file) held answer left
 
     -- it is `Decodes` for the limit in use
-    pub up-to-most : DecodesUpTo mostN → Decodes file held answer left
+    pub up-to-most : DecodesUpTo mostN → Decodes rule file held answer left
     unfolding sideFits sideFitsTo
     up-to-most d = d
 
-    pub most-up-to : Decodes file held answer left → DecodesUpTo mostN
+    pub most-up-to : Decodes rule file held answer left → DecodesUpTo mostN
     unfolding sideFits sideFitsTo
     most-up-to d = d
 
     -- and the same for all that admit the file's N
     pub decodes-any : (a b : ℕ) → headerOf file .n ≤ a → headerOf file .n ≤ b → DecodesUpTo a → DecodesUpTo b
     decodes-any a b h k =
-        subst (λ (o : Outcome). DecodesTo o (endingOf file) (headerOf file) (usableBits file) held answer left)
+        subst (λ (o : Outcome). DecodesTo o rule (endingOf file) (headerOf file) (usableBits file) held answer left)
         (same-outcome (headerOf file .n) (decodeChecks file (length (held .values)) (length (held .precisions)) (length (held .marks))) a b h k)
 
     -- DECODING AS BEFORE: with 8 as the largest N a file of N up to 8 is answered, and leaves, what it does now
-    pub decodes-as-before : headerOf file .n ≤ mostBefore → (DecodesUpTo mostBefore → Decodes file held answer left) × (Decodes file held answer left → DecodesUpTo mostBefore)
+    pub decodes-as-before : headerOf file .n ≤ mostBefore → (DecodesUpTo mostBefore → Decodes rule file held answer left) × (Decodes rule file held answer left → DecodesUpTo mostBefore)
     decodes-as-before h = (
       λ d. up-to-most (decodes-any mostBefore mostN h (omega (arith, h)) d),
       λ d. decodes-any mostN mostBefore (omega (arith, h)) h (most-up-to d),

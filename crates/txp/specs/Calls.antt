@@ -78,18 +78,18 @@ decodeAnswer word h u taken =
 decodeAnswer word h u (contradiction bit) = decode.Refused (refusal.Contradiction bit)
 decodeAnswer word h u (beyond bit) = decode.Refused (refusal.Beyond bit)
 
--- a call whose checks all hold: the verdict on the usable bits decides the answer and the tables
-pub record DecodedFile (word : ℕ → ℕ → Ending) (h : Header) (u : List Bool) (held : Tables) (answer : DecodeAnswer) (left : Tables) : Type 0 where
+-- a call whose checks all hold: the verdict on the usable bits decides the answer and the tables, whose values are by the rule named
+pub record DecodedFile (rule : ℕ → ℕ → ℕ) (word : ℕ → ℕ → Ending) (h : Header) (u : List Bool) (held : Tables) (answer : DecodeAnswer) (left : Tables) : Type 0 where
   pub verdict : Verdict
   pub judged : Judged (h .n) (h .l) (h .p) u verdict
   pub answered : answer ≡ decodeAnswer word h u verdict
-  pub filled : left ≡ over (allOf (h .n)) (ownTables (h .n) (h .l) (h .p) u verdict) held
+  pub filled : left ≡ over (allOf (h .n)) (ownTables rule (h .n) (h .l) (h .p) u verdict) held
 
 -- any call, by the outcome of the checks; "Numbers 1 to 11 touch no lent byte"
-abbrev pub DecodesTo : Outcome → (ℕ → ℕ → Ending) → Header → List Bool → Tables → DecodeAnswer → Tables → Type 0
-DecodesTo outcome.Done word h u held answer left = DecodedFile word h u held answer left
-DecodesTo (outcome.Refused why) word h u held answer left = (answer ≡ decode.Refused why) × (left ≡ held)
+abbrev pub DecodesTo : Outcome → (ℕ → ℕ → ℕ) → (ℕ → ℕ → Ending) → Header → List Bool → Tables → DecodeAnswer → Tables → Type 0
+DecodesTo outcome.Done rule word h u held answer left = DecodedFile rule word h u held answer left
+DecodesTo (outcome.Refused why) rule word h u held answer left = (answer ≡ decode.Refused why) × (left ≡ held)
 
-abbrev pub Decodes : List ℕ → Tables → DecodeAnswer → Tables → Type 0
-Decodes file held answer left =
-    DecodesTo (firstOf (decodeChecks file (length (held .values)) (length (held .precisions)) (length (held .marks)))) (endingOf file) (headerOf file) (usableBits file) held answer left
+abbrev pub Decodes : (ℕ → ℕ → ℕ) → List ℕ → Tables → DecodeAnswer → Tables → Type 0
+Decodes rule file held answer left =
+    DecodesTo (firstOf (decodeChecks file (length (held .values)) (length (held .precisions)) (length (held .marks)))) rule (endingOf file) (headerOf file) (usableBits file) held answer left

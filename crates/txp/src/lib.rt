@@ -1,5 +1,6 @@
 // The TXP file: its header, and the public calls.
 use decoder::Ending;
+use decoder::Rule;
 use refusals::Outcome;
 use refusals::Refusal;
 ghost use mathlib.Core.Path.{_≡_};
@@ -11,8 +12,10 @@ ghost use lib.Seq.{sets};
 ghost use Rattle.refusals.specs.Checks.{firstOf};
 ghost use Rattle.sizes.specs.Sizes.{sideFits};
 ghost use Rattle.bits.specs.Bits.{bytesFor};
+ghost use Rattle.nls.specs.Reading.{lower, midpoint};
 ghost use Rattle.encoder.specs.Body.{loan};
 ghost use Rattle.decoder.specs.Body.{tables};
+ghost use Rattle.decoder.specs.Rules.{ruleOf};
 ghost use Rattle.txp.specs.Calls.{Encodes, paddingFits, headerChecks, bodyChecks, headerAnswer, decodeChecks, Decodes};
 ghost use Rattle.txp.specs.Under.{withHeader};
 ghost use Rattle.txp.specs.Header.{bodyOf, headerSize, headerBytes, twoAt, twoBytes, lettersFit, versionFits, headerOf};
@@ -59,7 +62,7 @@ pub struct Decoded {
     pub ending: Ending,
 }
 
-// What `decode` answers.
+// What `decode` and `decode_midpoint` answer.
 pub enum DecodeAnswer {
     Done(Decoded),
     Refused(Refusal),
@@ -286,20 +289,21 @@ fn with_header(h: Header, body: decoder::ReadAnswer) -> DecodeAnswer
     }
 }
 
-// Reads a file, whole or cut, into the three tables: I entries each.
-pub fn decode(
+// Reads a file, whole or cut, into the three tables, I entries each: values by the rule named.
+fn decode_by(
     file: &[u8],
     values: &mut [i32],
     precisions: &mut [u8],
     marks: &mut [u8],
+    rule: Rule,
 ) -> DecodeAnswer
-    ensures { λ r. ⌜ Decodes (now (file .entry)) (tables (now (values .entry)) (now (precisions .entry)) (now (marks .entry))) r (tables (now (values .exit)) (now (precisions .exit)) (now (marks .exit))) ⌝ }
+    ensures { λ r. ⌜ Decodes (ruleOf rule) (now (file .entry)) (tables (now (values .entry)) (now (precisions .entry)) (now (marks .entry))) r (tables (now (values .exit)) (now (precisions .exit)) (now (marks .exit))) ⌝ }
 {
     let checked = check_decode(file, values.len(), precisions.len(), marks.len());
     match checked {
         Outcome::Done => {
             let h = header_of(file);
-            let body = decoder::decode(
+            let body = decoder::decode_by(
                 h.n,
                 h.l,
                 h.p,
@@ -308,9 +312,34 @@ pub fn decode(
                 values,
                 precisions,
                 marks,
+                rule,
             );
             with_header(h, body)
         }
         Outcome::Refused(why) => DecodeAnswer::Refused(why),
     }
+}
+
+// Reads a file, whole or cut, by the default rule: known bits stand for themselves.
+pub fn decode(
+    file: &[u8],
+    values: &mut [i32],
+    precisions: &mut [u8],
+    marks: &mut [u8],
+) -> DecodeAnswer
+    ensures { λ r. ⌜ Decodes lower (now (file .entry)) (tables (now (values .entry)) (now (precisions .entry)) (now (marks .entry))) r (tables (now (values .exit)) (now (precisions .exit)) (now (marks .exit))) ⌝ }
+{
+    decode_by(file, values, precisions, marks, Rule::Lower)
+}
+
+// Reads a file, whole or cut, by the midpoint.
+pub fn decode_midpoint(
+    file: &[u8],
+    values: &mut [i32],
+    precisions: &mut [u8],
+    marks: &mut [u8],
+) -> DecodeAnswer
+    ensures { λ r. ⌜ Decodes midpoint (now (file .entry)) (tables (now (values .entry)) (now (precisions .entry)) (now (marks .entry))) r (tables (now (values .exit)) (now (precisions .exit)) (now (marks .exit))) ⌝ }
+{
+    decode_by(file, values, precisions, marks, Rule::Midpoint)
 }

@@ -9,17 +9,17 @@ use native.Mathlib.Nat.{one-le-pow, min-le-left}
 use lib.IntN.{ℤ, pos}
 use lib.ListN.{getD, List·getD-eq-default}
 use lib.Dec.{ltb, leb, eqb}
-use borrow.Author.Tests.{eqb-true, le-leb, lt-leb}
+use borrow.Author.Tests.{eqb-true, eqb-false, le-leb, lt-leb}
 use Rattle.sizes.specs.Sizes.{mostN, allOf, coarsestOf, Sized}
 use Rattle.sizes.proofs.Tables.{table-at, table-length}
 use Rattle.coef.specs.Coef.{at, magAt, magnitude, negative, signed}
 use Rattle.coef.proofs.Laws.{magnitude-signed}
 use Rattle.nls.specs.Scan.{State, Pass, pixels, sets, refining, movesLeft}
 use Rattle.nls.specs.Stream.{after}
-use Rattle.nls.specs.Reading.{known, precisionAt, lastPlane, midpoint, valueBy, valuesBy}
+use Rattle.nls.specs.Reading.{known, precisionAt, lastPlane, midpoint, valueBy, Between, valuesBy}
 use Rattle.nls.specs.Judging.{Begins}
 use Rattle.nls.proofs.Known.{room, lower-round, known-sound, bits-length, precision-left}
-use Rattle.nls.proofs.Values.{Between, midpoint-between}
+use Rattle.nls.proofs.Values.{midpoint-between}
 use Rattle.undo.specs.Back.{Prior, first, quiet, answered, bigIn, block, is, manyDescs, fresh, unasked, priorPixels, priorRefining, priorSet, priorBlock, priorSets, priorAt, prior, backFrom, back, allMoves}
 use Rattle.undo.proofs.Moves.{bigOf}
 use Rattle.undo.proofs.Whole.{magsOf, back-after}
@@ -35,13 +35,13 @@ value-test rule fair l k z h e = on (eqb m 0) refl
     one : 1 ≤ 2 ^ l
     one = one-le-pow l 2 (omega arith)
 
-    by : Dec (m < 2 ^ l) → leb (2 ^ l) (rule k m) ≡ leb (2 ^ l) m
-    by (yes w) = lt-leb (2 ^ l) (rule k m) (omega (arith, room k l m h e w, fair .high k m, one-le-pow k 2 (omega arith))) ∙ sym (lt-leb (2 ^ l) m w)
-    by (no w) = le-leb (2 ^ l) (rule k m) (omega (arith, w, fair .low k m)) ∙ sym (le-leb (2 ^ l) m (omega (arith, w)))
+    by : 1 ≤ m → Dec (m < 2 ^ l) → leb (2 ^ l) (rule k m) ≡ leb (2 ^ l) m
+    by some (yes w) = lt-leb (2 ^ l) (rule k m) (omega (arith, room k l m h e w, fair .high k m some, one-le-pow k 2 (omega arith))) ∙ sym (lt-leb (2 ^ l) m w)
+    by some (no w) = le-leb (2 ^ l) (rule k m) (omega (arith, w, fair .low k m some)) ∙ sym (le-leb (2 ^ l) m (omega (arith, w)))
 
     on : (t : Bool) → eqb m 0 ≡ t → leb (2 ^ l) (magnitude (cond t (pos 0) (signed (negative z) (rule k m)))) ≡ leb (2 ^ l) m
     on true q = lt-leb (2 ^ l) 0 one ∙ sym (lt-leb (2 ^ l) m (omega (arith, eqb-true m 0 q, one)))
-    on false q = rw magnitude-signed (by (decLt m (2 ^ l)))
+    on false q = rw magnitude-signed (by (omega (arith, eqb-false m 0 q)) (decLt m (2 ^ l)))
 
 -- at the planes left and above, the values have a bit where the known bits have one
 big-same : (N L P : ℕ) (u : List Bool) (l i : ℕ) → lastPlane N L P u ≤ l → bigIn (valuesBy N L P u midpoint) l i ≡ bigOf (magsOf (known N L P u)) l i

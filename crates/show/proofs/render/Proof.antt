@@ -6,6 +6,7 @@ use lib.IntN.{pos}
 use lib.ListN.{length, take, length-replicate}
 use lib.Seq.{length-take-le}
 use Rattle.sizes.specs.Sizes.{allOf, mostPlanes}
+use Rattle.nls.specs.Reading.{midpoint}
 use Rattle.decoder.specs.Body.{Tables, tables, zeros}
 use Rattle.txp.specs.declared.Decoded.{Decoded}
 use Rattle.txp.specs.declared.DecodeAnswer.{DecodeAnswer}
@@ -22,12 +23,12 @@ use Rattle.show.proofs.render.Statement.{statement}
 use Rattle.show.proofs.render.Tie as tie
 
 -- the tables that decoding leaves
-abbrev left : tie.After-decode → Tables
-left c = tables (c .decode .last .1 .0) (c .decode .last .1 .1 .0) (c .decode .last .1 .1 .1 .0)
+abbrev left : tie.After-decode-midpoint → Tables
+left c = tables (c .decode-midpoint .last .1 .0) (c .decode-midpoint .last .1 .1 .0) (c .decode-midpoint .last .1 .1 .1 .0)
 
 -- the answer is one that decoding allows
-said : (c : tie.After-decode) (x : DecodeAnswer) → c .decode .result ≡ x → Decodes (c .before .before .before .before .before .before .before .before .args .file .now) (zeros (allOf mostShownN)) x (left c)
-said c x e = subst (λ (y : DecodeAnswer). Decodes (c .before .before .before .before .before .before .before .before .args .file .now) (zeros (allOf mostShownN)) y (left c)) e (c .decode .ensures)
+said : (c : tie.After-decode-midpoint) (x : DecodeAnswer) → c .decode-midpoint .result ≡ x → Decodes midpoint (c .before .before .before .before .before .before .before .before .args .file .now) (zeros (allOf mostShownN)) x (left c)
+said c x e = subst (λ (y : DecodeAnswer). Decodes midpoint (c .before .before .before .before .before .before .before .before .args .file .now) (zeros (allOf mostShownN)) y (left c)) e (c .decode-midpoint .ensures)
 
 -- where the file is taken, what the answer says can be drawn
 abbrev told : tie.After-known-told → Decoded
@@ -55,17 +56,17 @@ returns c = (
   c .before .before .put-large .ensures .1,
 )
 
-slice-aggregate-decode : tie.Need-slice-aggregate-decode
-slice-aggregate-decode c = search needs
+slice-aggregate-decode-midpoint : tie.Need-slice-aggregate-decode-midpoint
+slice-aggregate-decode-midpoint c = search needs
 
-slice-aggregate-decode-2 : tie.Need-slice-aggregate-decode-2
-slice-aggregate-decode-2 c = search needs
+slice-aggregate-decode-midpoint-2 : tie.Need-slice-aggregate-decode-midpoint-2
+slice-aggregate-decode-midpoint-2 c = search needs
 
-slice-aggregate-decode-3 : tie.Need-slice-aggregate-decode-3
-slice-aggregate-decode-3 c = search needs
+slice-aggregate-decode-midpoint-3 : tie.Need-slice-aggregate-decode-midpoint-3
+slice-aggregate-decode-midpoint-3 c = search needs
 
-decode-requires : tie.Need-decode-requires
-decode-requires c κs = search needs
+decode-midpoint-requires : tie.Need-decode-midpoint-requires
+decode-midpoint-requires c κs = search needs
 
 enum-known-d : tie.Need-enum-known-d
 enum-known-d c = search needs
@@ -78,8 +79,8 @@ array-share-prefix-values c = omega (arith, can (c .before .before) .3, all-so (
 
 slice-aggregate-put-picture : tie.Need-slice-aggregate-put-picture
 slice-aggregate-put-picture c =
-    let size : length (c .before .before .before .before .before .before .before .before .before .decode .last .1 .0) ≡ 4096 = c .before .before .before .before .before .before .before .before .before .decode .kept .1 .0 ∙ length-replicate 4096 (pos 0) in
-    sym (length-take-le _ (c .before .before .before .before .before .before .before .before .before .decode .last .1 .0) (omega (arith, can (c .before .before .before) .3, all-so (c .before .before), size)))
+    let size : length (c .before .before .before .before .before .before .before .before .before .decode-midpoint .last .1 .0) ≡ 4096 = c .before .before .before .before .before .before .before .before .before .decode-midpoint .kept .1 .0 ∙ length-replicate 4096 (pos 0) in
+    sym (length-take-le _ (c .before .before .before .before .before .before .before .before .before .decode-midpoint .last .1 .0) (omega (arith, can (c .before .before .before) .3, all-so (c .before .before), size)))
 
 put-picture-requires : tie.Need-put-picture-requires
 put-picture-requires c κs =
@@ -117,4 +118,4 @@ returns-3 c =
     )
 
 pub render-spec : {M : Type 1} → statement M
-render-spec = tie.close (tie.spec is-large-requires put-large-requires same-length returns slice-aggregate-decode slice-aggregate-decode-2 slice-aggregate-decode-3 decode-requires enum-known-d all-of-requires array-share-prefix-values slice-aggregate-put-picture put-picture-requires enum-known-why put-refusal-requires same-length-2 returns-2 same-length-3 returns-3)
+render-spec = tie.close (tie.spec is-large-requires put-large-requires same-length returns slice-aggregate-decode-midpoint slice-aggregate-decode-midpoint-2 slice-aggregate-decode-midpoint-3 decode-midpoint-requires enum-known-d all-of-requires array-share-prefix-values slice-aggregate-put-picture put-picture-requires enum-known-why put-refusal-requires same-length-2 returns-2 same-length-3 returns-3)

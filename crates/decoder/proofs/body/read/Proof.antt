@@ -13,6 +13,7 @@ use Rattle.marking.proofs.Laws.{start-so}
 use Rattle.room.proofs.Laws.{sizes-near}
 use Rattle.reading.proofs.ScanLaws.{scanned-so}
 use Rattle.view.proofs.Laws.{viewed-within, viewed-past}
+use Rattle.decoder.specs.Rules.{ruleOf}
 use Rattle.decoder.specs.Ending.{ending}
 use Rattle.decoder.specs.Body.{tables}
 use Rattle.decoder.proofs.Endings.{ending-said}
@@ -99,7 +100,7 @@ returns c =
     let a = start .args in
     let s = c .before .before .before .before .before .before .before .before .before .before .before .before .before .before .scan in
     let k = c .before .before .before .before .before .clear2 in
-    refused-12 (a .n) (a .l) (a .p) (length (a .values .now)) (length (a .precisions .now)) (length (a .marks .now)) (start .pre) (a .body .now) (min (a .declared) (8 * length (a .body .now))) (s .result .bits) (s .result .left) (s .result .stop) (s .result .bad) (s .last .1 .0) (s .last .1 .1 .0) (ended (c .before .before .before .before .before .before .before .before .before .before .before .before .before .before)) (ending (a .declared) (a .body .now)) (tables (a .values .now) (a .precisions .now) (a .marks .now)) (start .pre .valuesSize) (start .pre .precisionsSize) (start .pre .marksSize)
+    refused-12 (a .n) (a .l) (a .p) (length (a .values .now)) (length (a .precisions .now)) (length (a .marks .now)) (start .pre) (a .body .now) (min (a .declared) (8 * length (a .body .now))) (s .result .bits) (s .result .left) (s .result .stop) (s .result .bad) (s .last .1 .0) (s .last .1 .1 .0) (ended (c .before .before .before .before .before .before .before .before .before .before .before .before .before .before)) (ruleOf (a .rule)) (ending (a .declared) (a .body .now)) (tables (a .values .now) (a .precisions .now) (a .marks .now)) (start .pre .valuesSize) (start .pre .precisionsSize) (start .pre .marksSize)
     (k .last .0) (k .last .1 .0) (k .last .1 .1 .0)
     (k .ensures .0 ∙ ap (λ (x : ℕ). replicate x (pos 0)) (values-so (c .before .before .before .before .before .before .before .before .before .before .before .before .before .before)))
     (k .ensures .1 .0 ∙ ap (λ (x : ℕ). replicate x 0) (start .pre .precisionsSize))
@@ -141,22 +142,22 @@ finish-requires c κs =
       (stood (a .n) (a .l) (a .p) (length (a .values .now)) (length (a .precisions .now)) (length (a .marks .now)) (start .pre) (a .body .now) (min (a .declared) (8 * length (a .body .now))) (s .result .bits) (s .result .left) (s .result .stop) (s .result .bad) (s .last .1 .0) (s .last .1 .1 .0) (t .1) (t .0), t .1 .valued),
     )
 
-sub-t50 : tie.Need-sub-t50
-sub-t50 c =
+sub-t51 : tie.Need-sub-t51
+sub-t51 c =
     let start = c .before .before .before .before .before .before .before .before .before .before .before .before .before .before .before .before .before .before .before .before .before .before .before .before .before .before .before .before .before .before in
     let a = start .args in
     let s = c .before .before .before .before .before .before .before .before .before .before .before .before .before .before .before .before .scan in
     left-in (a .n) (a .l) (a .p) (length (a .values .now)) (length (a .precisions .now)) (length (a .marks .now)) (start .pre) (a .body .now) (min (a .declared) (8 * length (a .body .now))) (s .result .bits) (s .result .left) (s .result .stop) (s .result .bad) (s .last .1 .0) (s .last .1 .1 .0) (took (c .before .before .before .before .before .before .before) .1)
 
-shl-t51 : tie.Need-shl-t51
-shl-t51 c =
+shl-t52 : tie.Need-shl-t52
+shl-t52 c =
     let start = c .before .before .before .before .before .before .before .before .before .before .before .before .before .before .before .before .before .before .before .before .before .before .before .before .before .before .before .before .before .before in
     let a = start .args in
     let s = c .before .before .before .before .before .before .before .before .before .before .before .before .before .before .before .before .scan in
     omega (arith, left-in (a .n) (a .l) (a .p) (length (a .values .now)) (length (a .precisions .now)) (length (a .marks .now)) (start .pre) (a .body .now) (min (a .declared) (8 * length (a .body .now))) (s .result .bits) (s .result .left) (s .result .stop) (s .result .bad) (s .last .1 .0) (s .last .1 .1 .0) (took (c .before .before .before .before .before .before .before) .1), start .pre .planes)
 
-sub-t52 : tie.Need-sub-t52
-sub-t52 c =
+sub-t53 : tie.Need-sub-t53
+sub-t53 c =
     let start = c .before .before .before .before .before .before .before .before .before .before .before .before .before .before .before .before .before .before .before .before .before .before .before .before .before .before .before .before .before .before in
     let a = start .args in
     let s = c .before .before .before .before .before .before .before .before .before .before .before .before .before .before .before .before .scan in
@@ -180,7 +181,7 @@ returns-2 c =
     let a = start .args in
     let s = c .before .before .before .before .before .before .before .before .before .before .before .before .before .before .before .before .before .scan in
     let k = c .before .before .before .before .before .clear3 in
-    refused-13 (a .n) (a .l) (a .p) (length (a .values .now)) (length (a .precisions .now)) (length (a .marks .now)) (start .pre) (a .body .now) (min (a .declared) (8 * length (a .body .now))) (s .result .bits) (s .result .left) (s .result .stop) (s .result .bad) (s .last .1 .0) (s .last .1 .1 .0) (ended (c .before .before .before .before .before .before .before .before .before .before .before .before .before .before .before .before .before)) (ending (a .declared) (a .body .now)) (tables (a .values .now) (a .precisions .now) (a .marks .now)) (start .pre .valuesSize) (start .pre .precisionsSize) (start .pre .marksSize)
+    refused-13 (a .n) (a .l) (a .p) (length (a .values .now)) (length (a .precisions .now)) (length (a .marks .now)) (start .pre) (a .body .now) (min (a .declared) (8 * length (a .body .now))) (s .result .bits) (s .result .left) (s .result .stop) (s .result .bad) (s .last .1 .0) (s .last .1 .1 .0) (ended (c .before .before .before .before .before .before .before .before .before .before .before .before .before .before .before .before .before)) (ruleOf (a .rule)) (ending (a .declared) (a .body .now)) (tables (a .values .now) (a .precisions .now) (a .marks .now)) (start .pre .valuesSize) (start .pre .precisionsSize) (start .pre .marksSize)
     (k .last .0) (k .last .1 .0) (k .last .1 .1 .0)
     (k .ensures .0 ∙ ap (λ (x : ℕ). replicate x (pos 0)) (values-so (c .before .before .before .before .before .before .before .before .before .before .before .before .before .before .before .before .before)))
     (k .ensures .1 .0 ∙ ap (λ (x : ℕ). replicate x 0) (start .pre .precisionsSize))
@@ -203,7 +204,7 @@ returns-3 c =
     let s = c .before .before .before .before .before .before .before .before .before .before .before .before .before .before .before .before .before .scan in
     let t = took (c .before .before .before .before .before .before .before .before) in
     let f = c .before .before .before .before .finish in
-    accepted (a .n) (a .l) (a .p) (length (a .values .now)) (length (a .precisions .now)) (length (a .marks .now)) (start .pre) (a .body .now) (min (a .declared) (8 * length (a .body .now))) (s .result .bits) (s .result .left) (s .result .stop) (s .result .bad) (s .last .1 .0) (s .last .1 .1 .0) (t .1) (t .0) (ending (a .declared) (a .body .now)) (c .ending-of .result)
+    accepted (a .n) (a .l) (a .p) (length (a .values .now)) (length (a .precisions .now)) (length (a .marks .now)) (start .pre) (a .body .now) (min (a .declared) (8 * length (a .body .now))) (s .result .bits) (s .result .left) (s .result .stop) (s .result .bad) (s .last .1 .0) (s .last .1 .1 .0) (t .1) (t .0) (ruleOf (a .rule)) (ending (a .declared) (a .body .now)) (c .ending-of .result)
     (ending-said (a .declared) (a .body .now) (s .result .bits) (s .result .left) (c .ending-of .result) _ (c .ending-of .ensures) (sym (c .before .before .before .before .before .before .before .before .before .why .given .1) ∙ c .before .before .before .before .before .before .before .before .before .before .before .read .ensures)) (tables (a .values .now) (a .precisions .now) (a .marks .now)) (start .pre .valuesSize) (start .pre .precisionsSize) (start .pre .marksSize)
     (f .last .0) (f .last .1 .0) (length (s .last .1 .0)) (marks-so (c .before .before .before .before .before .before .before .before .before .before .before .before .before .before .before .before .before)) (f .ensures .0) (f .ensures .1)
 
@@ -226,9 +227,9 @@ read-spec =
     clear-requires-3
     enum-known-why
     finish-requires
-    sub-t50
-    shl-t51
-    sub-t52
+    sub-t51
+    shl-t52
+    sub-t53
     ending-of-requires
     same-length-4
     same-length-5

@@ -7,9 +7,11 @@ use lib.ListN.{length, getD}
 use Rattle.sizes.specs.Tables.{table}
 use Rattle.sizes.proofs.Tables.{table-at, table-ext}
 use Rattle.coef.specs.Coef.{at}
-use Rattle.nls.specs.Reading.{midpoint, valueBy}
+use Rattle.nls.specs.Reading.{valueBy}
 use Rattle.nls.specs.Turns.{precisionBy}
 use Rattle.decoder.specs.Finishing.{plainOf, Uncodes}
+use Rattle.decoder.specs.Rules.{ruleOf}
+use Rattle.decoder.proofs.RuleLaws.{rule-between}
 use Rattle.decoder.proofs.StoodLaws.{undone}
 use Rattle.decoder.proofs.finish.finish.Statement.{statement}
 use Rattle.decoder.proofs.finish.finish.Tie as tie
@@ -27,7 +29,7 @@ uncode-requires c κs =
     let a = c .before .before .before .before .before .before .before .before .args in
     let start = c .before .before .before .before .before .before .before .before in (
       start .pre .0 ∙ sym (c .before .before .before .before .precise .kept .0 ∙ start .pre .1),
-      λ i h. subst (λ (k : ℕ). Uncodes (at (a .values .now) i) k) (sym (made (c .before .before .before .before) i (omega (arith, h, start .pre .0)))) (undone (start .pre .2 .0) (a .values .now) (start .pre .2 .1) i (omega (arith, h, start .pre .0))),
+      λ i h. subst (λ (k : ℕ). Uncodes (ruleOf (a .rule)) (at (a .values .now) i) k) (sym (made (c .before .before .before .before) i (omega (arith, h, start .pre .0)))) (undone (start .pre .2 .0) (a .values .now) (start .pre .2 .1) (ruleOf (a .rule)) (rule-between (a .rule)) i (omega (arith, h, start .pre .0))),
     )
 
 same-length : tie.Need-same-length
@@ -40,8 +42,8 @@ returns : tie.Need-returns
 returns c =
     let a = c .before .before .before .before .before .before .before .before .before .before .args in (
       c .before .uncode .ensures
-          ∙ ap (λ (n : ℕ). table n (λ i. valueBy midpoint (getD (c .before .before .before .before .before .before .precise .last .0) i 0) (plainOf (at (a .values .now) i)))) (c .before .before .before .before .before .before .before .before .before .before .pre .0)
-          ∙ table-ext (length (a .marks .now)) _ _ (λ i h. ap (λ (k : ℕ). valueBy midpoint k (plainOf (at (a .values .now) i))) (made (c .before .before .before .before .before .before) i h)),
+          ∙ ap (λ (n : ℕ). table n (λ i. valueBy (ruleOf (a .rule)) (getD (c .before .before .before .before .before .before .precise .last .0) i 0) (plainOf (at (a .values .now) i)))) (c .before .before .before .before .before .before .before .before .before .before .pre .0)
+          ∙ table-ext (length (a .marks .now)) _ _ (λ i h. ap (λ (k : ℕ). valueBy (ruleOf (a .rule)) k (plainOf (at (a .values .now) i))) (made (c .before .before .before .before .before .before) i h)),
       c .before .before .before .before .before .before .precise .ensures,
     )
 

@@ -13,19 +13,20 @@ use Rattle.sizes.specs.Tables.{table}
 use Rattle.sizes.proofs.Tables.{fill-step}
 use Rattle.coef.specs.Coef.{at, negative}
 use Rattle.coef.proofs.Held.{pos-cast}
-use Rattle.nls.specs.Reading.{midpoint, valueBy}
+use Rattle.nls.specs.Reading.{valueBy}
 use Rattle.decoder.specs.Finishing.{plainOf}
+use Rattle.decoder.specs.Rules.{ruleOf}
 use Rattle.decoder.proofs.FinishLaws.{not-yet, whole}
 use Rattle.decoder.proofs.finish.uncode.Statement.{statement}
 use Rattle.decoder.proofs.finish.uncode.Tie as tie
 
 abbrev Inv-loop : tie.InvT-loop
-Inv-loop values₀ precisions i₀ i-end values i =
+Inv-loop values₀ precisions rule i₀ i-end values i =
     (i ≤ i-end) × (i-end ≡ length values₀) × (length values ≡ length values₀)
-    × (values ≡ table i (λ k. valueBy midpoint (getD precisions k 0) (plainOf (at values₀ k))) ++ drop i values₀)
+    × (values ≡ table i (λ k. valueBy (ruleOf rule) (getD precisions k 0) (plainOf (at values₀ k))) ++ drop i values₀)
 
 abbrev μ-loop : tie.MeasureT-loop
-μ-loop values₀ precisions i₀ i-end values i = i-end - i
+μ-loop values₀ precisions rule i₀ i-end values i = i-end - i
 
 -- the code at i, as it was
 code-is : (c : tie.After-code Inv-loop μ-loop) → at (c .before .before .loop .values) (c .before .before .loop .i) ≡ at (c .before .before .before .before .args .values .now) (c .before .before .loop .i)
@@ -33,7 +34,7 @@ code-is c =
     let a = c .before .before .before .before .args in
     let l = c .before .before .loop in
     ap (λ (x : List ℤ). at x (l .i)) (l .inv .3)
-    ∙ not-yet (l .i) (λ k. valueBy midpoint (getD (a .precisions .now) k 0) (plainOf (at (a .values .now) k))) (a .values .now) (pos 0)
+    ∙ not-yet (l .i) (λ k. valueBy (ruleOf (a .rule)) (getD (a .precisions .now) k 0) (plainOf (at (a .values .now) k))) (a .values .now) (pos 0)
 
 code-so : (c : tie.After-code Inv-loop μ-loop) → toZ w32 (ofZ w32 (at (c .before .before .loop .values) (c .before .before .loop .i))) ≡ at (c .before .before .before .before .args .values .now) (c .before .before .loop .i)
 code-so c =
@@ -84,12 +85,12 @@ loop-again c =
     let a = c .before .before .before .before .before .before .args in
     let l = c .before .before .before .before .loop in
     let f : SFits w32 (c .value-at .result) = record { sfits = c .value-at .ok } in
-    let v : toZ w32 (ofZ w32 (c .value-at .result)) ≡ valueBy midpoint (getD (a .precisions .now) (l .i) 0) (plainOf (at (a .values .now) (l .i))) =
+    let v : toZ w32 (ofZ w32 (c .value-at .result)) ≡ valueBy (ruleOf (a .rule)) (getD (a .precisions .now) (l .i) 0) (plainOf (at (a .values .now) (l .i))) =
     toZ-ofZ f ∙ c .value-at .ensures ∙ rw (code-so (c .before .before)) in (
       omega arith,
       refl,
       length-set (l .values) (l .i) _ ∙ l .inv .2,
-      rw (l .inv .3, add-one (l .i)) (fill-step (l .i) (λ k. valueBy midpoint (getD (a .precisions .now) k 0) (plainOf (at (a .values .now) k))) (a .values .now) (toZ w32 (ofZ w32 (c .value-at .result))) (omega arith) v),
+      rw (l .inv .3, add-one (l .i)) (fill-step (l .i) (λ k. valueBy (ruleOf (a .rule)) (getD (a .precisions .now) k 0) (plainOf (at (a .values .now) k))) (a .values .now) (toZ w32 (ofZ w32 (c .value-at .result))) (omega arith) v),
     )
 
 same-length : tie.Need-same-length Inv-loop μ-loop

@@ -14,7 +14,7 @@ use Rattle.coef.specs.Coef.{signed, joinedOf}
 use Rattle.coef.specs.declared.Joined.{Joined}
 use Rattle.coef.specs.declared.Joined.the-variants as joinedAs
 use Rattle.coef.proofs.Held.{signed-fits}
-use Rattle.decoder.specs.Finishing.{joinedOr0}
+use Rattle.steps.specs.Moved.{joinedOr0}
 
 -- a joined value is within the limit
 joined-fits : (s : Bool) (n : ℕ) → SFits w32 (joinedOr0 s n)

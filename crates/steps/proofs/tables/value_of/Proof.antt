@@ -1,9 +1,9 @@
-use Rattle.decoder.proofs.ValueLaws.{joined-is, joined-no}
+use Rattle.steps.proofs.JoinLaws.{joined-is, joined-no}
 use borrow.Author.Needs.{needs}
-use Rattle.decoder.proofs.finish.value_of.Statement.{statement}
-use Rattle.decoder.proofs.finish.value_of.Tie as tie
-use Rattle.decoder.proofs.finish.value_of.Reads as reads
-use Rattle.decoder.proofs.finish.value_of.Lts as lts
+use Rattle.steps.proofs.tables.value_of.Statement.{statement}
+use Rattle.steps.proofs.tables.value_of.Tie as tie
+use Rattle.steps.proofs.tables.value_of.Reads as reads
+use Rattle.steps.proofs.tables.value_of.Lts as lts
 use Rattle.coef.proofs.join_of.Reads as join-of-reads
 
 join-of-requires : tie.Need-join-of-requires
