@@ -108,18 +108,15 @@ module _ {m : List ℕ} {left now : ℕ} (s : Stood m left now) where
         low true = omega arith
         low false = omega arith
 
-  -- before a plane's first bit each is the last finished one, and after it a plane is left
+  -- before a plane's first bit each is the last finished one
   pub before-any : now ≡ 0 → replicate (length m) left ≡ table (length m) (λ j. precisionBy (length m) m left now j)
   before-any e =
       table-is (length m) (λ j. precisionBy (length m) m left now j) 0 (replicate (length m) left) (length-replicate (length m) left)
       (λ i h. getD-replicate (length m) i left 0 h ∙ ap (λ (t : Bool). cond t (left - 1) left) (sym (le-ltb (turn (length m) m i) now (omega (arith, e)))))
 
-  pub plane-left : (now ≡ 0 → ⊥) → 1 ≤ left
-  plane-left h = go left refl
-    where
-      go : (l : ℕ) → left ≡ l → 1 ≤ l
-      go zero e = absurd (h (s .ended e))
-      go (suc l) e = omega arith
+  -- and after the last plane 0
+  pub after-all : left ≡ 0 → replicate (length m) 0 ≡ table (length m) (λ j. precisionBy (length m) m left now j)
+  after-all e = ap (λ (x : ℕ). replicate (length m) x) (sym e) ∙ before-any (s .ended e)
 
   -- the walk over the marks, while a plane is in progress: they lie as the machine lays them
   module _ (some : 1 ≤ left) where

@@ -109,11 +109,15 @@ fn settle(precisions: &mut [u8], marks: &[u8], left: u32, stop: usize)
     }
 }
 
-// The precisions where the scan stopped. Before a plane's first bit all are known down to the last finished plane.
+// The precisions where the scan stopped. After the last plane all are known to the last bit, and before a plane's first bit down to the last finished one.
 fn precise(precisions: &mut [u8], marks: &[u8], left: u32, stop: usize)
     requires { ⌜ (length (now precisions) ≡ length (now marks)) × Stood (now marks) left stop ⌝ }
     ensures { λ _. ⌜ now (precisions .exit) ≡ table (length (now (marks .entry))) (λ i. precisionBy (length (now (marks .entry))) (now (marks .entry)) left stop i) ⌝ }
 {
+    if left == 0 {
+        marking::fill(precisions, 0);
+        return;
+    }
     if stop == 0 {
         marking::fill(precisions, left as u8);
         return;
