@@ -165,8 +165,9 @@ uint32_t txp_encode(uint32_t n, uint32_t l, const int32_t *coefs, size_t coefs_l
  * Refusals 12, 13 (place: a bit of the body): the first I entries of the three are 0.
  * Done: values hold what is known of the coefficients, marks where the scan stopped, and precisions how near each value is:
  * every array whose stream begins with these bits differs from values[i] by less than 2^precisions[i], and none has a smaller
- * magnitude there. The precision is the number of the plane in progress if in it the coefficient's own bit was read (with its sign, where one follows) or a set that holds it was tested 0; else
- * that of the last finished plane, or P if none is. A whole stream has precisions 0.
+ * magnitude there. The precision is the number of the plane in progress if in it the coefficient's own bit was read (with its sign,
+ * where one follows) or a set that holds it was tested 0; else that of the last finished plane, or P if none is. A whole stream has
+ * precisions 0.
  * Answer: n, l, planes, declared, bits (used), finished, error, ending (TXP_WHOLE, TXP_BUDGET or TXP_CUT). */
 uint32_t txp_decode(const uint8_t *file, size_t file_len, int32_t *values, size_t values_len, uint8_t *precisions,
                     size_t precisions_len, uint8_t *marks, size_t marks_len, txp_answer *answer);
@@ -209,7 +210,8 @@ uint32_t txp_decode_body_midpoint(uint32_t n, uint32_t l, uint32_t p, const uint
 /* ---- steps: the body read bit by bit, forward and back
  *
  * A caller keeps a record and the three tables of txp_decode_body_midpoint, and moves them through a body. They stand at a number of
- * bits, and hold what txp_decode_body_midpoint leaves in the tables for as many usable bits: values by the midpoint. A step changes a few entries and reads no prefix again.
+ * bits, and hold what txp_decode_body_midpoint leaves in the tables for as many usable bits: values by the midpoint. A step changes a
+ * few entries and reads no prefix again.
  * This holds while the caller changes neither body, record nor tables between the calls. With anything else in them every call still
  * ends without a fault, refuses a record that is out of range, and touches no entry past the first I of a table. */
 
