@@ -17,45 +17,18 @@
 //                            dial's steps, their mean and the worst, in us, and of the transform, in ns for each sample
 #define _GNU_SOURCE
 #include "../include/txp.h"
+#include "clock.h"
 #include "gen.h"
 #include "nls.h"
 #include <stdio.h>
 #include <stdlib.h>
 #include <string.h>
-#include <time.h>
 
 #define I TXP_ENTRIES(NLS_MAX_N)
 
 static uint32_t desc[I / 4], grand[I / 16];
 static uint8_t marks[I], prec[I], body[TXP_MOST_BODY(NLS_MAX_N)];
 static int32_t samples[I], coef[I], values[I], work[I];
-
-nls_result txp_bench_encode(const int32_t *c, unsigned n, unsigned l, uint32_t budget, uint32_t *d, uint32_t *g,
-                            uint8_t *m, uint8_t *b) {
-    txp_answer a;
-    uint32_t no = txp_encode_body(n, l, c, TXP_ENTRIES(n), d, I / 4, g, I / 16, m, I, b, sizeof body, 0, budget, &a);
-    return (nls_result){.no = no, .place = a.place, .bits = a.bits, .planes = a.planes};
-}
-
-static nls_result decoded(uint32_t no, unsigned p, const txp_answer *a) {
-    return (nls_result){.no = no, .place = a->place, .bits = a->bits, .planes = p, .finished = a->finished, .worst = a->error};
-}
-
-// By the midpoint, as both codes in C.
-__attribute__((noinline)) nls_result txp_bench_decode(const uint8_t *b, uint32_t bits, unsigned n, unsigned l, unsigned p,
-                                                      int32_t *v, uint8_t *q, uint8_t *m) {
-    txp_answer a;
-    uint32_t no = txp_decode_body_midpoint(n, l, p, b, (bits + 7) / 8, bits, v, I, q, I, m, I, &a);
-    return decoded(no, p, &a);
-}
-
-// By the default rule: known bits stand for themselves.
-__attribute__((noinline)) nls_result txp_bench_lower(const uint8_t *b, uint32_t bits, unsigned n, unsigned l, unsigned p,
-                                                     int32_t *v, uint8_t *q, uint8_t *m) {
-    txp_answer a;
-    uint32_t no = txp_decode_body(n, l, p, b, (bits + 7) / 8, bits, v, I, q, I, m, I, &a);
-    return decoded(no, p, &a);
-}
 
 __attribute__((noinline)) nls_result txp_bench_transform(unsigned n, unsigned l, const int32_t *s, size_t s_len, int32_t *c,
                                                          size_t c_len, int32_t *w, size_t w_len) {
@@ -140,21 +113,11 @@ __attribute__((noinline)) uint32_t txp_bench_down(txp_answer *a) {
     return txp_turn(&record, body, (usable + 7) / 8, usable, 0, values, I, prec, I, marks, I, a);
 }
 
-// The same spread of the finest band, growth a level and cut for every N and L. With 2 planes every coefficient is found in the
-// first of them, and with 5 three of four are, and the others in the last: there a step forward or back passes over most places.
-static void data(unsigned n, unsigned l, unsigned planes) {
-    gen_state = 0x9e3779b97f4a7c15u;
-    gen_laplace(coef, n, l, 4, 3, 4095);
-    if (planes == 20) gen_laplace(coef, n, l, 500, 3.5, 1048575);
-    if (planes == 2) gen_level(coef, n, 3, 0);
-    if (planes == 5) gen_level(coef, n, 31, 4);
-}
-
 // The figures of all planes at once, and of each by itself.
 static int figures(unsigned n, unsigned l) {
     uint32_t all[TXP_ALL_FIGURES];
     txp_answer one, every;
-    data(n, l, 20);
+    gen_planes(coef, n, l, 20);
     uint32_t wrong = txp_bench_all(n, l, all, &every);
     for (unsigned b = 0; b < TXP_MOST_PLANES; b++) {
         const uint32_t *f = all + 4 * b;
@@ -162,12 +125,6 @@ static int figures(unsigned n, unsigned l) {
     }
     if (wrong) return printf("figures: wrong\n"), 1;
     return 0;
-}
-
-static double now(void) {
-    struct timespec t;
-    clock_gettime(CLOCK_MONOTONIC, &t);
-    return (double)t.tv_sec * 1e9 + (double)t.tv_nsec;
 }
 
 // The best times of one coder; every answer is checked, and every body is that of plain C, which comes first.
@@ -210,7 +167,7 @@ static int lower(unsigned n, unsigned l, unsigned planes, unsigned reps, uint32_
 static int count(unsigned n, unsigned l, unsigned planes) {
     uint32_t bits;
     double enc, dec;
-    data(n, l, planes);
+    gen_planes(coef, n, l, planes);
     for (unsigned k = 0; k < 3; k++)
         if (run(k, n, l, planes, 1, &bits, &enc, &dec)) return 1;
     if (lower(n, l, planes, 1, bits, &dec)) return 1;
@@ -222,7 +179,7 @@ static int opening(unsigned n, unsigned l, unsigned planes, unsigned thousandths
     static uint8_t first[sizeof body], first_marks[I];
     static uint32_t first_desc[I / 4], first_grand[I / 16];
     uint32_t all = TXP_ENTRIES(n), whole = 0;
-    data(n, l, planes);
+    gen_planes(coef, n, l, planes);
     for (unsigned b = 0; b < planes; b++) {
         txp_answer f;
         txp_figures(n, l, coef, all, b, desc, I / 4, grand, I / 16, &f);
@@ -254,7 +211,7 @@ static int cut(unsigned n, unsigned l, unsigned planes, const char *part) {
     static int32_t first[I];
     static uint8_t first_prec[I], first_marks[I];
     uint32_t all = TXP_ENTRIES(n), most = (uint32_t)atoi(part);
-    data(n, l, planes);
+    gen_planes(coef, n, l, planes);
     nls_result e = nls_plain_encode(coef, n, l, UINT32_MAX, desc, grand, marks, body), f = {0};
     uint32_t bits = strchr(part, 'b') ? most : (uint32_t)((uint64_t)e.bits * most / 1000);
     if (e.no || e.planes != planes || bits > e.bits) return printf("cut, N = %u, L = %u, P = %u: wrong\n", n, l, planes), 1;
@@ -275,16 +232,13 @@ static int cut(unsigned n, unsigned l, unsigned planes, const char *part) {
     }
     nls_result d = txp_bench_lower(body, bits, n, l, planes, values, prec, marks);
     int wrong = d.no || d.bits != bits || d.finished != f.finished || d.worst != f.worst || memcmp(first_prec, prec, all) || memcmp(first_marks, marks, all);
-    for (uint32_t i = 0; i < all; i++) {
-        int32_t size = abs(first[i]) >> prec[i] << prec[i];
-        wrong |= values[i] != (first[i] < 0 ? -size : size);
-    }
+    for (uint32_t i = 0; i < all; i++) wrong |= values[i] != nls_lower(first[i], prec[i]);
     if (wrong) return printf("lower, N = %u, L = %u, P = %u, %u bits: wrong\n", n, l, planes, bits), 1;
     return printf("%u\n", bits), 0;
 }
 
 static int tops(unsigned n, unsigned l, unsigned planes) {
-    data(n, l, planes);
+    gen_planes(coef, n, l, planes);
     if (nls_plain_planes(coef, n) != planes || txp_bench_planes(coef, n) != planes)
         return printf("planes, N = %u, L = %u, P = %u: wrong\n", n, l, planes), 1;
     return 0;
@@ -293,7 +247,7 @@ static int tops(unsigned n, unsigned l, unsigned planes) {
 // The stream of the dial, which starts at its first bit; ends: the bits up to the end of each plane.
 static int start(unsigned n, unsigned l, unsigned planes, uint32_t *ends) {
     txp_answer a;
-    data(n, l, planes);
+    gen_planes(coef, n, l, planes);
     nls_result e = txp_bench_encode(coef, n, l, UINT32_MAX, desc, grand, marks, body);
     uint32_t wrong = e.no || e.planes != planes;
     usable = 0;
@@ -451,7 +405,7 @@ static int times(unsigned n, unsigned l, unsigned reps) {
     uint32_t bits;
     double enc, dec;
     for (unsigned planes = 12; planes <= 20; planes += 8) {
-        data(n, l, planes);
+        gen_planes(coef, n, l, planes);
         for (unsigned k = 0; k < 3; k++) {
             if (run(k, n, l, planes, reps, &bits, &enc, &dec)) return 1;
             double none = 1e30;

@@ -11,7 +11,8 @@
 # Needs gcc and valgrind. On a machine that is not x86-64 it needs gcc, Debian's gcc-x86-64-linux-gnu and qemu-user: the
 # instructions are then counted in the emulator (bench/count.c), which has those of the dial's longest step too, and no
 # times are taken.
-# The counts repeat exactly; the times don't.
+# The counts repeat exactly; the times don't. bench/turns.sh takes the times of the coders in turn in one process, beside C at -O3
+# and a coder with lists too, counts mispredicted branches, and holds the library to bars.
 set -eu
 cd "$(dirname "$0")/.."
 rt staticlib ctxp >&2
@@ -19,7 +20,7 @@ room=$(mktemp -d)
 trap 'rm -rf "$room"' EXIT
 cc=gcc
 [ "$(uname -m)" = x86_64 ] || cc='x86_64-linux-gnu-gcc -static'
-$cc -std=gnu11 -O2 -ffp-contract=off bench/bench.c bench/nls_summaries.c bench/nls_plain.c bench/nls_fast.c bench/nls_orders.c bench/nls_transform.c target/staticlib/libctxp.a -o "$room/bench"
+$cc -std=gnu11 -O2 -ffp-contract=off bench/bench.c bench/nls_summaries.c bench/nls_plain.c bench/nls_fast.c bench/nls_orders.c bench/nls_transform.c bench/nls_txp.c target/staticlib/libctxp.a -o "$room/bench"
 if [ "$cc" != gcc ]; then
     gcc -O2 -fPIC -shared bench/count.c -o "$room/count.so"
     named=$(x86_64-linux-gnu-nm "$room/bench" | awk '$3 ~ /^(txp_bench|nls_(plain|fast))_(encode|decode|lower|planes|linear|raster|one|all|forward|back|up|down|transform|restore)$/ { printf ",%s=%s", $3, $1 }')

@@ -38,6 +38,16 @@ static inline void gen_level(int32_t *c, unsigned N, int32_t most, uint32_t part
         c[i] = gen_u32() & 1 ? -m : m;
     }
 }
+// An array of 2, 5, 12 or 20 planes, always the same. 12 and 20 have the same spread of the finest band, growth a level and cut for
+// every N and L. With 2 every coefficient is found in the first plane, and with 5 three of four are, and the others in the last: there a
+// step forward or back passes over most places.
+static inline void gen_planes(int32_t *c, unsigned N, unsigned L, unsigned planes) {
+    gen_state = 0x9e3779b97f4a7c15u;
+    gen_laplace(c, N, L, 4, 3, 4095);
+    if (planes == 20) gen_laplace(c, N, L, 500, 3.5, 1048575);
+    if (planes == 2) gen_level(c, N, 3, 0);
+    if (planes == 5) gen_level(c, N, 31, 4);
+}
 // A wave of parabolas, from -16,384 to 16,384, that comes round after 512 steps.
 static inline int32_t gen_wave(uint32_t t) {
     int32_t x = (int32_t)(t % 256), y = x * (256 - x);

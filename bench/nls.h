@@ -3,6 +3,7 @@
 #define NLS_H
 #include <stddef.h>
 #include <stdint.h>
+#include <stdlib.h>
 
 enum { NLS_LIMIT = 16777215, NLS_MAX_N = 10 };
 enum { NONE, MIP, MNP, MSP, MCP, MD, MG, MN2 }; // MNk is k + 5
@@ -20,8 +21,14 @@ typedef nls_result nls_encoder(const int32_t *coef, unsigned N, unsigned L, uint
                                uint32_t *grand, uint8_t *marks, uint8_t *body);
 typedef nls_result nls_decoder(const uint8_t *body, uint32_t bits, unsigned N, unsigned L, unsigned P, int32_t *values,
                                uint8_t *prec, uint8_t *marks);
-nls_encoder nls_plain_encode, nls_fast_encode;
-nls_decoder nls_plain_decode, nls_fast_decode;
+nls_encoder nls_plain_encode, nls_fast_encode, nls_list_encode, txp_bench_encode;
+nls_decoder nls_plain_decode, nls_fast_decode, nls_list_decode, txp_bench_decode, txp_bench_lower;
+
+// The value by the rule of txp_bench_lower where that of the others gives `value`: without its bits below the precision.
+static inline int32_t nls_lower(int32_t value, unsigned precision) {
+    int32_t size = abs(value) >> precision << precision;
+    return value < 0 ? -size : size;
+}
 
 // OR of magnitudes over DESC and GRAND; returns the OR of all magnitudes.
 uint32_t nls_summaries(const int32_t *coef, unsigned N, unsigned L, uint32_t *desc, uint32_t *grand);

@@ -79,6 +79,21 @@ def stretched(rng, N, P):
     return A[:4 ** N]
 
 
+def at_once(rng, N, P):
+    """A linear array whose coefficients are all found in plane P-1."""
+    return [signed(rng, rng.randrange(1 << P - 1, 1 << P))
+            for _ in range(4 ** N)]
+
+
+def in_runs(rng, N, P):
+    """Such an array that is short to write: all coefficients below 0, and equal
+    ones in a row."""
+    A = []
+    while len(A) < 4 ** N:
+        A += [-rng.randrange(1 << P - 1, 1 << P)] * rng.randint(1, 4 ** N // 8)
+    return A[:4 ** N]
+
+
 def signed(rng, size):
     """A magnitude with either sign."""
     return -size if rng.getrandbits(1) else size

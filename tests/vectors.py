@@ -6,7 +6,8 @@ DIR/stdin holds the cases, DIR/stdout what the program `second` prints for
 them, and DIR/txp some of the files as NUMBER-KIND.txp with what txpshow prints
 for them as NUMBER-KIND.out. The gate keeps the first two as
 crates/second/stdin and crates/second/stdout. DIR/large has cases too large for
-that program, for the linked library alone. VECTORS.md has the format of both.
+that program, or too many to store, for the linked library alone. VECTORS.md has
+the format of both.
 
 The remarks 12a to 12d are the contradictions: all of plane P-1 is 0; four
 children of a split set without a GRAND are 0; a GRAND is 0 whose DESC was split
@@ -20,8 +21,8 @@ from collections import Counter, namedtuple
 from itertools import accumulate, groupby, product
 
 import second
-from arrays import (STYLES, random_array, random_bits, scattered, stretched,
-                    tiled)
+from arrays import (STYLES, at_once, in_runs, placed, random_array, random_bits,
+                    scattered, stretched, tiled)
 from second import Decoder, Record, Refused, encode, write_file
 from selftest import (CHANGED_LINEAR, EZW, NO_BUDGET, SAMPLE, SMALL, SQUARE,
                       asked, checkered, clash_kind, own_map)
@@ -1786,13 +1787,480 @@ def shown_ends(cases, shown):
     check_kinds(words, (('d', WORDS, shapes(second.SHOW_N)),))
 
 
+# Hand-over.
+
+# A coder may take several coefficients at a time while more bits are left than
+# these can have, and the last bits one by one. Whatever it does, its answers
+# are those of the scan. In these cases so many bits are left at a bit of each
+# pass.
+HAND_OVER = 'hand-over'
+BITS_LEFT = 63, 64, 65, 127, 128, 129
+PASSES = 'pixel', 'set', 'refinement'
+
+# N, L and arrays with longer streams than the small ones, whose every budget is
+# a case.
+LONG = (
+    (2, 1, placed(2, {0: 9_000_001, 1: -70_001, 3: 5, 6: -1_234_567, 7: 300,
+                      13: -2})),
+    (3, 2, placed(3, {0: 300, 1: -7, 6: -100, 7: 1, 27: 33, 30: -200, 47: 5,
+                      63: -2})))
+
+# The bytes that an output has more than is asked for, and the offset of
+# txp_encode_body, or None for txp_encode.
+ROOMS = ((0, None), (0, 1), (1, None), (9, 13), (0, 7), (8, None), (0, 5),
+         (40, 3))
+
+# What is refused: the contradictions, and bits left after plane 0; and where,
+# by the bits left at the refused bit.
+CLASHES = '12a', '12b', '12c', '12d'
+BEYOND = '13'
+WHERE = {'behind': range(1, 120), 'at': range(120, 129),
+         'before': range(129, 1000)}
+
+# The kinds of these cases.
+EVERY_BUDGET = HAND_OVER + ' every budget'
+FLIPPED = HAND_OVER + ' flipped'
+DAMAGED = {what: '%s %s' % (HAND_OVER, what) for what in (*CLASHES, BEYOND)}
+
+# A whole stream: its array, its bits, and what each of them answers.
+Stream = namedtuple('Stream', 'N L P A bits body answers')
+
+
+def whole_stream(N, L, A):
+    """The stream of an array."""
+    P, bits = encode(N, L, A, NO_BUDGET)
+    return Stream(N, L, P, A, bits, second.pack(bits), asked(N, L, P, bits))
+
+
+def is_long(stream):
+    """Is it one of the LONG streams?"""
+    return (stream.N, stream.L, stream.A) in LONG
+
+
+def minus(A):
+    """An array with all signs minus."""
+    return [-abs(a) for a in A]
+
+
+def stored_streams(seed):
+    """Streams of each N up to 6 that are short to write."""
+    rng = random.Random('%d streams' % seed)
+    return [whole_stream(*one) for one in (
+        *LONG, (2, 1, at_once(rng, 2, 24)), (2, 1, at_once(rng, 2, 8)),
+        (2, 1, minus(random_array(rng, 2, 24, 'lengths'))),
+        (3, 1, at_once(rng, 3, 3)), (3, 2, in_runs(rng, 3, 4)),
+        (3, 1, random_array(rng, 3, 24, 'sparse')),
+        (4, 3, random_array(rng, 4, 24, 'single')), (4, 1, in_runs(rng, 4, 2)),
+        (4, 2, at_once(rng, 4, 1)), (4, 2, scattered(rng, 4, 4)),
+        (5, 3, random_array(rng, 5, 24, 'single')), (5, 2, in_runs(rng, 5, 2)),
+        (5, 4, scattered(rng, 5, 4)),
+        (6, 4, random_array(rng, 6, 24, 'single')), (6, 3, in_runs(rng, 6, 2)),
+        (6, 5, scattered(rng, 6, 3)))]
+
+
+def large_streams(seed):
+    """Streams of which there are cases at every pass: of every N and L up to
+    N = 6, and some more of a small N."""
+    rng = random.Random('%d large streams' % seed)
+    arrays = [*LONG, (2, 1, at_once(rng, 2, 24)),
+              (2, 1, random_array(rng, 2, 24, 'lengths')),
+              (2, 1, minus(random_array(rng, 2, 24, 'dense'))),
+              (3, 2, at_once(rng, 3, 6)), (4, 2, at_once(rng, 4, 2)),
+              (5, 3, random_array(rng, 5, 2, 'lengths'))]
+    for N, L in shapes(6)[1:]:
+        A = (random_array(rng, N, 3, 'lengths') if N < 5
+             else scattered(rng, N, 3))
+        arrays.append((N, L, minus(A) if L == 2 else A))
+    return [whole_stream(*one) for one in arrays]
+
+
+def wide_streams(seed):
+    """Streams that are long to write, of which there are few cases."""
+    rng = random.Random('%d wide streams' % seed)
+    return [whole_stream(*one) for one in (
+        (5, 2, at_once(rng, 5, 2)), (6, 2, at_once(rng, 6, 2)),
+        (6, 5, random_array(rng, 6, 3, 'lengths')),
+        (8, 4, scattered(rng, 8, 3)), (8, 7, scattered(rng, 8, 3)))]
+
+
+def pass_bits(stream):
+    """(pass, bit) of the first bit of each pass of each plane, one inside it
+    and the last."""
+    first = 0
+    for (_, stage), answers in groupby(stream.answers,
+                                       lambda one: (one.b, one.stage)):
+        last = first + len(list(answers)) - 1
+        for at in sorted({first, (first + last) // 2, last}):
+            yield stage, at
+        first = last + 1
+
+
+def cuts_left(stream, stage, left, beyond=0):
+    """The numbers of bits of which so many are left at such a bit of a pass; at
+    most a few beyond the stream."""
+    return [at + left for of, at in pass_bits(stream)
+            if of == stage and at + left <= len(stream.bits) + beyond]
+
+
+def byte_cuts_left(stream, stage, left):
+    """Those of whole bytes, for any bit of a pass."""
+    return [at + left for at, one in enumerate(stream.answers)
+            if one.stage == stage and (at + left) % 8 == 0
+            and at + left <= len(stream.bits)]
+
+
+def all_cuts_left(stream, beyond=0):
+    """Those of every pass; of the LONG streams every number of bits."""
+    most = len(stream.bits) + beyond
+    if is_long(stream):
+        return list(range(most + 1))
+    return sorted({at + left for (_, at), left
+                   in product(pass_bits(stream), BITS_LEFT)
+                   if at + left <= most})
+
+
+def budget_case(stream, budget, room):
+    """A call that encodes a stream's array, with one of the ROOMS."""
+    N, L, P, A = stream[:4]
+    I, (more, offset) = 4 ** N, room
+    bytes_lent = second.output_bytes(N, L, P, budget) + more
+    one = encode_case(N, L, budget, A, (I // 4, I // 16, I, bytes_lent))
+    return one if offset is None else encode_body_case(one, offset)
+
+
+def declared_case(stream, count, as_file):
+    """A call on so many declared bits of a stream: on its body, which goes on
+    behind them, or on a file."""
+    N, L, P = stream[:3]
+    if as_file:
+        return decode_case(write_file(N, L, P, count, stream.bits[:count]))
+    return decode_body_case(N, L, P, stream.body, count, (4 ** N,) * 3)
+
+
+def present_case(stream, count, as_file):
+    """A call on a stream of which only the bytes of so many bits are there: on
+    its body, or on a file. All its bits are declared, or as many as can be."""
+    N, L, P = stream[:3]
+    body = stream.body[:count // 8]
+    declared = len(stream.bits) if count % 16 else NO_BUDGET
+    if as_file:
+        return decode_case(write_file(N, L, P, declared, []) + body)
+    return decode_body_case(N, L, P, body, declared, (4 ** N,) * 3)
+
+
+def in_turn(rng, streams, turn, cuts):
+    """One of the streams, each in turn, that has such numbers of bits, and one
+    of these."""
+    turn %= len(streams)
+    for stream in streams[turn:] + streams[:turn]:
+        found = cuts(stream)
+        if found:
+            return stream, rng.choice(found)
+    raise SystemExit('hand-over: no stream has so many bits left')
+
+
+def some_left(rng, streams, times):
+    """(kind, case) of so many cases of each call for each pass and number of
+    bits left."""
+    asked_for = product(range(times), PASSES, BITS_LEFT)
+    for turn, (_, stage, left) in enumerate(asked_for):
+        room = ROOMS[turn % len(ROOMS)]
+        stream, count = in_turn(rng, streams, turn,
+                                lambda one: cuts_left(one, stage, left, 2))
+        yield HAND_OVER, budget_case(stream, count, room)
+        stream, count = in_turn(rng, streams, turn,
+                                lambda one: cuts_left(one, stage, left))
+        yield HAND_OVER, declared_case(stream, count, turn % 4 == 1)
+        stream, count = in_turn(rng, streams, turn,
+                                lambda one: byte_cuts_left(one, stage, left))
+        yield HAND_OVER, present_case(stream, count, turn % 2)
+
+
+def clashes_of(N, L, P, bits):
+    """(what, bit) of each bit of a stream's set passes that may not be 0."""
+    for n, one in enumerate(asked(N, L, P, bits)):
+        if one.bit and one.stage == 'set' and one.what != 'sign':
+            wrong = Decoder(N, L, P, bits[:n] + [0])
+            if wrong.run():
+                yield '12' + clash_kind(wrong), n
+
+
+def clashing_stream(rng, N, L):
+    """P and the whole stream of an array that is short to write, with a bit
+    that may not be 0 for each contradiction but the first."""
+    wanted = set(CLASHES[1:] if L > 1 else CLASHES[1:2])
+    while True:
+        P = rng.randint(2, 5)
+        _, bits = encode(N, L, scattered(rng, N, P), NO_BUDGET)
+        found = {}
+        for what, n in clashes_of(N, L, P, bits):
+            found.setdefault(what, []).append(n)
+        if set(found) == wanted:
+            return P, bits, {what: rng.choice(found[what]) for what
+                             in sorted(found)}
+
+
+def refused_case(rng, N, L, P, bits, left):
+    """A call on a body whose bits go on at random behind these. So many of the
+    usable ones come from the last of these on, which is refused. The body ends
+    with them where they fill bytes, and goes on behind them elsewhere."""
+    count = len(bits) - 1 + left
+    bits = bits + random_bits(rng, left + 9, 0.5)
+    body, declared = second.pack(bits[:count + 9]), count
+    if count % 8 == 0:
+        body, declared = second.pack(bits[:count]), NO_BUDGET
+    return decode_body_case(N, L, P, body, declared, (4 ** N,) * 3)
+
+
+def refusals_left(rng, sizes, lefts):
+    """(kind, case) of bodies of these sizes that are refused, each kind of
+    refusal with so many bits left as lefts gives for each of its turns."""
+    turns = Counter()
+
+    def each(what, N, L, P, bits):
+        """Cases of bits of which the last is refused."""
+        for left in lefts(turns[what]):
+            yield DAMAGED[what], refused_case(rng, N, L, P, bits, left)
+        turns[what] += 1
+
+    for N, L in sizes:
+        D = 4 ** (N - L)
+        # every coefficient and every set of plane P-1 is 0
+        yield from each('12a', N, L, rng.randint(1, 24),
+                        [0] * (D + 3 * D // 4))
+        P, bits, chosen = clashing_stream(rng, N, L)
+        for what, n in chosen.items():
+            yield from each(what, N, L, P, bits[:n] + [0])
+        yield from each(BEYOND, N, L, P, bits + [rng.randrange(2)])
+    yield from each(BEYOND, 2, 1, 0, [1])
+
+
+def flipped(stream, one_in):
+    """(kind, case) of a whole stream with one of its last 141 bits flipped, for
+    one in so many of them and for each that is the first to be refused at its
+    bit."""
+    N, L, P = stream[:3]
+    seen = set()
+    for back in range(141):
+        bits = list(stream.bits)
+        bits[-1 - back] ^= 1
+        one = decode_body_case(N, L, P, second.pack(bits), len(bits),
+                               (4 ** N,) * 3)
+        refused = one.answer[0] and tuple(one.answer)
+        if back % one_in == 0 or refused and refused not in seen:
+            yield FLIPPED, one
+        seen.add(refused)
+
+
+def hand_over_cases(seed, streams):
+    """(kind, case) of the stored cases."""
+    rng = random.Random('%d hand-over' % seed)
+    for stream in filter(is_long, streams):
+        for budget in range(len(stream.bits) + 3):
+            # of the second of them one in 4 has more room
+            room = ROOMS[5 if stream.N > 2 and budget % 4 == 0 else 0]
+            yield EVERY_BUDGET, budget_case(stream, budget, room)
+    for N in range(2, 7):
+        own = [stream for stream in streams if stream.N == N]
+        yield from some_left(rng, own, 2 if N == 3 else 1)
+        for n, left in enumerate(BITS_LEFT):
+            stream = own[n % len(own)]
+            yield HAND_OVER, budget_case(stream, len(stream.bits) + left,
+                                         ROOMS[n])
+    yield from refusals_left(rng, shapes(6), lambda turn: (
+        (1, 2, 63, 64, 65, 100, 119)[turn % 7], 120 + turn % 9,
+        129 + turn % 12, rng.randint(150, 400)))
+    for stream in filter(is_long, streams):
+        yield from flipped(stream, 20)
+
+
+def large_hand_over(seed, streams, wide):
+    """(kind, case) of those that are not stored: at every pass of some streams,
+    and a few of wide ones; with every number of bits left at a bit that is
+    refused, and with every bit flipped."""
+    rng = random.Random('%d large hand-over' % seed)
+    for stream in streams:
+        for n, count in enumerate(all_cuts_left(stream, 2)):
+            yield HAND_OVER, budget_case(stream, count, ROOMS[n % len(ROOMS)])
+            if count <= len(stream.bits):
+                cut = declared_case if count % 8 else present_case
+                yield HAND_OVER, cut(stream, count, n % 3 == 0)
+    for N in (5, 6, 8):
+        yield from some_left(rng, [one for one in wide if one.N == N], 1)
+    yield from refusals_left(rng, ((2, 1), (3, 2), (4, 2)),
+                             lambda turn: range(1, 141))
+    for stream in streams:
+        if is_long(stream) or stream.N == 4 and stream.L == 3:
+            yield from flipped(stream, 1)
+
+
+# What is told apart among these cases, in rows of some columns each. What ends
+# the bits: a budget, the declared bits or the bytes that are there; the bits
+# that are left at a bit of a pass, and of a budget also behind the last bit.
+ENDED_BY = 'budget', 'declared', 'bytes'
+BEHIND_ALL = 'budget, behind the last bit'
+LEFT_ROWS = {'%s, %s pass' % (end, stage): BITS_LEFT
+             for end, stage in product(ENDED_BY, PASSES)}
+# The calls that encode, with an offset of the second, and the bytes that the
+# output has more than are written.
+ROOM_ROWS = {'output of %s' % letter: ('exact', 'longer') for letter in 'EB'}
+ARRAY_ROWS = {what: ('encoded', 'decoded') for what in (
+    'few coefficients', 'all found in the first plane', 'all signs minus',
+    '24 planes', 'at most 8 planes')}
+REFUSED_ROWS = {'refused by ' + what: tuple(WHERE) for what in DAMAGED}
+FLIPPED_ROW = 'one bit flipped'
+ROWS = {**LEFT_ROWS, BEHIND_ALL: BITS_LEFT, **ROOM_ROWS, **ARRAY_ROWS,
+        **REFUSED_ROWS, FLIPPED_ROW: ('taken', 'refused')}
+
+
+def bits_of_case(one):
+    """What ends the bits of a case, and the number of bits."""
+    if one.letter in 'EB':
+        return ENDED_BY[0], one.numbers[-1]
+    declared, body = lent_body(one)[3:]
+    return (ENDED_BY[1 + (declared > 8 * len(body))],
+            second.usable_bits(body, declared))
+
+
+def stream_for(one, streams):
+    """The number of the stream that a case encodes or begins to decode, or None
+    where it is none of these."""
+    if one.letter in 'EB':
+        wanted = *one.numbers[:2], one.ints
+        found = (n for n, stream in enumerate(streams)
+                 if (stream.N, stream.L, stream.A) == wanted)
+    else:
+        N, L, P, declared, body = lent_body(one)
+        bits = second.unpack(body)[:declared]
+        found = (n for n, stream in enumerate(streams)
+                 if stream[:3] == (N, L, P)
+                 and stream.bits[:len(bits)] == bits)
+    return next(found, None)
+
+
+def taken_kinds(one, stream):
+    """(row, column) of a case that comes from a stream."""
+    end, count = bits_of_case(one)
+    for left in BITS_LEFT:
+        at = count - left
+        if at == len(stream.bits):
+            yield BEHIND_ALL, left
+        elif 0 <= at < len(stream.bits):
+            yield '%s, %s pass' % (end, stream.answers[at].stage), left
+    encodes = one.letter in 'EB'
+    if one.letter == 'E' or one.letter == 'B' and one.numbers[2]:
+        longer = one.lent[TABLES.index('bytes')] > len(one.bytes)
+        yield 'output of ' + one.letter, 'longer' if longer else 'exact'
+    sizes = list(map(abs, stream.A))
+    for what, holds in zip(ARRAY_ROWS, (
+            2 * sizes.count(0) >= len(sizes), min(sizes) >> stream.P - 1,
+            max(stream.A) <= 0, stream.P == second.PLANE_LIMIT,
+            stream.P <= 8)):
+        if holds:
+            yield what, 'encoded' if encodes else 'decoded'
+
+
+def refused_kinds(one):
+    """(row, column) of a body that is refused, by the second coder's own
+    contradiction and by the bits left at the refused bit."""
+    N, L, P, declared, body = lent_body(one)
+    number, _, place = one.answer[:3]
+    what = str(number)
+    if number == 12:
+        decoder = Decoder(N, L, P, second.unpack(body)[:place + 1])
+        decoder.run()
+        what += clash_kind(decoder)
+    left = second.usable_bits(body, declared) - place
+    for where, bits in WHERE.items():
+        if left in bits:
+            yield 'refused by ' + what, where
+
+
+def hand_over_counts(cases, streams):
+    """The number of (kind, case) cases of each row, column and N."""
+    counts = Counter()
+    for kind, one in cases:
+        if not kind.startswith(HAND_OVER):
+            continue
+        N = one.numbers[0] if one.numbers else one.file[5]
+        if kind == FLIPPED:
+            told = [(FLIPPED_ROW, 'refused' if one.answer[0] else 'taken')]
+        elif one.answer[0]:
+            told = refused_kinds(one)
+        else:
+            told = taken_kinds(one, streams[stream_for(one, streams)])
+        counts.update((*pair, N) for pair in told)
+    return counts
+
+
+def check_rows(counts, rows, sides):
+    """Every column of these rows has to be there, for every N."""
+    for row, N in product(rows, sides):
+        # N = 2 has no GRAND
+        if N == 2 and row[-3:] in CLASHES[2:]:
+            continue
+        for column in ROWS[row]:
+            if not counts[row, column, N]:
+                raise SystemExit('hand-over: no case of N %d: %s: %s'
+                                 % (N, row, column))
+
+
+def check_cuts(cases, streams, calls):
+    """Every number of bits that all_cuts_left gives for a stream has to be
+    there, in a case of one of these letters; calls has such letters, and how
+    many bits they may have beyond the stream."""
+    seen = set()
+    for kind, one in cases:
+        if kind in (HAND_OVER, EVERY_BUDGET):
+            seen.add((one.letter, stream_for(one, streams),
+                      bits_of_case(one)[1]))
+    for (letters, beyond), (n, stream) in product(calls, enumerate(streams)):
+        for count in all_cuts_left(stream, beyond):
+            if not any((letter, n, count) in seen for letter in letters):
+                raise SystemExit('hand-over: N %d L %d: no case of %s with %d '
+                                 'bits' % (*stream[:2], letters, count))
+
+
+def stored_hand_over(cases, streams):
+    """The counts of the stored cases, in which nothing may be missing: every
+    row for N up to 6, flipped bits of the LONG streams, and every budget of
+    these."""
+    counts = hand_over_counts(cases, streams)
+    check_rows(counts, [row for row in ROWS if row != FLIPPED_ROW], range(2, 7))
+    check_rows(counts, [FLIPPED_ROW], (N for N, _, _ in LONG))
+    check_cuts(cases, list(filter(is_long, streams)), [('E', 2)])
+    return counts
+
+
+def unstored_hand_over(cases, streams, wide):
+    """The counts of the cases that are not stored, in which nothing may be
+    missing: all that is asked for of every stream, encoded and decoded by both
+    rules, and what is asked for of the wide ones."""
+    counts = hand_over_counts(cases, streams + wide)
+    check_rows(counts, LEFT_ROWS, (2, 3, 4, 5, 6, 8))
+    check_rows(counts, [*REFUSED_ROWS, FLIPPED_ROW], range(2, 5))
+    check_cuts(cases, streams, [('EB', 2), ('cd', 0), ('CD', 0)])
+    return counts
+
+
+def print_hand_over(counts):
+    """How many cases there are of each row, for each N, column by column."""
+    for row, columns in ROWS.items():
+        each = {N: [counts[row, column, N] for column in columns]
+                for N in range(2, second.N_LIMIT + 1)}
+        print('hand-over %s (%s): %s' % (
+            row, ' '.join(map(str, columns)), ', '.join(
+                'N %d: %s' % (N, ' '.join(map(str, numbers)))
+                for N, numbers in each.items() if any(numbers))))
+
+
 # Rules for a value.
 
 # Kinds with many or long cases: of those by the midpoint with the same values
 # by the default rule, one in so many is a case by this rule too. Of all others
 # each is.
 MANY = ('whole', 'cut', 'short', 'absent', 'header', 'padding', 'surplus',
-        'dense')
+        'dense', *DAMAGED.values(), FLIPPED)
 ONE_IN = 4
 
 # What is told apart among the cases by the default rule: where its values are
@@ -2256,6 +2724,7 @@ def write(directory, seed):
         if lent is None and number % (5 if len(data) < 250 else 40) == 0:
             write_show(number, kind, data)
     endings = grouped(ending_cases(seed))
+    streams = stored_streams(seed)
     more = list(show_cases(seed))
     more += [(kind, one.file) for kind, one in endings
              if one.letter == 'd' and one.file[5] <= second.SHOW_N]
@@ -2265,7 +2734,8 @@ def write(directory, seed):
     for more in (worst_cases(), place_cases(seed), order_cases(seed),
                  number_cases(seed), small_cases(), stored_cases(seed),
                  every_bit_cases(), step_cases(seed),
-                 grouped(transform_cases(seed)), endings):
+                 grouped(transform_cases(seed)), endings,
+                 grouped(hand_over_cases(seed, streams))):
         cases += more
     cases += default_cases(cases)
     print_cuts(cases)
@@ -2273,6 +2743,7 @@ def write(directory, seed):
     print_ends(stored_ends(stored))
     shown_ends(stored, shown)
     check_refusals(stored)
+    print_hand_over(stored_hand_over(cases, streams))
     good = remarked(cases, True)
     wrong = remarked(damaged_cases(cases), True)
     wrong += remarked(damaged_wide(STORED_N, WORK_N), True)
@@ -2286,8 +2757,12 @@ def write(directory, seed):
     N = second.N_LIMIT
     counts, rules = Counter(), Counter()
     large = counted(with_default(large_cases(seed), rules), counts)
+    streams, wide = large_streams(seed), wide_streams(seed)
+    over = grouped(with_default(large_hand_over(seed, streams, wide),
+                                Counter()))
     print(write_cases('large', remarked(large, False)
-                      + remarked(wide_transforms(seed), True),
+                      + remarked(wide_transforms(seed), True)
+                      + remarked(over, False),
                       remarked(damaged_wide(N, N), False), []), end='')
     largest = [(N, L) for L in range(1, N)]
     check_kinds(counts, ((FILES, WORDS, largest),))
@@ -2295,4 +2770,5 @@ def write(directory, seed):
         ('D', (DIFFERENT, FOUND[0], UNKNOWN), largest),
         ('C', (DIFFERENT, UNKNOWN), [(N, L) for L in WIDE_BODIES])))
     print_rules(rules)
+    print_hand_over(unstored_hand_over(over, streams, wide))
     print('files %d' % (len(os.listdir(files)) // 2))

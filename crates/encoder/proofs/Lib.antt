@@ -3,3 +3,7 @@ pub mod WriteTurns
 pub mod Sent
 pub mod EncodeLaws
 pub mod Decided
+pub mod SinkLaws
+pub mod SiblingLaws
+pub mod SiblingSteps
+pub mod SiblingTurns

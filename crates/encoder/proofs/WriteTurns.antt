@@ -1,16 +1,16 @@
 -- The turns of the encoder's loops, from what a visit ensures.
-use Prim.Native.Nat.{ℕ, _+_, _*_, _≤_, _<_}
-use mathlib.Core.Path.{_≡_, sym}
+use Prim.Native.Nat.{ℕ, _+_, _-_, _≤_, _<_}
+use mathlib.Core.Path.{_≡_, refl, sym}
 use mathlib.Core.List.{List}
 use native.Mathlib.Omega.{arith}
 use lib.IntN.{ℤ}
 use lib.ListN.{length}
-use Rattle.walk.specs.Scans.{Seen, halt, refuse, move, Scan, Ran, out}
+use Rattle.walk.specs.Scans.{Seen, halt, refuse, move, Scan, Ran, Leads, Resumes, leftAt, passAt}
 use Rattle.walk.specs.Visits.{Sv, visitSeen, scanOf}
-use Rattle.encoder.specs.Writing.{Bytes, bytes, writer, st, leftBy, stepOf, Falls, Clean, Does}
+use Rattle.encoder.specs.Writing.{Bytes, bytes, writer, st, leftBy, stepOf, Falls, Clean, Does, Holds}
 use Rattle.encoder.specs.declared.Step.{Step}
 use Rattle.encoder.specs.declared.Step.the-variants.{Stop, Go}
-use Rattle.walk.proofs.Turns.{At, at-go, at-stop}
+use Rattle.walk.proofs.Turns.{at-go, resume-go, resume-next, resume-stop}
 
 seen-go : (place : ℕ) (S : Seen (Sv Bytes)) (r : Step) (k p : ℕ) (m o : List ℕ) → r ≡ stepOf place S → m ≡ leftBy S .marks → o ≡ leftBy S .rest .out → Clean S → r ≡ Go k p → S ≡ move p (st m o k)
 seen-go place (halt t) r k p m o e em eo z g = let z : _≡_ {A = ℕ} 0 1 = cc in absurd (omega arith)
@@ -36,16 +36,38 @@ pub record Fit (m₀ o₀ m o : List ℕ) (budget n : ℕ) : Type 0 where
 pub falls-go : (budget place n : ℕ) (r : Step) (k p : ℕ) → Falls budget place n r → r ≡ Go k p → (place ≤ p) × (n ≤ k) × (k ≤ budget) × (place + n < p + k)
 falls-go budget place n r k p f e = rw e at f
 
-module _ (A : List ℤ) (d g : List ℕ) (all budget b pass place : ℕ) (m₀ o₀ : List ℕ) (n : ℕ) (Y : Ran (Sv Bytes)) (r : Step) (m o : List ℕ) where
+module _ (A : List ℤ) (d g : List ℕ) (all budget b pass place : ℕ) (m₀ o₀ : List ℕ) (n : ℕ) (r : Step) (m o : List ℕ) where
   abbrev E : Scan (Sv Bytes)
   E = scanOf (writer A d g budget) all
 
-  pub turn-go : (k p : ℕ) → At (scanOf (writer A d g budget) all) b pass place (st m₀ o₀ n) Y → Does (visitSeen (writer A d g budget) all b pass place (st m₀ o₀ n)) budget place n r m o
-      → r ≡ Go k p → place < all → At (scanOf (writer A d g budget) all) b pass p (st m o k) Y
-  turn-go k p i s e h =
+  pub turn-go : (k p : ℕ) → Does (visitSeen (writer A d g budget) all b pass place (st m₀ o₀ n)) budget place n r m o → r ≡ Go k p → place < all
+      → Leads (scanOf (writer A d g budget) all) b pass place (st m₀ o₀ n) p (st m o k)
+  turn-go k p s e h Y i =
       let f = falls-go budget place n r k p (s .falls) e in
       at-go E b pass place (st m₀ o₀ n) p (st m o k) Y i (seen-go place _ r k p m o (s .answered) (s .marked) (s .wrote) (s .clean) e) h (f .0) (f .1) (f .2) (f .3)
 
-  pub turn-stop : (k p : ℕ) → At (scanOf (writer A d g budget) all) b pass place (st m₀ o₀ n) Y → Does (visitSeen (writer A d g budget) all b pass place (st m₀ o₀ n)) budget place n r m o
-      → r ≡ Stop k p → place < all → Y ≡ out (pass * all + place) (st m o k)
-  turn-stop k p i s e h = at-stop E b pass place (st m₀ o₀ n) (st m o k) Y i (seen-stop place _ r k p m o (s .answered) (s .marked) (s .wrote) (s .clean) e) h
+  pub turn-stop : (k p : ℕ) → Does (visitSeen (writer A d g budget) all b pass place (st m₀ o₀ n)) budget place n r m o → r ≡ Stop k p
+      → visitSeen (writer A d g budget) all b pass place (st m₀ o₀ n) ≡ halt (st m o k)
+  turn-stop k p s e = seen-stop place _ r k p m o (s .answered) (s .marked) (s .wrote) (s .clean) e
+
+-- a scan that goes on from a place, with so many passes not finished, and goes on from another with the same end
+abbrev pub Carries : Scan (Sv Bytes) → ℕ → ℕ → Sv Bytes → ℕ → ℕ → Sv Bytes → Type 0
+Carries E k₀ p₀ t₀ k p t = (X : Ran (Sv Bytes)) (L : ℕ) → Resumes E (leftAt k₀) (passAt k₀) p₀ t₀ X L → Resumes E (leftAt k) (passAt k) p t X L
+
+module _ (E : Scan (Sv Bytes)) (k₀ p₀ : ℕ) (t₀ : Sv Bytes) (k p : ℕ) (t : Sv Bytes) (c : Carries E k₀ p₀ t₀ k p t) where
+  pub carry-go : 0 < k → (q : ℕ) (u : Sv Bytes) → Leads E (leftAt k - 1) (passAt k) p t q u → Carries E k₀ p₀ t₀ k q u
+  carry-go h q u l X L r = resume-go E (leftAt k) (passAt k) p t X L (c X L r) (omega arith) q u l
+
+  -- the next pass
+  pub carry-next : (k₁ p₁ : ℕ) (t₁ : Sv Bytes) → Carries E k p t k₁ p₁ t₁ → 0 < k₁ → E .all ≤ p₁ → Carries E k₀ p₀ t₀ (k₁ - 1) 0 t₁
+  carry-next k₁ p₁ t₁ f h l X L r = resume-next E k₁ p₁ t₁ X L (f X L (c X L r)) h l
+
+-- the end: no pass is left, or a bit exceeds the budget
+module _ (E : Scan (Sv Bytes)) (k₀ p₀ : ℕ) (t₀ : Sv Bytes) (k p : ℕ) (m o : List ℕ) (n : ℕ) (c : Carries E k₀ p₀ t₀ k p (st m o n)) where
+  pub carry-over : k ≤ 0 → (X : Ran (Sv Bytes)) (L : ℕ) → Resumes E (leftAt k₀) (passAt k₀) p₀ t₀ X L → Holds X n m o
+  carry-over h X L r = rw (c X L r .over (omega arith) .0) (record { count = refl; marked = refl; wrote = refl })
+
+  pub carry-stop : 0 < k → p < E .all → (m₁ o₁ : List ℕ) (n₁ : ℕ) → E .visit (leftAt k - 1) (passAt k) p (st m o n) ≡ halt (st m₁ o₁ n₁)
+      → (X : Ran (Sv Bytes)) (L : ℕ) → Resumes E (leftAt k₀) (passAt k₀) p₀ t₀ X L → Holds X n₁ m₁ o₁
+  carry-stop h l m₁ o₁ n₁ v X L r =
+      rw (resume-stop E (leftAt k) (passAt k) p (st m o n) X L (c X L r) (omega arith) (st m₁ o₁ n₁) v l .0) (record { count = refl; marked = refl; wrote = refl })

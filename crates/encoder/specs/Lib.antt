@@ -1,2 +1,4 @@
 pub mod Writing
 pub mod Body
+pub mod Sinks
+pub mod Siblings

@@ -1,5 +1,7 @@
 // The encoder of a body.
 mod body;
+mod siblings;
+mod sinks;
 mod writing;
 
 pub use body::WriteAnswer;
@@ -10,4 +12,25 @@ pub use body::encode;
 pub enum Step {
     Stop(usize, usize),
     Go(usize, usize),
+}
+
+// Bits on their way out: n of them are held in a number below 2^n, and `at` whole bytes are written.
+pub struct Sink {
+    pub acc: u64,
+    pub n: usize,
+    pub at: usize,
+}
+
+// Where a step over four places leads: whether it goes on there, with what is held.
+pub struct Went {
+    pub on: bool,
+    pub sink: Sink,
+    pub place: usize,
+}
+
+// Where the scan goes on: the bits put, the passes not finished, and the place.
+pub struct Reached {
+    pub n: usize,
+    pub turn: u32,
+    pub place: usize,
 }

@@ -5,14 +5,14 @@ ghost use mathlib.Core.Bool.{false};
 ghost use mathlib.Core.List.{[]};
 ghost use Prim.Native.Nat.{ℕ, _+_, _*_, _/_, _<_, _≤_};
 ghost use lib.ListN.{length, getD};
-ghost use Rattle.sizes.specs.Sizes.{mostN, allOf};
+ghost use Rattle.sizes.specs.Sizes.{mostN, mostPlanes, allOf};
 ghost use Rattle.bits.specs.Bits.{bit, withBit};
 ghost use Rattle.coef.specs.Coef.{at, magAt, negative};
 ghost use Rattle.nls.specs.Scan.{pixels, inDesc, inGrand};
-ghost use Rattle.walk.specs.Scans.{planes};
+ghost use Rattle.walk.specs.Scans.{Ran, planes, Resumes, leftAt, passAt};
 ghost use Rattle.marking.specs.Marking.{descSplitMarks, grandSplitMarks};
-ghost use Rattle.walk.specs.Visits.{oneSeen, testSeen, pixelsSeen, setsSeen, refiningSeen, visitSeen, scanOf};
-ghost use Rattle.encoder.specs.Writing.{writer, plain, st, bytes, Does, Room, Summed, Holds};
+ghost use Rattle.walk.specs.Visits.{Sv, oneSeen, testSeen, pixelsSeen, setsSeen, refiningSeen, visitSeen, scanOf};
+ghost use Rattle.encoder.specs.Writing.{Bytes, writer, plain, st, bytes, Does, Room, Summed, Holds};
 
 // Bit b of the magnitude at a place.
 fn bit_at(coefs: &[i32], b: u32, place: usize) -> bool
@@ -239,6 +239,57 @@ fn visit(
     refine(coefs, marks, out, all, budget, n, b, place)
 }
 
+// The scan from a place on, with `turn0` passes not finished, left where the next bit exceeds the budget. It answers the number of bits put.
+fn go_on(
+    coefs: &[i32],
+    desc: &[u32],
+    grand: &[u32],
+    marks: &mut [u8],
+    out: &mut [u8],
+    all: usize,
+    budget: usize,
+    turn0: u32,
+    place0: usize,
+    n0: usize,
+) -> usize
+    requires { ⌜ (length (now marks) ≡ all) × (all ≤ allOf mostN) × (all ≤ length (now coefs)) × (budget ≤ 8 * length (now out)) × Summed (now desc) (now grand) all × (turn0 ≤ 3 * mostPlanes) × (n0 ≤ budget) ⌝ }
+    ensures { λ r. ⌜ ((X : Ran (Sv Bytes)) (L : ℕ) → Resumes (scanOf (writer (now (coefs .entry)) (now (desc .entry)) (now (grand .entry)) budget) all) (leftAt turn0) (passAt turn0) place0 (st (now (marks .entry)) (now (out .entry)) n0) X L → Holds X r (now (marks .exit)) (now (out .exit))) ⌝ }
+{
+    let mut n = n0;
+    let mut turn = turn0;
+    let mut place = place0;
+    'scan: while 0 < turn {
+        let left = (turn + 2) / 3;
+        while place < all {
+            match visit(
+                coefs,
+                desc,
+                grand,
+                marks,
+                out,
+                all,
+                budget,
+                n,
+                left - 1,
+                3 * left - turn,
+                place,
+            ) {
+                Step::Stop(k, _) => {
+                    n = k;
+                    break 'scan;
+                }
+                Step::Go(k, p) => {
+                    place = p;
+                    n = k;
+                }
+            }
+        }
+        place = 0;
+        turn -= 1;
+    }
+    n
+}
+
 // The scan of `count` planes, left where the next bit exceeds the budget. It answers the number of bits put.
 pub(crate) fn scan(
     coefs: &[i32],
@@ -250,40 +301,23 @@ pub(crate) fn scan(
     budget: usize,
     count: u32,
 ) -> usize
-    requires { ⌜ (length (now marks) ≡ all) × (all ≤ allOf mostN) × (all ≤ length (now coefs)) × (budget ≤ 8 * length (now out)) × Summed (now desc) (now grand) all ⌝ }
+    requires { ⌜ (length (now marks) ≡ all) × (4 ≤ all) × (all ≤ allOf mostN) × (all ≤ length (now coefs)) × (budget ≤ 8 * length (now out)) × Summed (now desc) (now grand) all × (count ≤ mostPlanes) ⌝ }
     ensures { λ r. ⌜ Holds (planes (scanOf (writer (now (coefs .entry)) (now (desc .entry)) (now (grand .entry)) budget) all) count (st (now (marks .entry)) (now (out .entry)) 0)) r (now (marks .exit)) (now (out .exit)) ⌝ }
 {
-    let mut n = 0;
-    let mut left = count;
-    'scan: while 0 < left {
-        left -= 1;
-        for pass in 0..3 {
-            let mut place = 0;
-            while place < all {
-                match visit(
-                    coefs,
-                    desc,
-                    grand,
-                    marks,
-                    out,
-                    all,
-                    budget,
-                    n,
-                    left,
-                    pass,
-                    place,
-                ) {
-                    Step::Stop(k, _) => {
-                        n = k;
-                        break 'scan;
-                    }
-                    Step::Go(k, p) => {
-                        place = p;
-                        n = k;
-                    }
-                }
-            }
-        }
+    if budget < 64 {
+        return go_on(coefs, desc, grand, marks, out, all, budget, 3 * count, 0, 0);
     }
-    n
+    let r = crate::siblings::scan(coefs, desc, grand, marks, out, all, budget, count);
+    go_on(
+        coefs,
+        desc,
+        grand,
+        marks,
+        out,
+        all,
+        budget,
+        r.turn,
+        r.place,
+        r.n,
+    )
 }

@@ -1,12 +1,12 @@
 -- Laws of the marks' functions: fills, skips, pushes, the roots, and which tables are changed.
-use Prim.Native.Nat.{ℕ, zero, suc, _+_, _-_, _*_, _/_, _%_, _^_, _≤_, _<_}
+use Prim.Native.Nat.{ℕ, zero, suc, _+_, _-_, _*_, _/_, _%_, _≤_, _<_}
 use mathlib.Core.Path.{_≡_, refl, sym, ap, _∙_}
 use mathlib.Core.Bool.{Bool, true, false, cond, _&&_}
 use mathlib.Core.List.{List, [], _∷_, _++_, append-nil}
 use native.Mathlib.Omega.{arith}
 use native.Mathlib.Nat.{not-suc-le-zero, le-of-suc-le-suc, pow-le-pow-right}
 use native.Mathlib.Numerals.{add-one}
-use borrow.Author.Tests.{lt-ltb, le-ltb, ltb-true, ltb-false, le-leb, lt-leb, leb-true, leb-false, eq-eqb, ne-eqb, eqb-true}
+use borrow.Author.Tests.{lt-ltb, le-ltb, ltb-true, ltb-false, le-leb, lt-leb, leb-true, leb-false, eq-eqb, eqb-true}
 use lib.Dec.{ltb, leb, eqb, lit≤}
 use lib.ListN.{length, replicate, take, drop, getD, set, length-replicate}
 use lib.Seq.{drop-length, length-take-le}
@@ -57,17 +57,6 @@ skip-is k h = rw (lt-ltb k codesEnd h)
 pub set-skip-is : (k : ℕ) → k < codesEnd → setSkipOf k ≡ setSkip k
 unfolding setSkipOf
 set-skip-is k h = rw (lt-ltb k codesEnd h)
-
--- a code that is in none of the table's rows, from MD on one after the other, skips 1
-pub past : {a k : ℕ} → a ≤ k → (k ≡ a → ⊥) → a + 1 ≤ k
-past h n = omega arith
-
-pub skip-else : (k : ℕ) → (5 ≤ k → codesEnd ≤ k) → skipOf k ≡ 1
-skip-else k beyond = go (ltb k 5) refl
-  where
-    go : (t : Bool) → ltb k 5 ≡ t → skipOf k ≡ 1
-    go true e = skip-low k (ltb-true k 5 e)
-    go false e = skip-high k (beyond (ltb-false k 5 e))
 
 -- no skip of a scan is larger than that of the last code
 skip-most : (k : ℕ) → k < codesEnd → skip k ≤ allOf (mostN - 1)

@@ -30,12 +30,16 @@ grandSplitMarks I i m = newDesc I (i + 12) (newDesc I (i + 8) (newDesc I (i + 4)
 abbrev pub descSplitMarks : ℕ → ℕ → List ℕ → List ℕ
 descSplitMarks I i m = splitDesc I i m (ltb (4 * i) I)
 
+-- the four marks from i on become a, b, c, d
+abbrev pub putFour : List ℕ → ℕ → ℕ → ℕ → ℕ → ℕ → List ℕ
+putFour m i a b c d = set (set (set (set m i a) (i + 1) b) (i + 2) c) (i + 3) d
+
 -- the four marks from i on are in the table, and all of them are v; and they become v
 abbrev pub sameFour : List ℕ → ℕ → ℕ → Bool
 sameFour m i v = leb (i + 4) (length m) && (eqb (getD m i 0) v && (eqb (getD m (i + 1) 0) v && (eqb (getD m (i + 2) 0) v && eqb (getD m (i + 3) 0) v)))
 
 abbrev pub setFour : List ℕ → ℕ → ℕ → List ℕ
-setFour m i v = set (set (set (set m i v) (i + 1) v) (i + 2) v) (i + 3) v
+setFour m i v = putFour m i v v v v
 
 -- a table of I marks is no larger than that of the largest N, and i is a place of it
 unfoldable pub inTable : ℕ → ℕ → Bool

@@ -29,26 +29,15 @@ pub const MN2: u8 = 7;
 // Behind the last of them: MNk is k + 5, and k is below N.
 pub const CODES_END: u8 = sizes::MOST_N as u8 + 5;
 
-// How far a mark is skipped in the pixel and the refinement pass.
+// How far a mark is skipped in the pixel and the refinement pass: a power of 4, whose exponent the constant has at digit `mark`.
 pub fn skip(mark: u8) -> usize
     ensures { λ r. ⌜ r ≡ skipOf mark ⌝ }
 {
-    if mark < MD {
+    if 15 < mark {
         return 1;
     }
-    match mark {
-        MD => 4,
-        MG => 16,
-        MN2 => 16,
-        8 => 64,
-        9 => 256,
-        10 => 1024,
-        11 => 4096,
-        12 => 16384,
-        13 => 65536,
-        14 => 262144,
-        _ => 1,
-    }
+    let half = (0x0987654322100000u64 >> (4 * mark as u32)) % 16;
+    1 << (2 * half as u32)
 }
 
 // How far a mark is skipped in the set pass.

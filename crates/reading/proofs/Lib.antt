@@ -1,8 +1,12 @@
 pub mod ReadLaws
 pub mod ValueLaws
+pub mod FourValues
 pub mod ReadTurns
+pub mod Handing
 pub mod ScanLaws
 pub mod Coded
 pub mod Received
 pub mod NextBit
 pub mod Decided
+pub mod SiblingLaws
+pub mod SiblingSteps

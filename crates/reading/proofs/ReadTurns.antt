@@ -5,12 +5,12 @@ use mathlib.Core.List.{List}
 use native.Mathlib.Omega.{arith}
 use lib.IntN.{ℤ}
 use lib.ListN.{length}
-use Rattle.walk.specs.Scans.{Seen, halt, refuse, move, Scan, Ran, out, bad}
+use Rattle.walk.specs.Scans.{Seen, halt, refuse, move, Scan, Leads}
 use Rattle.walk.specs.Visits.{Sv, visitSeen, scanOf}
 use Rattle.reading.specs.Reading.{Read, reader, st, leftBy, turnOf, Falls, Does}
 use Rattle.reading.specs.declared.Turn.{Turn}
 use Rattle.reading.specs.declared.Turn.the-variants.{Stop, Bad, Go}
-use Rattle.walk.proofs.Turns.{At, at-go, at-stop, at-bad}
+use Rattle.walk.proofs.Turns.{at-go}
 
 module _ (r : Turn) (m : List ℕ) (v : List ℤ) (at k : ℕ) where
   seen-go : (S : Seen (Sv Read)) (q : ℕ) → r ≡ turnOf at S → m ≡ leftBy S .marks → v ≡ leftBy S .rest .codes → r ≡ Go k q → S ≡ move q (st m v k)
@@ -53,20 +53,20 @@ stops-here s usable place n r m v k q d e = go s (d .answered)
 pub falls-go : (usable place n : ℕ) (r : Turn) (k q : ℕ) → Falls usable place n r → r ≡ Go k q → (place ≤ q) × (n ≤ k) × (k ≤ usable) × (place + n < q + k)
 falls-go usable place n r k q f e = rw e at f
 
-module _ (body : List ℕ) (usable all D P b pass place : ℕ) (m₀ : List ℕ) (v₀ : List ℤ) (n : ℕ) (Y : Ran (Sv Read)) (r : Turn) (m : List ℕ) (v : List ℤ) where
+module _ (body : List ℕ) (usable all D P b pass place : ℕ) (m₀ : List ℕ) (v₀ : List ℤ) (n : ℕ) (r : Turn) (m : List ℕ) (v : List ℤ) where
   abbrev E : Scan (Sv Read)
   E = scanOf (reader body usable all D P) all
 
   abbrev Visited : Type 0
   Visited = Does (visitSeen (reader body usable all D P) all b pass place (st m₀ v₀ n)) usable place n r m v
 
-  pub turn-go : (k q : ℕ) → At (scanOf (reader body usable all D P) all) b pass place (st m₀ v₀ n) Y → Visited → r ≡ Go k q → place < all → At (scanOf (reader body usable all D P) all) b pass q (st m v k) Y
-  turn-go k q i s e h =
+  pub turn-go : (k q : ℕ) → Visited → r ≡ Go k q → place < all → Leads (scanOf (reader body usable all D P) all) b pass place (st m₀ v₀ n) q (st m v k)
+  turn-go k q s e h Y i =
       let f = falls-go usable place n r k q (s .falls) e in
       at-go E b pass place (st m₀ v₀ n) q (st m v k) Y i (seen-go r m v place k _ q (s .answered) (s .marked) (s .valued) e) h (f .0) (f .1) (f .2) (f .3)
 
-  pub turn-stop : (k q : ℕ) → At (scanOf (reader body usable all D P) all) b pass place (st m₀ v₀ n) Y → Visited → r ≡ Stop k q → place < all → Y ≡ out (pass * all + place) (st m v k)
-  turn-stop k q i s e h = at-stop E b pass place (st m₀ v₀ n) (st m v k) Y i (seen-stop r m v place k _ q (s .answered) (s .marked) (s .valued) e) h
+  pub turn-stop : (k q : ℕ) → Visited → r ≡ Stop k q → visitSeen (reader body usable all D P) all b pass place (st m₀ v₀ n) ≡ halt (st m v k)
+  turn-stop k q s e = seen-stop r m v place k _ q (s .answered) (s .marked) (s .valued) e
 
-  pub turn-bad : (k q : ℕ) → At (scanOf (reader body usable all D P) all) b pass place (st m₀ v₀ n) Y → Visited → r ≡ Bad k q → place < all → Y ≡ bad (st m v k)
-  turn-bad k q i s e h = at-bad E b pass place (st m₀ v₀ n) (st m v k) Y i (seen-bad r m v place k _ q (s .answered) (s .marked) (s .valued) e) h
+  pub turn-bad : (k q : ℕ) → Visited → r ≡ Bad k q → visitSeen (reader body usable all D P) all b pass place (st m₀ v₀ n) ≡ refuse (st m v k)
+  turn-bad k q s e = seen-bad r m v place k _ q (s .answered) (s .marked) (s .valued) e

@@ -1,19 +1,22 @@
 // The decoder's scan: visits, passes, planes.
 // While it runs a known value is kept as a code: twice its magnitude, and 1 more where it is below 0.
+mod siblings;
+mod values;
+
 use bits::Next;
 ghost use mathlib.Core.Path.{_≡_};
 ghost use mathlib.Core.Bool.{_&&_, false};
 ghost use mathlib.Core.List.{List};
-ghost use Prim.Native.Nat.{_*_, _/_, _<_, _≤_};
+ghost use Prim.Native.Nat.{ℕ, _*_, _/_, _<_, _≤_};
 ghost use lib.IntN.{ℤ};
 ghost use lib.ListN.{length, getD, set};
 ghost use Rattle.sizes.specs.Sizes.{mostN, mostPlanes, allOf};
 ghost use Rattle.coef.specs.Coef.{at};
 ghost use Rattle.nls.specs.Scan.{pixels, inDesc, inGrand};
-ghost use Rattle.walk.specs.Scans.{planes, leftOf};
+ghost use Rattle.walk.specs.Scans.{Ran, planes, leftOf, Resumes, leftAt, passAt};
 ghost use Rattle.marking.specs.Marking.{descSplitMarks, grandSplitMarks};
-ghost use Rattle.walk.specs.Visits.{oneSeen, testSeen, pixelsSeen, setsSeen, refiningSeen, visitSeen, scanOf};
-ghost use Rattle.reading.specs.Reading.{newCode, moreCode, is, childClash, grandClash, lastClash, rootClash, descClash, barsAt, barsFit, barsZero, reader, read, st, Does, Room, Sizes, Holds, scanFits, Scanned};
+ghost use Rattle.walk.specs.Visits.{Sv, oneSeen, testSeen, pixelsSeen, setsSeen, refiningSeen, visitSeen, scanOf};
+ghost use Rattle.reading.specs.Reading.{newCode, moreCode, is, childClash, grandClash, lastClash, rootClash, descClash, barsAt, barsFit, barsZero, Read, reader, read, st, Does, Room, Sizes, Holds, scanFits, Scanned};
 
 // What a visit of the decoder leaves to do: nothing, for want of a bit or because the next one fits no array, or to go on.
 // In each the number of bits used comes first, and then the place: where it stopped, or where to go on.
@@ -21,6 +24,20 @@ pub enum Turn {
     Stop(usize, usize),
     Bad(usize, usize),
     Go(usize, usize),
+}
+
+// Where a step over four places leads: whether it goes on there, and the bits used.
+pub struct Went {
+    pub on: bool,
+    pub n: usize,
+    pub place: usize,
+}
+
+// Where the scan goes on: the bits used, the passes not finished, and the place.
+pub struct Handed {
+    pub n: usize,
+    pub turn: u32,
+    pub place: usize,
 }
 
 // Where the decoder's scan ended: the bits used, the planes not finished, where it stopped in its plane (pass times I, and the place), and
@@ -78,7 +95,7 @@ fn child_clash(marks: &[u8], all: usize, place: usize) -> bool
 }
 
 // Whether the 0 of a GRAND fits no array.
-fn grand_clash(marks: &[u8], all: usize, place: usize) -> bool
+pub(crate) fn grand_clash(marks: &[u8], all: usize, place: usize) -> bool
     requires { ⌜ (place < all) × (length (now marks) ≡ all) × (16 ≤ all) ⌝ }
     ensures { λ r. ⌜ r ≡ grandClash place (now (marks .entry)) ⌝ }
 {
@@ -116,7 +133,7 @@ fn root_clash(coarsest: usize, top: u32, n: usize, b: u32, place: usize) -> bool
 }
 
 // Whether the 0 of a DESC fits no array.
-fn desc_clash(
+pub(crate) fn desc_clash(
     marks: &[u8],
     all: usize,
     coarsest: usize,
@@ -416,6 +433,74 @@ fn visit(
     refine(body, marks, values, all, usable, n, b, place)
 }
 
+// The scan from a place on, with `turn0` passes not finished, left where no usable bit is left or the next one fits no array.
+fn go_on(
+    body: &[u8],
+    marks: &mut [u8],
+    values: &mut [i32],
+    all: usize,
+    coarsest: usize,
+    top: u32,
+    usable: usize,
+    turn0: u32,
+    place0: usize,
+    n0: usize,
+) -> Reached
+    requires { ⌜ (length (now marks) ≡ all) × (length (now values) ≡ all) × (usable ≤ 8 * length (now body)) × Sizes all coarsest top × (turn0 ≤ 3 * mostPlanes) × (n0 ≤ usable) ⌝ }
+    ensures { λ r. ⌜ ((X : Ran (Sv Read)) (L : ℕ) → Resumes (scanOf (reader (now (body .entry)) usable all coarsest top) all) (leftAt turn0) (passAt turn0) place0 (st (now (marks .entry)) (now (values .entry)) n0) X L → Holds X L (r .bits) (r .left) (r .stop) (r .bad) (now (marks .exit)) (now (values .exit))) ⌝ }
+{
+    let mut n = n0;
+    let mut turn = turn0;
+    let mut place = place0;
+    let mut left = 0;
+    let mut stop = 0;
+    let mut bad = false;
+    'scan: while 0 < turn {
+        let planes = (turn + 2) / 3;
+        let pass = 3 * planes - turn;
+        while place < all {
+            match visit(
+                body,
+                marks,
+                values,
+                all,
+                coarsest,
+                top,
+                usable,
+                n,
+                planes - 1,
+                pass,
+                place,
+            ) {
+                Turn::Stop(k, p) => {
+                    n = k;
+                    left = planes;
+                    stop = pass as usize * all + p;
+                    break 'scan;
+                }
+                Turn::Bad(k, _) => {
+                    n = k;
+                    left = planes;
+                    bad = true;
+                    break 'scan;
+                }
+                Turn::Go(k, p) => {
+                    place = p;
+                    n = k;
+                }
+            }
+        }
+        place = 0;
+        turn -= 1;
+    }
+    Reached {
+        bits: n,
+        left,
+        stop,
+        bad,
+    }
+}
+
 // The scan of `top` planes, left where no usable bit is left or the next one fits no array.
 fn run(
     body: &[u8],
@@ -429,53 +514,33 @@ fn run(
     requires { ⌜ (length (now marks) ≡ all) × (length (now values) ≡ all) × (usable ≤ 8 * length (now body)) × Sizes all coarsest top ⌝ }
     ensures { λ r. ⌜ Holds (planes (scanOf (reader (now (body .entry)) usable all coarsest top) all) top (st (now (marks .entry)) (now (values .entry)) 0)) (leftOf (scanOf (reader (now (body .entry)) usable all coarsest top) all) top (st (now (marks .entry)) (now (values .entry)) 0)) (r .bits) (r .left) (r .stop) (r .bad) (now (marks .exit)) (now (values .exit)) ⌝ }
 {
-    let mut n = 0;
-    let mut left = top;
-    let mut bad = false;
-    let mut stop = 0;
-    'scan: while 0 < left {
-        let b = left - 1;
-        for pass in 0..3 {
-            let mut place = 0;
-            while place < all {
-                match visit(
-                    body,
-                    marks,
-                    values,
-                    all,
-                    coarsest,
-                    top,
-                    usable,
-                    n,
-                    b,
-                    pass,
-                    place,
-                ) {
-                    Turn::Stop(k, p) => {
-                        n = k;
-                        stop = pass as usize * all + p;
-                        break 'scan;
-                    }
-                    Turn::Bad(k, _) => {
-                        n = k;
-                        bad = true;
-                        break 'scan;
-                    }
-                    Turn::Go(k, p) => {
-                        place = p;
-                        n = k;
-                    }
-                }
-            }
-        }
-        left = b;
+    if usable < 128 {
+        return go_on(
+            body,
+            marks,
+            values,
+            all,
+            coarsest,
+            top,
+            usable,
+            3 * top,
+            0,
+            0,
+        );
     }
-    Reached {
-        bits: n,
-        left,
-        stop,
-        bad,
-    }
+    let r = siblings::scan(body, marks, values, all, coarsest, top, usable);
+    go_on(
+        body,
+        marks,
+        values,
+        all,
+        coarsest,
+        top,
+        usable,
+        r.turn,
+        r.place,
+        r.n,
+    )
 }
 
 // Whether tables of `all` marks and `values` values and a scan of such sizes fit one another.

@@ -3,3 +3,4 @@ pub mod Good
 pub mod Whole
 pub mod VisitLaws
 pub mod Led
+pub mod Fours

@@ -1,15 +1,11 @@
 -- The turns of the scan's three loops, over any state and any visit.
-use Prim.Native.Nat.{ℕ, zero, suc, _+_, _*_, _-_, _≤_, _<_}
-use mathlib.Core.Path.{_≡_, refl, sym, ap, _∙_}
+use Prim.Native.Nat.{ℕ, zero, suc, _+_, _*_, _-_, _/_, _≤_, _<_}
+use mathlib.Core.Path.{_≡_, refl, sym, ap, _∙_, subst}
+use mathlib.Core.Logic.{_⊎_, inl, inr}
 use native.Mathlib.Omega.{arith}
 use borrow.Author.Tests.{lt-ltb, le-ltb}
-use Rattle.walk.specs.Scans.{halt, refuse, move, Ran, out, bad, on, Scan, places, passes, planes, leftOf}
-
--- the places from one on end as Y, with visits enough
-pub record At {S : Type 0} (E : Scan S) (b pass place : ℕ) (t : S) (Y : Ran S) : Type 0 where
-  pub fuel : ℕ
-  pub enough : (E .all - place) + (E .budget - E .used t) ≤ fuel
-  pub same : places E b pass fuel place t ≡ Y
+use Rattle.nls.proofs.Counting.Sums.{order}
+use Rattle.walk.specs.Scans.{halt, refuse, move, Ran, out, bad, on, Scan, then, places, passes, planes, unfinished, leftOf, At, Leads, ofPlane, Within, Resumes, leftAt, passAt}
 
 module _ {S : Type 0} (E : Scan S) (b pass : ℕ) where
   places-end : (f place : ℕ) (t : S) → E .all ≤ place → places E b pass f place t ≡ on t
@@ -60,63 +56,94 @@ module _ {S : Type 0} (E : Scan S) (b pass : ℕ) where
   pub at-start : (t : S) → At E b pass 0 t (places E b pass (E .all + E .budget) 0 t)
   at-start t = record { fuel = E .all + E .budget; enough = omega arith; same = refl }
 
-module _ {S : Type 0} (E : Scan S) (b : ℕ) where
-  pub pass-go : (pass : ℕ) (t u : S) (X : Ran S) → passes E b (3 - pass) pass t ≡ X → places E b pass (E .all + E .budget) 0 t ≡ on u → pass < 3
-      → passes E b (3 - (pass + 1)) (pass + 1) u ≡ X
-  unfolding passes
-  pass-go pass t u X e v h = let s : 3 - pass ≡ suc (3 - (pass + 1)) = omega arith in rw (s, v) at e
-
-  pub pass-stop : (pass now : ℕ) (t u : S) (X : Ran S) → passes E b (3 - pass) pass t ≡ X → places E b pass (E .all + E .budget) 0 t ≡ out now u → pass < 3 → X ≡ out now u
-  unfolding passes
-  pass-stop pass now t u X e v h = let s : 3 - pass ≡ suc (3 - (pass + 1)) = omega arith in sym (rw (s, v) at e)
-
-  pub pass-bad : (pass : ℕ) (t u : S) (X : Ran S) → passes E b (3 - pass) pass t ≡ X → places E b pass (E .all + E .budget) 0 t ≡ bad u → pass < 3 → X ≡ bad u
-  unfolding passes
-  pass-bad pass t u X e v h = let s : 3 - pass ≡ suc (3 - (pass + 1)) = omega arith in sym (rw (s, v) at e)
-
-  pub pass-end : (pass : ℕ) (t : S) (X : Ran S) → passes E b (3 - pass) pass t ≡ X → 3 ≤ pass → X ≡ on t
-  unfolding passes
-  pass-end pass t X e h = let s : 3 - pass ≡ 0 = omega arith in sym (rw s at e)
-
+-- what a scan that resumes at a place does there
 module _ {S : Type 0} (E : Scan S) where
-  pub plane-go : (b : ℕ) (t u : S) (X : Ran S) → planes E b t ≡ X → passes E (b - 1) 3 0 t ≡ on u → 0 < b → planes E (b - 1) u ≡ X
-  unfolding planes
-  plane-go b t u X e v h = let s : b ≡ suc (b - 1) = omega arith in rw (s, v) at e
+  start-within : (b : ℕ) (t : S) → Within E b 0 0 t (planes E (suc b) t) (leftOf E (suc b) t)
+  unfolding planes leftOf passes
+  start-within b t = record { ends = places E b 0 (E .all + E .budget) 0 t; here = at-start E b 0 t; runs = refl; lefts = refl }
 
-  pub plane-stop : (b now : ℕ) (t u : S) (X : Ran S) → planes E b t ≡ X → passes E (b - 1) 3 0 t ≡ out now u → 0 < b → X ≡ out now u
-  unfolding planes
-  plane-stop b now t u X e v h = let s : b ≡ suc (b - 1) = omega arith in sym (rw (s, v) at e)
+  pub resume-start : (left : ℕ) (t : S) → Resumes E left 0 0 t (planes E left t) (leftOf E left t)
+  unfolding planes leftOf
+  resume-start zero t = record { over = λ e. (refl, refl); within = λ h. absurd (omega (arith, h)) }
+  resume-start (suc b) t =
+      let e : suc b - 1 ≡ b = omega arith in
+      record { over = λ z. absurd (omega (arith, z)); within = λ h. subst (λ (k : ℕ). Within E k 0 0 t (planes E (suc b) t) (leftOf E (suc b) t)) (sym e) (start-within b t) }
 
-  pub plane-bad : (b : ℕ) (t u : S) (X : Ran S) → planes E b t ≡ X → passes E (b - 1) 3 0 t ≡ bad u → 0 < b → X ≡ bad u
-  unfolding planes
-  plane-bad b t u X e v h = let s : b ≡ suc (b - 1) = omega arith in sym (rw (s, v) at e)
+  module _ (left pass place : ℕ) (t : S) (X : Ran S) (L : ℕ) (r : Resumes E left pass place t X L) where
+    pub resume-over : left ≡ 0 → (X ≡ on t) × (L ≡ 0)
+    resume-over e = r .over e
 
-  pub plane-end : (b : ℕ) (t : S) (X : Ran S) → planes E b t ≡ X → b ≤ 0 → X ≡ on t
-  unfolding planes
-  plane-end zero t X e h = sym e
-  plane-end (suc b) t X e h = absurd (omega arith)
+    module _ (h : 0 < left) where
+      w : Within E (left - 1) pass place t X L
+      w = r .within h
 
+      pub resume-go : (q : ℕ) (u : S) → Leads E (left - 1) pass place t q u → Resumes E left pass q u X L
+      resume-go q u l =
+          record { over = λ e. absurd (omega (arith, e, h)); within = λ _. record { ends = w .ends; here = l (w .ends) (w .here); runs = w .runs; lefts = w .lefts } }
+
+      pub resume-stop : (u : S) → E .visit (left - 1) pass place t ≡ halt u → place < E .all → (X ≡ out (pass * E .all + place) u) × (L ≡ left)
+      resume-stop u v k = stop (w .ends) (at-stop E (left - 1) pass place t u (w .ends) (w .here) v k) (w .runs) (w .lefts)
+        where
+          stop : (Y : Ran S) → Y ≡ out (pass * E .all + place) u → then (ofPlane E (left - 1) pass Y) (λ s. planes E (left - 1) s) ≡ X → unfinished (left - 1) (λ s. leftOf E (left - 1) s) (ofPlane E (left - 1) pass Y) ≡ L
+              → (X ≡ out (pass * E .all + place) u) × (L ≡ left)
+          stop Y e x l = (sym (rw e at x), omega (arith, h, rw e at l))
+
+      pub resume-bad : (u : S) → E .visit (left - 1) pass place t ≡ refuse u → place < E .all → (X ≡ bad u) × (L ≡ left)
+      resume-bad u v k = stop (w .ends) (at-bad E (left - 1) pass place t u (w .ends) (w .here) v k) (w .runs) (w .lefts)
+        where
+          stop : (Y : Ran S) → Y ≡ bad u → then (ofPlane E (left - 1) pass Y) (λ s. planes E (left - 1) s) ≡ X → unfinished (left - 1) (λ s. leftOf E (left - 1) s) (ofPlane E (left - 1) pass Y) ≡ L
+              → (X ≡ bad u) × (L ≡ left)
+          stop Y e x l = (sym (rw e at x), omega (arith, h, rw e at l))
+
+      -- the pass is at its end: the next one begins, and after the last one the next plane
+      module _ (k : E .all ≤ place) where
+        done : w .ends ≡ on t
+        done = at-end E (left - 1) pass place t (w .ends) (w .here) k
+
+        next-pass : pass < 2 → Within E (left - 1) (pass + 1) 0 t X L
+        unfolding passes
+        next-pass p =
+            let s : 2 - pass ≡ suc (2 - (pass + 1)) = omega arith in
+            let x = w .runs in
+            let l = w .lefts in
+            record { ends = places E (left - 1) (pass + 1) (E .all + E .budget) 0 t; here = at-start E (left - 1) (pass + 1) t; runs = rw (done, s) at x; lefts = rw (done, s) at l }
+
+        pub resume-pass : pass < 2 → Resumes E left (pass + 1) 0 t X L
+        resume-pass p = record { over = λ e. absurd (omega (arith, e, h)); within = λ _. next-pass p }
+
+        last-runs : 2 ≤ pass → planes E (left - 1) t ≡ X
+        unfolding passes
+        last-runs p = let s : 2 - pass ≡ 0 = omega arith in let x = w .runs in rw (done, s) at x
+
+        last-lefts : 2 ≤ pass → leftOf E (left - 1) t ≡ L
+        unfolding passes
+        last-lefts p = let s : 2 - pass ≡ 0 = omega arith in let l = w .lefts in rw (done, s) at l
+
+        pub resume-plane : 2 ≤ pass → Resumes E (left - 1) 0 0 t X L
+        resume-plane p =
+            let r₁ = resume-start (left - 1) t in
+            subst (λ (Z : Ran S). Resumes E (left - 1) 0 0 t Z L) (last-runs p) (subst (λ (l : ℕ). Resumes E (left - 1) 0 0 t (planes E (left - 1) t) l) (last-lefts p) r₁)
+
+-- the next pass, by the passes that are not finished
 module _ {S : Type 0} (E : Scan S) where
-  pub left-go : (b : ℕ) (t u : S) (X : ℕ) → leftOf E b t ≡ X → passes E (b - 1) 3 0 t ≡ on u → 0 < b → leftOf E (b - 1) u ≡ X
-  unfolding leftOf
-  left-go zero t u X e v h = absurd (omega arith)
-  left-go (suc b) t u X e v h =
-      let s : suc b - 1 ≡ b = omega arith in
-      let w : passes E b 3 0 t ≡ on u = sym (ap (λ (k : ℕ). passes E k 3 0 t) s) ∙ v in
-      let z : leftOf E (suc b) t ≡ leftOf E b u = rw (w, leftOf) in
-      ap (λ (k : ℕ). leftOf E k u) s ∙ sym z ∙ e
+  pub resume-all : (planes₀ : ℕ) (t : S) → Resumes E (leftAt (3 * planes₀)) (passAt (3 * planes₀)) 0 t (planes E planes₀ t) (leftOf E planes₀ t)
+  resume-all k t =
+      let e : leftAt (3 * k) ≡ k = omega arith in
+      let f : passAt (3 * k) ≡ 0 = omega arith in
+      rw (f, e) (resume-start E k t)
 
-  pub left-stop : (b now : ℕ) (t u : S) (X : ℕ) → leftOf E b t ≡ X → passes E (b - 1) 3 0 t ≡ out now u → 0 < b → X ≡ b
-  unfolding leftOf
-  left-stop zero now t u X e v h = absurd (omega arith)
-  left-stop (suc b) now t u X e v h = let s : suc b - 1 ≡ b = omega arith in let w : passes E b 3 0 t ≡ out now u = sym (ap (λ (k : ℕ). passes E k 3 0 t) s) ∙ v in sym e ∙ rw (w, leftOf)
+  pub resume-next : (k place : ℕ) (t : S) (X : Ran S) (L : ℕ) → Resumes E (leftAt k) (passAt k) place t X L → 0 < k → E .all ≤ place → Resumes E (leftAt (k - 1)) (passAt (k - 1)) 0 t X L
+  resume-next k place t X L r h a = on (order (passAt k) 1)
+    where
+      positive : 0 < leftAt k
+      positive = omega arith
 
-  pub left-bad : (b : ℕ) (t u : S) (X : ℕ) → leftOf E b t ≡ X → passes E (b - 1) 3 0 t ≡ bad u → 0 < b → X ≡ b
-  unfolding leftOf
-  left-bad zero t u X e v h = absurd (omega arith)
-  left-bad (suc b) t u X e v h = let s : suc b - 1 ≡ b = omega arith in let w : passes E b 3 0 t ≡ bad u = sym (ap (λ (k : ℕ). passes E k 3 0 t) s) ∙ v in sym e ∙ rw (w, leftOf)
-
-  pub left-end : (b : ℕ) (t : S) (X : ℕ) → leftOf E b t ≡ X → b ≤ 0 → X ≡ 0
-  unfolding leftOf
-  left-end zero t X e h = sym e
-  left-end (suc b) t X e h = absurd (omega arith)
+      on : (passAt k ≤ 1) ⊎ (1 < passAt k) → Resumes E (leftAt (k - 1)) (passAt (k - 1)) 0 t X L
+      on (inl p) =
+          let e : leftAt (k - 1) ≡ leftAt k = omega arith in
+          let f : passAt (k - 1) ≡ passAt k + 1 = omega arith in
+          subst (λ (l : ℕ). Resumes E l (passAt (k - 1)) 0 t X L) (sym e) (subst (λ (q : ℕ). Resumes E (leftAt k) q 0 t X L) (sym f) (resume-pass E (leftAt k) (passAt k) place t X L r positive a (omega arith)))
+      on (inr p) =
+          let e : leftAt (k - 1) ≡ leftAt k - 1 = omega arith in
+          let f : passAt (k - 1) ≡ 0 = omega arith in
+          subst (λ (l : ℕ). Resumes E l (passAt (k - 1)) 0 t X L) (sym e) (subst (λ (q : ℕ). Resumes E (leftAt k - 1) q 0 t X L) (sym f) (resume-plane E (leftAt k) (passAt k) place t X L r positive a (omega arith)))

@@ -8,7 +8,7 @@ use borrow.Author.Tests.{le-ltb, ltb-true, ltb-false, ne-eqb}
 use Rattle.sizes.specs.Sizes.{leastN, mostN}
 use Rattle.nls.specs.Scan.{Pass, pixels, sets, refining, State}
 use Rattle.nls.specs.Turns.{standing}
-use Rattle.walk.specs.Scans.{Seen, halt, refuse, move, Scan, Ran, out, bad, on, then, follow, places, passes, planes, leftOf}
+use Rattle.walk.specs.Scans.{Seen, halt, refuse, move, Scan, Ran, out, bad, on, then, follow, places, passes, planes, unfinished, leftOf}
 use Rattle.walk.specs.Visits.{Source, Sv, visitSeen, scanOf}
 use Rattle.walk.proofs.Good.{Keeps, Stopped, Barred, Stands, Good, pixels-good, sets-good, refining-good}
 
@@ -124,7 +124,7 @@ module _ {O : Type 0} (K : Source O) (N : ℕ) (P : State → O → Type 0) (w :
   scan-good (suc b) v h = go (passes E b 3 0 v) (passes-good b v h) (λ u. scan-good b u)
     where
       go : (r : Ran (Sv O)) → PassesGood K N P b r → ((u : Sv O) → Here K N P b pixels 0 u → Ended K N P (leftOf E b u) (planes E b u))
-          → Ended K N P (elim r as (λ _. ℕ) [ out now u ↦ suc b | bad u ↦ suc b | on u ↦ leftOf E b u ]) (then r (λ u. planes E b u))
+          → Ended K N P (unfinished b (λ u. leftOf E b u) r) (then r (λ u. planes E b u))
       go (out now u) g ih = g
       go (bad u) g ih = g
       go (on u) g ih = ih u g

@@ -1,2 +1,3 @@
 pub mod Scans
 pub mod Visits
+pub mod Fours

@@ -1,5 +1,6 @@
 -- Words of the inner contracts, which no promise to a caller uses: a scan over any state, by planes, passes and places.
-use Prim.Native.Nat.{ℕ, zero, suc, _+_, _*_}
+use Prim.Native.Nat.{ℕ, zero, suc, _+_, _*_, _-_, _/_, _≤_, _<_}
+use mathlib.Core.Path.{_≡_}
 use mathlib.Core.Bool.{Bool, true, false}
 use lib.Dec.{ltb}
 
@@ -64,7 +65,45 @@ unfoldable pub planes : {S : Type 0} → Scan S → ℕ → S → Ran S
 planes E zero t = on t
 planes E (suc b) t = then (passes E b 3 0 t) (λ u. planes E b u)
 
--- how many planes are not finished where the scan ends
+-- how many planes are not finished where the scan ends: b + 1 where a pass of plane b was ended, else what `rest` says
+abbrev pub unfinished : {S : Type 0} → ℕ → (S → ℕ) → Ran S → ℕ
+unfinished b rest (out now t) = suc b
+unfinished b rest (bad t) = suc b
+unfinished b rest (on t) = rest t
+
 unfoldable pub leftOf : {S : Type 0} → Scan S → ℕ → S → ℕ
 leftOf E zero t = 0
-leftOf E (suc b) t = elim (passes E b 3 0 t) [ out now u ↦ suc b | bad u ↦ suc b | on u ↦ leftOf E b u ]
+leftOf E (suc b) t = unfinished b (λ u. leftOf E b u) (passes E b 3 0 t)
+
+-- the places from one on end as Y, with visits enough
+pub record At {S : Type 0} (E : Scan S) (b pass place : ℕ) (t : S) (Y : Ran S) : Type 0 where
+  pub fuel : ℕ
+  pub enough : (E .all - place) + (E .budget - E .used t) ≤ fuel
+  pub same : places E b pass fuel place t ≡ Y
+
+-- a pass gets from place p and state t to place q and state u: whatever it ends as from the first, it ends as from the second
+abbrev pub Leads : {S : Type 0} → Scan S → ℕ → ℕ → ℕ → S → ℕ → S → Type 0
+Leads {S} E b pass p t q u = (Y : Ran S) → At E b pass p t Y → At E b pass q u Y
+
+-- what is left of a plane where a pass of it ends as Y
+abbrev pub ofPlane : {S : Type 0} → Scan S → ℕ → ℕ → Ran S → Ran S
+ofPlane E b pass Y = then Y (λ u. passes E b (2 - pass) (pass + 1) u)
+
+-- from a place of plane b on the scan ends as X, with L planes not finished
+pub record Within {S : Type 0} (E : Scan S) (b pass place : ℕ) (t : S) (X : Ran S) (L : ℕ) : Type 0 where
+  pub ends : Ran S
+  pub here : At E b pass place t ends
+  pub runs : then (ofPlane E b pass ends) (λ u. planes E b u) ≡ X
+  pub lefts : unfinished b (λ u. leftOf E b u) (ofPlane E b pass ends) ≡ L
+
+-- the same where `left` planes are not finished, be it none
+pub record Resumes {S : Type 0} (E : Scan S) (left pass place : ℕ) (t : S) (X : Ran S) (L : ℕ) : Type 0 where
+  pub over : left ≡ 0 → (X ≡ on t) × (L ≡ 0)
+  pub within : 0 < left → Within E (left - 1) pass place t X L
+
+-- the passes that are not finished, counted down, three for each plane: how many planes these are, and which pass of the first it is
+abbrev pub leftAt : ℕ → ℕ
+leftAt k = (k + 2) / 3
+
+abbrev pub passAt : ℕ → ℕ
+passAt k = 3 * leftAt k - k

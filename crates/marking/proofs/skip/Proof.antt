@@ -1,57 +1,62 @@
-use mathlib.Core.Path.{sym}
+-- The power for each of 16 marks is tested here over the whole table, once, by computation, for the digits that the code has.
+use mathlib.Core.Path.{_≡_, refl, sym, ap, _∙_}
+use mathlib.Core.List.{List}
+use Prim.Native.Nat.{ℕ, _*_, _/_, _%_, _^_, _<_}
+use native.Mathlib.Omega.{arith}
+use borrow.Author.Needs.{needs}
+use lib.ListN.{getD}
+use Rattle.sizes.specs.Tables.{table}
+use Rattle.sizes.proofs.Tables.{table-at}
 use Rattle.nls.specs.Marks.{skip}
 use Rattle.marking.specs.Marking.{skipOf}
-use Rattle.marking.proofs.Laws.{skip-low, past, skip-else}
+use Rattle.marking.proofs.Laws.{skip-high}
 use Rattle.marking.proofs.skip.Statement.{statement}
 use Rattle.marking.proofs.skip.Tie as tie
-use Rattle.marking.proofs.skip.Reads as reads
-use Rattle.marking.proofs.skip.Lts as lts
+
+abbrev power : ℕ → ℕ → ℕ
+power digits k = 1 * 2 ^ (2 * (digits / 2 ^ (4 * k) % 16)) % 18446744073709551616
+
+power-is : (digits k : ℕ) → k < 16 → table 16 (power digits) ≡ table 16 skipOf → power digits k ≡ skipOf k
+power-is digits k h e = sym (table-at 16 (power digits) k 0 h) ∙ ap (λ (l : List ℕ). getD l k 0) e ∙ table-at 16 skipOf k 0 h
 
 returns : tie.Need-returns
-returns c = sym (skip-low _ (c .if1 .taken))
+returns c = sym (skip-high (c .before .args .mark) (omega (arith, c .if1 .taken)))
+
+mul-half : tie.Need-mul-half
+mul-half c = search needs
+
+cast-half : tie.Need-cast-half
+cast-half c = search needs
+
+shr-half : tie.Need-shr-half
+shr-half c = search needs
+
+cast-result : tie.Need-cast-result
+cast-result c = search needs
+
+mul-result : tie.Need-mul-result
+mul-result c = search needs
+
+cast-result-2 : tie.Need-cast-result-2
+cast-result-2 c = search needs
+
+shl-result : tie.Need-shl-result
+shl-result c = search needs
 
 returns-2 : tie.Need-returns-2
-unfolding skipOf skip
-returns-2 c = rw (c .match .keys1)
-
-returns-3 : tie.Need-returns-3
-unfolding skipOf skip
-returns-3 c = rw (c .match .keys2)
-
-returns-4 : tie.Need-returns-4
-unfolding skipOf skip
-returns-4 c = rw (c .match .keys3)
-
-returns-5 : tie.Need-returns-5
-unfolding skipOf skip
-returns-5 c = rw (c .match .keys4)
-
-returns-6 : tie.Need-returns-6
-unfolding skipOf skip
-returns-6 c = rw (c .match .keys5)
-
-returns-7 : tie.Need-returns-7
-unfolding skipOf skip
-returns-7 c = rw (c .match .keys6)
-
-returns-8 : tie.Need-returns-8
-unfolding skipOf skip
-returns-8 c = rw (c .match .keys7)
-
-returns-9 : tie.Need-returns-9
-unfolding skipOf skip
-returns-9 c = rw (c .match .keys8)
-
-returns-10 : tie.Need-returns-10
-unfolding skipOf skip
-returns-10 c = rw (c .match .keys9)
-
-returns-11 : tie.Need-returns-11
-unfolding skipOf skip
-returns-11 c = rw (c .match .keys10)
-
-returns-12 : tie.Need-returns-12
-returns-12 c = let n = c .match .rest in sym (skip-else _ (λ h. past (past (past (past (past (past (past (past (past (past h (n .0 .0 .0 .0 .0 .0 .0 .0 .0 .1)) (n .0 .0 .0 .0 .0 .0 .0 .0 .1)) (n .0 .0 .0 .0 .0 .0 .0 .1)) (n .0 .0 .0 .0 .0 .0 .1)) (n .0 .0 .0 .0 .0 .1)) (n .0 .0 .0 .0 .1)) (n .0 .0 .0 .1)) (n .0 .0 .1)) (n .0 .1)) (n .1)))
+unfolding table skipOf skip
+returns-2 c = power-is _ (c .before .args .mark) (omega (arith, c .if1 .left)) refl
 
 pub skip-spec : {M : Type 1} → statement M
-skip-spec = tie.close (tie.spec returns returns-2 returns-3 returns-4 returns-5 returns-6 returns-7 returns-8 returns-9 returns-10 returns-11 returns-12)
+skip-spec =
+    tie.close
+    (tie.spec
+    returns
+    mul-half
+    cast-half
+    shr-half
+    cast-result
+    mul-result
+    cast-result-2
+    shl-result
+    returns-2)

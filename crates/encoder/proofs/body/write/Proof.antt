@@ -1,10 +1,10 @@
+use Prim.Native.Nat.{ℕ, min}
 use mathlib.Core.Path.{_≡_, refl, sym, ap, _∙_}
 use mathlib.Core.List.{_++_}
-use Prim.Native.Nat.{ℕ, _≤_, min}
 use native.Mathlib.Omega.{arith}
 use borrow.Author.Needs.{needs}
 use lib.ListN.{length, drop}
-use Rattle.sizes.specs.Sizes.{mostPlanes, allOf, coarsestOf}
+use Rattle.sizes.specs.Sizes.{allOf, coarsestOf}
 use Rattle.bits.specs.Bits.{bytesFor, packed}
 use Rattle.coef.specs.Coef.{planesOf}
 use Rattle.tree.specs.Summaries.{descTable, grandTable}
@@ -79,10 +79,12 @@ scan-requires c κs =
     let r = start .pre .0 in
     let s = sizes-near (a .n) (a .l) (c .before .before .before .before .before .before .before .before .before .all-of .result) (c .before .before .before .before .before .before .before .coarsest-of .result) e (coarsest-so (c .before .before .before .before .before .before .before)) (r .side) (r .levels) in (
       c .before .before .before .before .before .before .start .kept .0 ∙ start .pre .1 ∙ sym e,
+      omega (arith, s .1, s .2),
       s .0,
       omega (arith, e, r .whole),
       room-so (a .n) (a .l) (a .coefs .now) (length (a .desc .now)) (length (a .grand .now)) (length (a .out .now)) (a .budget) r _ (cap-so (c .before .before .before .before .before .before .before .before .before .before .before .before .before .before .before .before .before)),
       tables-so (a .n) (a .l) (a .coefs .now) (length (a .desc .now)) (length (a .grand .now)) (length (a .out .now)) (a .budget) r (c .before .before .before .before .before .before .before .before .before .all-of .result) _ _ e (c .before .before .before .before .before .before .before .before .before .before .before .before .before .before .fill .kept .1 .1 .1 .0) (c .before .before .before .before .before .before .before .before .before .before .before .before .before .before .fill .kept .1 .1 .1 .1 .0),
+      omega (arith, start .pre .2, planes-near (a .n) (a .l) (a .coefs .now) (length (a .desc .now)) (length (a .grand .now)) (length (a .out .now)) (a .budget) r),
     )
 
 -- what the scan leaves

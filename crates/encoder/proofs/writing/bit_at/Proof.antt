@@ -8,10 +8,6 @@ use Rattle.coef.specs.Coef.{magnitude}
 use Rattle.coef.proofs.Held.{read-back}
 use Rattle.encoder.proofs.writing.bit_at.Statement.{statement}
 use Rattle.encoder.proofs.writing.bit_at.Tie as tie
-use Rattle.encoder.proofs.writing.bit_at.Reads as reads
-use Rattle.encoder.proofs.writing.bit_at.Lts as lts
-use Rattle.coef.proofs.magnitude.Reads as magnitude-reads
-use Rattle.bits.proofs.bit_of.Reads as bit-of-reads
 
 mul-z : tie.Need-mul-z
 mul-z c = search needs

@@ -4,11 +4,6 @@ use Rattle.encoder.proofs.WriteLaws.{coefficient-none, coefficient-zero
 use borrow.Author.Needs.{needs}
 use Rattle.encoder.proofs.writing.coefficient.Statement.{statement}
 use Rattle.encoder.proofs.writing.coefficient.Tie as tie
-use Rattle.encoder.proofs.writing.coefficient.Reads as reads
-use Rattle.encoder.proofs.writing.coefficient.Lts as lts
-use Rattle.encoder.proofs.writing.put.Reads as put-reads
-use Rattle.encoder.proofs.writing.bit_at.Reads as bit-at-reads
-use Rattle.encoder.proofs.writing.negative_at.Reads as negative-at-reads
 
 returns : tie.Need-returns
 returns c = coefficient-none _ _ _ _ _ _ _ (c .if1 .taken) (omega arith)

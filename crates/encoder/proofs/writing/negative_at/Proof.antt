@@ -6,9 +6,6 @@ use Rattle.coef.specs.Coef.{negative}
 use Rattle.coef.proofs.Held.{read-back}
 use Rattle.encoder.proofs.writing.negative_at.Statement.{statement}
 use Rattle.encoder.proofs.writing.negative_at.Tie as tie
-use Rattle.encoder.proofs.writing.negative_at.Reads as reads
-use Rattle.encoder.proofs.writing.negative_at.Lts as lts
-use Rattle.coef.proofs.is_negative.Reads as is-negative-reads
 
 mul-z : tie.Need-mul-z
 mul-z c = search needs

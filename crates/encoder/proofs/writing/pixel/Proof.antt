@@ -5,40 +5,28 @@ use Rattle.encoder.proofs.WriteLaws.{pixel-own, pixel-skip}
 use borrow.Author.Needs.{needs}
 use Rattle.encoder.proofs.writing.pixel.Statement.{statement}
 use Rattle.encoder.proofs.writing.pixel.Tie as tie
-use Rattle.encoder.proofs.writing.pixel.Reads as reads
-use Rattle.encoder.proofs.writing.pixel.Lts as lts
-use Rattle.marking.proofs.skip.Reads as skip-reads
-use Rattle.encoder.proofs.writing.coefficient.Reads as coefficient-reads
 
--- src/writing.rt:60:16
 slice-read-mark : tie.Need-slice-read-mark
 slice-read-mark c = search needs
 
--- src/writing.rt:62:9
 coefficient-requires : tie.Need-coefficient-requires
 coefficient-requires c κs = search needs
 
--- src/writing.rt:62:9
 same-length : tie.Need-same-length
 same-length c = search needs
 
--- src/writing.rt:62:9
 same-length-2 : tie.Need-same-length-2
 same-length-2 c = search needs
 
--- src/writing.rt:62:9
 returns : tie.Need-returns
 returns c = pixel-own _ _ _ _ _ _ _ _ _ _ (c .before .before .before .before .before .before .before .if1 .taken) (c .before .before .before .before .coefficient .ensures)
 
--- src/writing.rt:64:24
 skip-requires : tie.Need-skip-requires
 skip-requires c κs = search needs
 
--- src/writing.rt:64:16
 add-next : tie.Need-add-next
 add-next c = omega (arith, skip-in (getD (c .before .before .before .before .before .args .marks .now) (c .before .before .before .before .before .args .place) 0), c .skip .ensures)
 
--- src/writing.rt:47:1
 returns-2 : tie.Need-returns-2
 returns-2 c = pixel-skip _ _ _ _ _ _ _ _ (c .before .if1 .left) (c .skip .ensures) (omega arith)
 

@@ -2,9 +2,6 @@ use Rattle.bits.specs.Bits.{withBit}
 use borrow.Author.Needs.{needs}
 use Rattle.encoder.proofs.writing.put.Statement.{statement}
 use Rattle.encoder.proofs.writing.put.Tie as tie
-use Rattle.encoder.proofs.writing.put.Reads as reads
-use Rattle.encoder.proofs.writing.put.Lts as lts
-use Rattle.bits.proofs.with_bit.Reads as with-bit-reads
 
 slice-read-held : tie.Need-slice-read-held
 slice-read-held c = search needs

@@ -5,11 +5,6 @@ use Rattle.encoder.proofs.WriteLaws.{refine-none, refine-own, refine-ne
 use borrow.Author.Needs.{needs}
 use Rattle.encoder.proofs.writing.refine.Statement.{statement}
 use Rattle.encoder.proofs.writing.refine.Tie as tie
-use Rattle.encoder.proofs.writing.refine.Reads as reads
-use Rattle.encoder.proofs.writing.refine.Lts as lts
-use Rattle.marking.proofs.skip.Reads as skip-reads
-use Rattle.encoder.proofs.writing.bit_at.Reads as bit-at-reads
-use Rattle.encoder.proofs.writing.put.Reads as put-reads
 
 slice-read-mark : tie.Need-slice-read-mark
 slice-read-mark c = search needs

@@ -5,74 +5,52 @@ use Rattle.encoder.proofs.WriteLaws.{set-one, set-desc, set-grand, set-
 use borrow.Author.Needs.{needs}
 use Rattle.encoder.proofs.writing.sets.Statement.{statement}
 use Rattle.encoder.proofs.writing.sets.Tie as tie
-use Rattle.encoder.proofs.writing.sets.Reads as reads
-use Rattle.encoder.proofs.writing.sets.Lts as lts
-use Rattle.marking.proofs.set_skip.Reads as set-skip-reads
-use Rattle.encoder.proofs.writing.coefficient.Reads as coefficient-reads
-use Rattle.encoder.proofs.writing.test_desc.Reads as test-desc-reads
-use Rattle.encoder.proofs.writing.test_grand.Reads as test-grand-reads
 
--- src/writing.rt:169:16
 slice-read-mark : tie.Need-slice-read-mark
 slice-read-mark c = search needs
 
--- src/writing.rt:171:9
 coefficient-requires : tie.Need-coefficient-requires
 coefficient-requires c κs = search needs
 
--- src/writing.rt:171:9
 same-length : tie.Need-same-length
 same-length c = search needs
 
--- src/writing.rt:171:9
 same-length-2 : tie.Need-same-length-2
 same-length-2 c = search needs
 
--- src/writing.rt:171:9
 returns : tie.Need-returns
 returns c = set-one _ _ _ _ _ _ _ _ _ _ _ _ _ (c .before .before .before .before .before .before .before .if1 .taken) (c .before .before .before .before .coefficient .ensures)
 
--- src/writing.rt:174:9
 test-desc-requires : tie.Need-test-desc-requires
 test-desc-requires c κs = search needs
 
--- src/writing.rt:174:9
 same-length-3 : tie.Need-same-length-3
 same-length-3 c = search needs
 
--- src/writing.rt:174:9
 same-length-4 : tie.Need-same-length-4
 same-length-4 c = search needs
 
--- src/writing.rt:174:9
 returns-2 : tie.Need-returns-2
 returns-2 c = set-desc _ _ _ _ _ _ _ _ _ _ _ _ _ (c .before .before .before .before .before .before .before .before .if1 .left) (c .before .before .before .before .before .before .before .if2 .taken) (c .before .before .before .before .test-desc .ensures)
 
--- src/writing.rt:177:9
 test-grand-requires : tie.Need-test-grand-requires
 test-grand-requires c κs = search needs
 
--- src/writing.rt:177:9
 same-length-5 : tie.Need-same-length-5
 same-length-5 c = search needs
 
--- src/writing.rt:177:9
 same-length-6 : tie.Need-same-length-6
 same-length-6 c = search needs
 
--- src/writing.rt:177:9
 returns-3 : tie.Need-returns-3
 returns-3 c = set-grand _ _ _ _ _ _ _ (c .before .before .before .before .before .before .before .before .before .before .before .before .before .before .before .args .marks .now) (c .before .before .before .before .before .before .before .before .before .before .before .before .before .before .before .args .out .now) _ _ _ _ (c .before .before .before .before .before .before .before .before .before .if1 .left) (c .before .before .before .before .before .before .before .before .if2 .left) (c .before .before .before .before .before .before .before .if3 .taken) (c .before .before .before .before .test-grand .ensures)
 
--- src/writing.rt:179:24
 set-skip-requires : tie.Need-set-skip-requires
 set-skip-requires c κs = search needs
 
--- src/writing.rt:179:16
 add-next : tie.Need-add-next
 add-next c = omega (arith, set-skip-in (getD (c .before .before .before .before .before .before .before .before .before .args .marks .now) (c .before .before .before .before .before .before .before .before .before .args .place) 0), c .set-skip .ensures)
 
--- src/writing.rt:154:1
 returns-4 : tie.Need-returns-4
 returns-4 c = set-skip _ _ _ _ _ _ _ _ _ _ _ (c .before .before .before .if1 .left) (c .before .before .if2 .left) (c .before .if3 .left) (c .set-skip .ensures) (omega arith)
 

@@ -1,0 +1,10 @@
+// The clock that the times are taken by, in ns.
+#ifndef CLOCK_H
+#define CLOCK_H
+#include <time.h>
+static inline double now(void) {
+    struct timespec t;
+    clock_gettime(CLOCK_MONOTONIC, &t);
+    return (double)t.tv_sec * 1e9 + (double)t.tv_nsec;
+}
+#endif
