@@ -3,6 +3,7 @@ use mathlib.Core.Path.{sym, _∙_}
 use Rattle.refusals.proofs.Decided.{OneAnswer}
 use Rattle.coef.proofs.Laws.{planes-one}
 use Rattle.coef.proofs.first_over.Reads as first-over
+use Rattle.coef.proofs.first_over_by.Reads as first-over-by
 use Rattle.coef.proofs.float_of.Reads as float-of
 use Rattle.coef.proofs.is_negative.Reads as is-negative
 use Rattle.coef.proofs.join_of.Reads as join-of
@@ -24,6 +25,9 @@ join-of-decided k args r r' s s' p q = p ∙ sym q
 
 pub first-over-decided : OneAnswer first-over.Learnt
 first-over-decided k args r r' s s' p q = p ∙ sym q
+
+pub first-over-by-decided : OneAnswer first-over-by.Learnt
+first-over-by-decided k args r r' s s' p q = p ∙ sym q
 
 pub planes-decided : OneAnswer planes.Learnt
 planes-decided k args r r' s s' p q = planes-one p q

@@ -1,12 +1,12 @@
 -- What the machine does with a signed number. A local holds its bits, so that a goal speaks of `toZ w32 (ofZ w32 z)`.
 use mathlib.Core.Path.{_≡_, refl, sym, _∙_, ap, subst}
 use mathlib.Core.Bool.{Bool, true, false, true≢false, false≢true}
-use Prim.Native.Nat.{ℕ, zero, suc, _+_, _<_, _≤_, _^_}
+use Prim.Native.Nat.{ℕ, zero, suc, _+_, _-_, _<_, _≤_, _^_}
 use native.Mathlib.Omega.{arith}
 use borrow.Author.Tests.{ltb-true, ltb-false, le-leb, lt-leb}
 use lib.Dec.{T, leb·suc-zero, le→leb, lt→ltb}
 use lib.Ieee.{binary32, inFloat}
-use lib.IntN.{ℤ, pos, negsuc, sucℤ, negℤ, _+ℤ_, _-ℤ_, +ℤ-idl, +ℤ-one}
+use lib.IntN.{ℤ, pos, negsuc, negℤ, _-ℤ_, +ℤ-idl}
 use lib.Signed.{ltZ, leZ, nonNeg, mag}
 use mir.Facts.{toZ-ofZ, toZ-pos}
 use mir.Syntax.{w32}
@@ -77,36 +77,28 @@ module _ (z : ℤ) (f : SFits w32 z) (h : magnitude z < 2 ^ 31) where
       subst (λ (y : ℤ). T (nonNeg y) × Fits w32 (magnitude y)) (sym negated)
       (neg-nonNeg z n, record { fits = omega (arith, neg-size z) })
 
--- one more than a number below 0
-next-fits : (z : ℤ) → SFits w32 z → negative z ≡ true → SFits w32 (sucℤ z)
-next-fits (pos n) f h = absurd (false≢true h)
-next-fits (negsuc zero) f h = record { sfits = omega arith }
-next-fits (negsuc (suc n)) f h = record { sfits = omega (arith, f .sfits) }
-
-next-size : (z : ℤ) → negative z ≡ true → magnitude (sucℤ z) + 1 ≡ magnitude z
-next-size (pos n) h = absurd (false≢true h)
-next-size (negsuc zero) h = refl
-next-size (negsuc (suc n)) h = omega arith
-
-size-most : (z : ℤ) → SFits w32 z → magnitude z ≤ 2147483648
-size-most (pos n) f = omega (arith, f .sfits)
-size-most (negsuc n) f = omega (arith, f .sfits)
-
+-- a number below 0 with every bit exchanged: one less than its magnitude
 module _ (z : ℤ) (f : SFits w32 z) (n : negative z ≡ true) where
-  raised : toZ w32 (ofZ w32 z) +ℤ pos 1 ≡ sucℤ z
-  raised = ap (λ (y : ℤ). y +ℤ pos 1) (toZ-ofZ f) ∙ +ℤ-one z
+  exchanged : (y : ℤ) → SFits w32 y → negative y ≡ true → toZ w32 (4294967295 - ofZ w32 y) ≡ pos (magnitude y - 1)
+  exchanged (pos a) g h = absurd (false≢true h)
+  exchanged (negsuc a) g h =
+      let e : 4294967295 - (4294967296 - suc a) ≡ a = omega (arith, g .sfits) in
+      let s : suc a - 1 ≡ a = omega arith in
+      ap (λ (k : ℕ). toZ w32 k) e ∙ toZ-pos w32 (omega (arith, g .sfits)) ∙ ap pos (sym s)
 
-  pub raised-fits : SFits w32 (toZ w32 (ofZ w32 z) +ℤ pos 1)
-  raised-fits = subst (λ (y : ℤ). SFits w32 y) (sym raised) (next-fits z f n)
+  size-some : (y : ℤ) → SFits w32 y → negative y ≡ true → (0 < magnitude y) × (magnitude y ≤ 2147483648)
+  size-some (pos a) g h = absurd (false≢true h)
+  size-some (negsuc a) g h = (omega arith, omega (arith, g .sfits))
 
-  held : magnitude (toZ w32 (ofZ w32 (toZ w32 (ofZ w32 z) +ℤ pos 1))) ≡ magnitude (sucℤ z)
-  held = ap magnitude (toZ-ofZ raised-fits ∙ raised)
+  pub exchanged-cast : T (nonNeg (toZ w32 (4294967295 - ofZ w32 z))) × Fits w32 (magnitude (toZ w32 (4294967295 - ofZ w32 z)))
+  exchanged-cast =
+      subst (λ (y : ℤ). T (nonNeg y) × Fits w32 (magnitude y)) (sym (exchanged z f n)) (tt, record { fits = omega (arith, size-some z f n .1) })
 
-  pub raised-size : magnitude (toZ w32 (ofZ w32 (toZ w32 (ofZ w32 z) +ℤ pos 1))) + 1 ≡ magnitude z
-  raised-size = omega (arith, held, next-size z n)
+  pub exchanged-size : magnitude (toZ w32 (4294967295 - ofZ w32 z)) + 1 ≡ magnitude z
+  exchanged-size = let e = ap magnitude (exchanged z f n) in omega (arith, e, size-some z f n .0)
 
-  pub raised-below : magnitude (toZ w32 (ofZ w32 (toZ w32 (ofZ w32 z) +ℤ pos 1))) < 2147483648
-  raised-below = omega (arith, raised-size, size-most z f)
+  pub exchanged-fits : magnitude (toZ w32 (4294967295 - ofZ w32 z)) + 1 < 4294967296
+  exchanged-fits = omega (arith, exchanged-size, size-some z f n .1)
 
 -- what the cast of a number that is not below 0 asks
 pub pos-cast : (z : ℤ) → SFits w32 z → negative z ≡ false

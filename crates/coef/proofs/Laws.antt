@@ -7,19 +7,19 @@ use Prim.Native.Nat.{ℕ, zero, suc, _-_, _/_, _≤_, _<_, _^_}
 use native.Mathlib.Nat.{pow-suc, le-antisymm}
 use native.Mathlib.Decide.{decLt}
 use native.Mathlib.Omega.{arith}
-use borrow.Author.Tests.{leb-true}
+use borrow.Author.Tests.{leb-true, le-leb}
 use lib.Count.{leadingZeros, trailingZeros}
-use lib.Dec.{lit<}
+use lib.Dec.{lit<, leb}
 use lib.Ieee.{fin, binary32, ofInt, round, size, units, odd, span, climb}
 use lib.Ieee.Back.{round-whole}
 use lib.Ieee.Exact.{HasValue}
 use lib.IntN.{ℤ, pos, negsuc}
 use lib.ListN.{length, getD, List·getD-eq-default, List·getD-map}
-use lib.Pow.{pow-pos}
+use lib.Pow.{pow-pos, pow-mono}
 use Rattle.sizes.specs.Sizes.{limit, mostPlanes}
 use Rattle.bits.specs.Bits.{orAll}
 use Rattle.bits.proofs.Laws.{or-below, zeros-below}
-use Rattle.coef.specs.Coef.{negative, magnitude, signed, within, at, magAt, partedOf, joinedOf, firstOver, IsPlanes, largest, digits, planesOf}
+use Rattle.coef.specs.Coef.{negative, magnitude, signed, within, at, magAt, partedOf, joinedOf, firstOver, overBy, IsPlanes, largest, digits, planesOf}
 use Rattle.coef.specs.declared.Signed.{Signed}
 use Rattle.coef.specs.declared.Parted.the-variants as parted
 use Rattle.coef.specs.declared.Joined.the-variants as joined
@@ -121,6 +121,23 @@ module _ {A : List ℤ} {P : ℕ} (p : IsPlanes A P) where
   -- within the limit
   pub planes-most : ((i : ℕ) → within (at A i) ≡ true) → P ≤ mostPlanes
   planes-most h = p .least mostPlanes (λ i. omega (arith, within-le (at A i) (h i)))
+
+-- the first place over the limit, where the planes are known
+pub over-by-le : (p : ℕ) (A : List ℤ) → overBy p A ≤ length A
+unfolding overBy
+over-by-le p A = tell (leb p mostPlanes)
+  where
+    tell : (t : Bool) → cond t (length A) (firstOver A) ≤ length A
+    tell true = omega arith
+    tell false = first-le A
+
+pub over-by : (A : List ℤ) (p : ℕ) → IsPlanes A p → overBy p A ≡ firstOver A
+unfolding overBy
+over-by A p planes = tell (leb p mostPlanes) refl
+  where
+    tell : (t : Bool) → leb p mostPlanes ≡ t → cond t (length A) (firstOver A) ≡ firstOver A
+    tell true e = sym (first-none A (λ i. le-leb (magAt A i) limit (omega (arith, planes .below i, pow-mono {i = p} {j = mostPlanes} (leb-true p mostPlanes e)))))
+    tell false e = refl
 
 -- every magnitude is below m, or some place has one that is not
 below-or-not : (A : List ℤ) (m : ℕ) → 0 < m → ((i : ℕ) → magAt A i < m) ⊎ ((i : ℕ) × (i < length A) × (m ≤ magAt A i))

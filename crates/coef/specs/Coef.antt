@@ -2,7 +2,7 @@
 use Prim.Native.Nat.{ℕ, zero, suc, max, _/_, _≤_, _<_, _^_}
 use mathlib.Core.{Bool.Bool, Bool.true, Bool.false, Bool.cond, List.List, List.[], List._∷_}
 use lib.{Dec.leb, Dec.eqb, ListN.length, ListN.getD, IntN.ℤ, IntN.pos, IntN.negsuc, IntN.natAbs, IntN.negℤ, Ieee.binary32, Ieee.ofInt, Ieee.Exact.HasValue}
-use Rattle.sizes.specs.Sizes.{limit}
+use Rattle.sizes.specs.Sizes.{limit, mostPlanes}
 use Rattle.refusals.specs.{Checks.Check, Checks.need, declared.Refusal.the-variants.Coefficient}
 use Rattle.coef.specs.{declared.Signed.Signed, declared.Parted.Parted, declared.Joined.Joined, declared.Float.Float}
 use Rattle.coef.specs.declared.Parted.the-variants as parted
@@ -44,8 +44,15 @@ unfoldable pub firstOver : List ℤ → ℕ
 firstOver [] = 0
 firstOver (z ∷ rest) = cond (within z) (suc (firstOver rest)) 0
 
+abbrev pub overCheck : ℕ → ℕ → Check
+overCheck over count = need (eqb over count) (Coefficient over)
+
 abbrev pub coefficientCheck : List ℤ → Check
-coefficientCheck A = need (eqb (firstOver A) (length A)) (Coefficient (firstOver A))
+coefficientCheck A = overCheck (firstOver A) (length A)
+
+-- the first coefficient over the limit of an array of p planes: none where p is at most that of the limit
+unfoldable pub overBy : ℕ → List ℤ → ℕ
+overBy p A = cond (leb p mostPlanes) (length A) (firstOver A)
 
 -- "planes P: the least P with every magnitude below 2^P"
 pub record IsPlanes (A : List ℤ) (P : ℕ) : Type 0 where

@@ -8,7 +8,7 @@ ghost use lib.Dec.{eqb};
 ghost use lib.ListN.{length};
 ghost use Rattle.sizes.specs.Sizes.{limit};
 ghost use Rattle.bits.specs.Bits.{orAll};
-ghost use Rattle.coef.specs.Coef.{negative, magnitude, signed, within, partedOf, joinedOf, firstOver, IsPlanes, floatOf, Exactly};
+ghost use Rattle.coef.specs.Coef.{negative, magnitude, signed, within, partedOf, joinedOf, firstOver, overBy, IsPlanes, floatOf, Exactly};
 
 pub struct Signed {
     pub negative: bool,
@@ -53,12 +53,13 @@ fn negated_if_below(x: i32) -> u32
     x as u32
 }
 
-// The magnitude of any number. One is added before the negation and after it, since the least number has no negative in its type.
+// The magnitude of any number. Below 0 it is one more than the number with every bit exchanged: nothing is negated, since the least
+// number has no negative in its type.
 pub fn magnitude(x: i32) -> u32
     ensures { λ r. ⌜ r ≡ magnitude x ⌝ }
 {
     if x < 0 {
-        return negated_if_below(x + 1) + 1;
+        return (!x) as u32 + 1;
     }
     x as u32
 }
@@ -140,6 +141,16 @@ pub fn first_over(a: &[i32]) -> usize
         i += 1;
     }
     i
+}
+
+// The same for an array whose planes are known: where they are at most those of the limit, no coefficient is looked at.
+pub fn first_over_by(a: &[i32], planes: u32) -> usize
+    ensures { λ r. ⌜ r ≡ overBy planes (now (a .entry)) ⌝ }
+{
+    if planes <= sizes::MOST_PLANES {
+        return a.len();
+    }
+    first_over(a)
 }
 
 // The OR of all magnitudes. The walk has no branch, so that several entries are taken at a time.

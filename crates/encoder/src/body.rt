@@ -65,7 +65,7 @@ fn write(
 
 // Writes the body of a linear array of coefficients from `offset` on, at most `budget` bits of it.
 // The tables are filled from whatever they held: I/4, I/16 and I entries.
-// The checks of the summaries come first; then P is found, once, and enters those of the marks and the output.
+// P is found first, once, and enters the checks: those of the summaries, then those of the marks and the output.
 pub fn encode(
     n: u32,
     l: u32,
@@ -79,11 +79,11 @@ pub fn encode(
 ) -> WriteAnswer
     ensures { λ r. ⌜ Writes n l (now (coefs .entry)) offset budget (loan (now (desc .entry)) (now (grand .entry)) (now (marks .entry)) (now (out .entry))) r (loan (now (desc .exit)) (now (grand .exit)) (now (marks .exit)) (now (out .exit))) ⌝ }
 {
-    let first = tree::check(n, l, coefs, desc.len(), grand.len());
+    let planes = coef::planes(coefs);
+    let first = tree::check_by(n, l, coefs, planes, desc.len(), grand.len());
     if let Outcome::Refused(why) = first {
         return WriteAnswer::Refused(why);
     }
-    let planes = coef::planes(coefs);
     let rest = room::check_encode(n, l, planes, marks.len(), out.len(), offset, budget);
     if let Outcome::Refused(why) = rest {
         return WriteAnswer::Refused(why);

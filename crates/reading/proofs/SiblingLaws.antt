@@ -1,6 +1,6 @@
 -- Four coefficients by themselves, as the decoder hears them: codes, marks and the number of bits used after them.
-use Prim.Native.Nat.{ℕ, zero, suc, _+_, _*_, _-_, _/_, _%_, _^_, _≤_, _<_}
-use mathlib.Core.Path.{_≡_, refl, sym, ap, _∙_, subst}
+use Prim.Native.Nat.{ℕ, zero, suc, _+_, _*_, _-_, _/_, _%_, _≤_, _<_}
+use mathlib.Core.Path.{_≡_, refl, sym, ap, _∙_}
 use mathlib.Core.Bool.{Bool, true, false, cond, _&&_, _||_}
 use mathlib.Core.List.{List}
 use native.Mathlib.Omega.{arith}
@@ -12,15 +12,15 @@ use lib.Seq.{set-getD, getD-set-same, getD-set-other}
 use Rattle.bits.specs.Bits.{bit, digit, bitAt}
 use Rattle.bits.proofs.Laws.{bit-shr, bit-mod, bit-high, bit-top}
 use Rattle.coef.specs.Coef.{at}
-use Rattle.nls.specs.Scan.{bitOf, signOf, Pass, pixels, sets, refining}
+use Rattle.nls.specs.Scan.{pixels}
 use Rattle.marking.specs.Marking.{putFour}
-use Rattle.walk.specs.Visits.{Source, got, Sv, sv}
-use Rattle.walk.specs.Fours.{ownMark, ownRest, Own, ofPixel, ofRefining, ofChild, kept1, kept2, kept3, kept4, fourMarks, fourSeen}
+use Rattle.walk.specs.Visits.{Source}
+use Rattle.walk.specs.Fours.{ownMark, ownRest, Own, ofPixel, ofRefining, ofChild, kept1, kept2, kept3, kept4, fourMarks}
 use Rattle.walk.proofs.Fours.{NotBarred}
 use Rattle.fours.specs.Words.{nibbleOf, spreadOf, countOf, whichAre, refinedWord, withWord, wordAt, FourLow}
 use Rattle.fours.specs.Tables.{takes, inByte, inNibble, end1, end2, end3, end4, foundOf, minusOf, placedOf}
 use Rattle.fours.proofs.Laws.{nibble-lt, nibble-0, nibble-1, nibble-2, nibble-3, found-word, child-word, which-are, refined-word, count-nibble}
-use Rattle.reading.specs.Reading.{Read, read, newCode, moreCode, is, childClash, reader, st}
+use Rattle.reading.specs.Reading.{Read, read, newCode, moreCode, is, childClash, reader}
 use Rattle.reading.specs.Siblings.{putCodes, foundAt, foundFour, refinedFour, Fixed, Shows}
 
 -- a code that is put back where it stood
@@ -152,6 +152,12 @@ module _ (k l u w : ℕ → Bool) (e0 : k 0 ≡ l 0) (e1 : k 1 ≡ l 1) (e2 : k 
   pub minus-same : minusOf k u ≡ minusOf l w
   minus-same =
       λ j. nibbleOf (e0 j && (same 0 (omega arith) j && same 1 (omega arith) j)) (e1 j && (at1 j && sign1 j)) (e2 j && (at2 j && sign2 j)) (e3 j && (at3 j && sign3 j))
+
+pub found-small : (k u : ℕ → Bool) → foundOf k u < 16
+found-small k u = nibble-lt (k 0 && u 0) (k 1 && u (end1 k u)) (k 2 && u (end2 k u)) (k 3 && u (end3 k u))
+
+pub minus-small : (k u : ℕ → Bool) → minusOf k u < 16
+minus-small k u = nibble-lt (k 0 && (u 0 && u 1)) (k 1 && (u (end1 k u) && u (end1 k u + 1))) (k 2 && (u (end2 k u) && u (end2 k u + 1))) (k 3 && (u (end3 k u) && u (end3 k u + 1)))
 
 pub end4-le : (k u : ℕ → Bool) → end4 k u ≤ 8
 end4-le k u = omega (arith, takes-le (k 0) (u 0), takes-le (k 1) (u (end1 k u)), takes-le (k 2) (u (end2 k u)), takes-le (k 3) (u (end3 k u)))

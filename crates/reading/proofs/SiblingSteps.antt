@@ -1,5 +1,5 @@
 -- Each way through a step of the decoder over four places, from what the code's calls have done.
-use Prim.Native.Nat.{ℕ, zero, suc, _+_, _*_, _-_, _/_, _%_, _≤_, _<_}
+use Prim.Native.Nat.{ℕ, _+_, _*_, _-_, _/_, _%_, _≤_, _<_}
 use mathlib.Core.Path.{_≡_, refl, sym, ap, _∙_, subst}
 use mathlib.Core.Bool.{Bool, true, false, cond, not, _&&_}
 use mathlib.Core.List.{List}
@@ -7,23 +7,20 @@ use native.Mathlib.Omega.{arith}
 use borrow.Author.Tests.{eqb-false}
 use lib.Dec.{eqb}
 use lib.IntN.{ℤ}
-use lib.ListN.{length, getD, length-set}
-use Rattle.sizes.specs.Sizes.{mostN, allOf}
-use Rattle.bits.specs.Bits.{bit, bitAt, digit}
-use Rattle.nls.specs.Scan.{inDesc, inGrand, sets}
+use lib.ListN.{length, getD}
+use Rattle.bits.specs.Bits.{bit, digit}
 use Rattle.marking.specs.Marking.{skipOf, setSkipOf, inTable, descSplitMarks, grandSplitMarks}
 use Rattle.marking.proofs.Laws.{skip-in, set-skip-in, set-skip-low, split-desc-so, split-grand-so}
 use Rattle.walk.specs.Scans.{Leads}
-use Rattle.walk.specs.Visits.{Source, got, Sv, sv, scanOf}
-use Rattle.walk.specs.Fours.{ofPixel, ofRefining, ofChild, fourSeen}
+use Rattle.walk.specs.Visits.{Source, Sv, sv, scanOf}
+use Rattle.walk.specs.Fours.{ofChild, fourSeen}
 use Rattle.walk.proofs.Fours.{Counts, leads-none, leads-on, pixels-by, refining-by, sets-by, desc-zero, desc-one, grand-zero, grand-one, four-pixels, four-refined, four-children, idle-pixels, idle-refining, new-children, split-length}
 use Rattle.fours.specs.Words.{nibbleOf, spreadOf, countOf, whichAre, refinedWord, withWord, wordAt, lowWord, FourBytes, FourLow}
-use Rattle.fours.specs.Tables.{inByte, inNibble, end1, end2, end3, end4, foundOf, minusOf, placedOf}
+use Rattle.fours.specs.Tables.{inByte, inNibble, end4, foundOf, minusOf, placedOf}
 use Rattle.fours.proofs.Laws.{nibble-lt, which-are, same-word, word-is, low-marks}
 use Rattle.reading.specs.Reading.{Read, read, descClash, grandClash, reader, st}
-use Rattle.reading.specs.Siblings.{foundFour, refinedFour, Fixed, Shows, Ahead, Led, Gone}
-use Rattle.reading.specs.declared.Went.{Went}
-use Rattle.reading.proofs.SiblingLaws.{end4-le, byte-shows, next-shows, nibble-shows, zero-shows, one-shows, pixel-codes, pixel-marks, refined-codes, refined-marks, child-codes, child-marks, free0, free1, free2, free3}
+use Rattle.reading.specs.Siblings.{foundFour, refinedFour, Fixed, Shows, Ahead, Gone}
+use Rattle.reading.proofs.SiblingLaws.{found-small, minus-small, end4-le, byte-shows, next-shows, nibble-shows, zero-shows, one-shows, pixel-codes, pixel-marks, refined-codes, refined-marks, child-codes, child-marks, free0, free1, free2, free3}
 
 never : {A : Type 0} → false ≡ true → A
 never e = let z : _≡_ {A = ℕ} 0 1 = ap (λ (t : Bool). cond t 1 0) e in absurd (omega (arith, z))
@@ -219,10 +216,10 @@ pub asked-lt : (v w k : ℕ) → k ≡ whichAre v w → k < 16
 asked-lt v w k e = omega (arith, e, nibble-lt (eqb (w % 4) v) (eqb (w / 256 % 4) v) (eqb (w / 65536 % 4) v) (eqb (w / 16777216 % 4) v))
 
 pub found-lt : (k u : ℕ → Bool) (x : ℕ) → x ≡ foundOf k u → x < 16
-found-lt k u x e = subst (λ (y : ℕ). y < 16) (sym e) (nibble-lt (k 0 && u 0) (k 1 && u (end1 k u)) (k 2 && u (end2 k u)) (k 3 && u (end3 k u)))
+found-lt k u x e = subst (λ (y : ℕ). y < 16) (sym e) (found-small k u)
 
 pub minus-lt : (k u : ℕ → Bool) (x : ℕ) → x ≡ minusOf k u → x < 16
-minus-lt k u x e = subst (λ (y : ℕ). y < 16) (sym e) (nibble-lt (k 0 && (u 0 && u 1)) (k 1 && (u (end1 k u) && u (end1 k u + 1))) (k 2 && (u (end2 k u) && u (end2 k u + 1))) (k 3 && (u (end3 k u) && u (end3 k u + 1))))
+minus-lt k u x e = subst (λ (y : ℕ). y < 16) (sym e) (minus-small k u)
 
 pub placed-lt : (k u : ℕ → Bool) → placedOf k u < 16
 placed-lt k u = nibble-lt (k 0 && u 0) (k 1 && u (digit (k 0))) (k 2 && u (digit (k 0) + digit (k 1))) (k 3 && u (digit (k 0) + digit (k 1) + digit (k 2)))

@@ -16,9 +16,9 @@ use Rattle.sizes.specs.Sizes.{allOf}
 use Rattle.sizes.specs.Checks.{sizeChecks}
 use Rattle.sizes.proofs.Laws.{both-left, both-right, both}
 use Rattle.sizes.proofs.Checks.{sizes-met}
-use Rattle.coef.specs.Coef.{firstOver, coefficientCheck}
-use Rattle.coef.proofs.Laws.{first-le}
-use Rattle.tree.specs.Summaries.{lentChecks, summaryChecks, fillChecks}
+use Rattle.coef.specs.Coef.{overCheck, IsPlanes}
+use Rattle.coef.proofs.Laws.{over-by}
+use Rattle.tree.specs.Summaries.{lentChecks, checksOver, summaryChecks, summaryChecksBy, fillChecks}
 use Rattle.tree.specs.Filling.{Ready}
 
 -- ---- number 5
@@ -37,19 +37,24 @@ module _ (all descs grands : ℕ) where
     unfolding firstOf
     lent-well g = rw (le-leb (all / 4) descs d, le-leb (all / 16) grands g)
 
-module _ (N L : ℕ) (A : List ℤ) (descs grands : ℕ) where
-  -- ---- number 4, between them
-  module _ {r : Outcome} (is : r ≡ firstOf (sizeChecks N L (length A))) (done : r ≡ Done) where
-    pub no-coefficient : firstOver A < length A → Refused (Coefficient (firstOver A)) ≡ firstOf (summaryChecks N L A descs grands)
-    no-coefficient o =
-        then-more (sizeChecks N L (length A)) (coefficientCheck A ∷ lentChecks (allOf N) descs grands) is done
-        (sym (first-fails (eqb (firstOver A) (length A)) (Coefficient (firstOver A)) (lentChecks (allOf N) descs grands) (ne-eqb (firstOver A) (length A) (λ (e : firstOver A ≡ length A). omega arith))))
+-- ---- number 4, between them
 
-    pub within-limit : length A ≤ firstOver A → {w : Outcome} → w ≡ firstOf (lentChecks (length A) descs grands) → w ≡ firstOf (summaryChecks N L A descs grands)
-    within-limit o v =
-        then-more (sizeChecks N L (length A)) (coefficientCheck A ∷ lentChecks (allOf N) descs grands) is done
-        (v ∙ ap (λ (x : ℕ). firstOf (lentChecks x descs grands)) (sizes-met N L (length A) is done .2)
-        ∙ sym (first-holds (eqb (firstOver A) (length A)) (Coefficient (firstOver A)) (lentChecks (allOf N) descs grands) (eq-eqb (firstOver A) (length A) (omega (arith, first-le A)))))
+module _ (N L over count descs grands : ℕ) {r : Outcome} (is : r ≡ firstOf (sizeChecks N L count)) (done : r ≡ Done) where
+  pub no-coefficient : over < count → Refused (Coefficient over) ≡ firstOf (checksOver over N L count descs grands)
+  no-coefficient o =
+      then-more (sizeChecks N L count) (overCheck over count ∷ lentChecks (allOf N) descs grands) is done
+      (sym (first-fails (eqb over count) (Coefficient over) (lentChecks (allOf N) descs grands) (ne-eqb over count (λ (e : over ≡ count). omega arith))))
+
+  pub within-limit : over ≡ count → {w : Outcome} → w ≡ firstOf (lentChecks count descs grands) → w ≡ firstOf (checksOver over N L count descs grands)
+  within-limit o v =
+      then-more (sizeChecks N L count) (overCheck over count ∷ lentChecks (allOf N) descs grands) is done
+      (v ∙ ap (λ (x : ℕ). firstOf (lentChecks x descs grands)) (sizes-met N L count is done .2)
+      ∙ sym (first-holds (eqb over count) (Coefficient over) (lentChecks (allOf N) descs grands) (eq-eqb over count o)))
+
+module _ (N L : ℕ) (A : List ℤ) (descs grands : ℕ) where
+  -- where the planes are known, the checks are the same
+  pub checks-by : {p : ℕ} → IsPlanes A p → summaryChecksBy p N L A descs grands ≡ summaryChecks N L A descs grands
+  checks-by {p} planes = ap (λ (x : ℕ). checksOver x N L (length A) descs grands) (over-by A p planes)
 
   -- ---- where they are passed
 

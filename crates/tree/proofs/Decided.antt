@@ -5,11 +5,15 @@ use Prim.Native.Nat.{ℕ}
 use denote.Ref.{now}
 use Rattle.refusals.proofs.Decided.{OneAnswer, OneOutcome}
 use Rattle.tree.proofs.check.Reads as check
+use Rattle.tree.proofs.check_by.Reads as check-by
 use Rattle.tree.proofs.fill.Reads as fill
 use Rattle.tree.proofs.summaries.Reads as summaries
 
 pub check-decided : OneAnswer check.Learnt
 check-decided k args r r' s s' p q = p ∙ sym q
+
+pub check-by-decided : OneAnswer check-by.Learnt
+check-by-decided k args r r' s s' p q = p ∙ sym q
 
 -- the fourth and the fifth parameter are DESC and GRAND
 pub fill-decided : OneOutcome {Lent = List ℕ × List ℕ} fill.Learnt (λ k s. (now (s .1 .1 .1 .0), now (s .1 .1 .1 .1 .0)))

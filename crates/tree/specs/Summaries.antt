@@ -6,7 +6,7 @@ use lib.{Dec.leb, IntN.ℤ, ListN.length}
 use Rattle.refusals.specs.{declared.Refusal.the-variants.Lent, Checks.Check, Checks.need}
 use Rattle.sizes.specs.{Sizes.allOf, Checks.sizeChecks, Tables.table}
 use Rattle.bits.specs.Bits.{orAll}
-use Rattle.coef.specs.Coef.{magAt, coefficientCheck}
+use Rattle.coef.specs.Coef.{magAt, firstOver, overBy, overCheck}
 use Rattle.tree.specs.Tree.{desc, grand}
 
 -- the summary of the magnitudes of A at place i
@@ -27,9 +27,16 @@ grandTable N L A = table (allOf N / 16) (λ i. grandOr N L A i)
 abbrev pub lentChecks : ℕ → ℕ → ℕ → List Check
 lentChecks all descs grands = need (leb (all / 4) descs && leb (all / 16) grands) Lent ∷ []
 
--- the coefficients, and the lengths of the two lent tables
+-- the coefficients, `count` of them and `over` the first place of one over the limit, and the lengths of the two lent tables
+abbrev pub checksOver : ℕ → ℕ → ℕ → ℕ → ℕ → ℕ → List Check
+checksOver over N L count descs grands = sizeChecks N L count ++ (overCheck over count ∷ lentChecks (allOf N) descs grands)
+
 abbrev pub summaryChecks : ℕ → ℕ → List ℤ → ℕ → ℕ → List Check
-summaryChecks N L A descs grands = sizeChecks N L (length A) ++ (coefficientCheck A ∷ lentChecks (allOf N) descs grands)
+summaryChecks N L A descs grands = checksOver (firstOver A) N L (length A) descs grands
+
+-- the same of an array whose planes are known
+abbrev pub summaryChecksBy : ℕ → ℕ → ℕ → List ℤ → ℕ → ℕ → List Check
+summaryChecksBy planes N L A descs grands = checksOver (overBy planes A) N L (length A) descs grands
 
 -- those that ask nothing of a coefficient: the tables can be filled whatever the magnitudes
 abbrev pub fillChecks : ℕ → ℕ → ℕ → ℕ → ℕ → List Check

@@ -9,7 +9,7 @@ ghost use Rattle.refusals.specs.Checks.{firstOf, lentAfter};
 ghost use Rattle.sizes.specs.Sizes.{allOf, coarsestOf};
 ghost use Rattle.sizes.specs.Tables.{table};
 ghost use Rattle.coef.specs.Coef.{magAt};
-ghost use Rattle.tree.specs.Summaries.{descTable, grandTable, lentChecks, summaryChecks, fillChecks};
+ghost use Rattle.tree.specs.Summaries.{descTable, grandTable, lentChecks, summaryChecks, summaryChecksBy, fillChecks};
 ghost use Rattle.tree.specs.Filling.{childrenOr, childrenTable, entriesOr, filledFrom, Ready};
 
 // The magnitude of the coefficient at place j.
@@ -123,6 +123,21 @@ pub fn check(n: u32, l: u32, coefs: &[i32], descs: usize, grands: usize) -> Outc
         return Outcome::Refused(why);
     }
     let over = coef::first_over(coefs);
+    if over < coefs.len() {
+        return Outcome::Refused(Refusal::Coefficient(over as u32));
+    }
+    check_lent(coefs.len(), descs, grands)
+}
+
+// The same checks for an array whose planes are known.
+pub fn check_by(n: u32, l: u32, coefs: &[i32], planes: u32, descs: usize, grands: usize) -> Outcome
+    ensures { λ r. ⌜ r ≡ firstOf (summaryChecksBy planes n l (now (coefs .entry)) descs grands) ⌝ }
+{
+    let sized = sizes::check_sizes(n, l, coefs.len());
+    if let Outcome::Refused(why) = sized {
+        return Outcome::Refused(why);
+    }
+    let over = coef::first_over_by(coefs, planes);
     if over < coefs.len() {
         return Outcome::Refused(Refusal::Coefficient(over as u32));
     }

@@ -1,11 +1,11 @@
 -- Steps of a pass over any source of answers, with bits enough: places that are skipped, sets that are tested, and four coefficients by themselves, one
 -- after the other.
-use Prim.Native.Nat.{ℕ, zero, suc, _+_, _*_, _-_, _/_, _≤_, _<_}
-use mathlib.Core.Path.{_≡_, refl, sym, ap, _∙_, subst}
+use Prim.Native.Nat.{ℕ, _+_, _*_, _-_, _/_, _≤_, _<_}
+use mathlib.Core.Path.{_≡_, refl, sym, _∙_, subst}
 use mathlib.Core.Bool.{Bool, true, false, cond}
 use mathlib.Core.List.{List}
 use native.Mathlib.Omega.{arith}
-use borrow.Author.Tests.{eqb-true, eqb-false, eq-eqb, ne-eqb}
+use borrow.Author.Tests.{eqb-true, eqb-false}
 use lib.Dec.{ltb, eqb}
 use lib.ListN.{length, set, getD, length-set}
 use lib.Seq.{set-getD, getD-set-same, getD-set-other}
@@ -13,9 +13,9 @@ use Rattle.nls.specs.Scan.{Question, bitOf, signOf, inDesc, inGrand, Pass, pixe
 use Rattle.nls.specs.Marks.{splitDesc}
 use Rattle.marking.specs.Marking.{skipOf, setSkipOf, putFour, descSplitMarks, grandSplitMarks}
 use Rattle.marking.proofs.Laws.{skip-low, skip-in, set-skip-in}
-use Rattle.walk.specs.Scans.{Seen, move, Ran, Scan, At, Leads}
-use Rattle.walk.specs.Visits.{Source, got, Sv, sv, oneSeen, pixelsSeen, refiningSeen, visitSeen, scanOf}
-use Rattle.walk.specs.Fours.{ownMark, ownRest, Own, ofPixel, ofRefining, ofChild, kept1, kept2, kept3, kept4, fourMarks, fourSeen}
+use Rattle.walk.specs.Scans.{move, Scan, Leads}
+use Rattle.walk.specs.Visits.{Source, got, sv, oneSeen, pixelsSeen, refiningSeen, visitSeen, scanOf}
+use Rattle.walk.specs.Fours.{ownMark, ownRest, Own, ofPixel, ofRefining, ofChild, kept1, kept2, kept3, fourSeen}
 use Rattle.walk.proofs.VisitLaws.{one-zero, one-one, test-zero, test-one, pixels-own, pixels-skip, refining-own, refining-new, refining-skip, sets-one, sets-desc, sets-grand, sets-skip, visit-pixels, visit-sets, visit-refining}
 use Rattle.walk.proofs.Turns.{at-go}
 

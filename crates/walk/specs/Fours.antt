@@ -1,6 +1,6 @@
 -- Words of the inner contracts, which no promise to a caller uses: what a pass does at four places with bits enough, over any source of answers.
 use Prim.Native.Nat.{ℕ, _+_}
-use mathlib.Core.Bool.{Bool, cond}
+use mathlib.Core.Bool.{cond}
 use mathlib.Core.List.{List}
 use lib.Dec.{eqb}
 use lib.ListN.{getD}

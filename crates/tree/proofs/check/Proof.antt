@@ -9,6 +9,8 @@ use Rattle.refusals.proofs.Laws.{refused-first}
 use Rattle.sizes.proofs.Laws.{side-most, all-most}
 use Rattle.sizes.specs.Checks.{sizeChecks}
 use Rattle.sizes.proofs.Checks.{sizes-met}
+use Rattle.coef.specs.Coef.{firstOver}
+use Rattle.coef.proofs.Laws.{first-le}
 use Rattle.tree.proofs.Checks.{no-coefficient, within-limit}
 use Rattle.tree.proofs.check.Statement.{statement}
 use Rattle.tree.proofs.check.Tie as tie
@@ -40,7 +42,7 @@ returns-2 : tie.Need-returns-2
 returns-2 c =
     let a = c .before .before .before .before .before .args in
     ap (λ (x : ℕ). Refused (Coefficient x)) (c .before .first-over .ensures)
-    ∙ no-coefficient (a .n) (a .l) (a .coefs .now) (a .descs) (a .grands) (c .before .before .before .before .check-sizes .ensures) (c .before .before .enum-told .given .1) (omega (arith, c .before .first-over .ensures, c .if1 .taken))
+    ∙ no-coefficient (a .n) (a .l) (firstOver (a .coefs .now)) (length (a .coefs .now)) (a .descs) (a .grands) (c .before .before .before .before .check-sizes .ensures) (c .before .before .enum-told .given .1) (omega (arith, c .before .first-over .ensures, c .if1 .taken))
 
 check-lent-requires : tie.Need-check-lent-requires
 check-lent-requires c κs = search needs
@@ -48,7 +50,7 @@ check-lent-requires c κs = search needs
 returns-3 : tie.Need-returns-3
 returns-3 c =
     let a = c .before .before .before .before .before .before .args in
-    within-limit (a .n) (a .l) (a .coefs .now) (a .descs) (a .grands) (c .before .before .before .before .before .check-sizes .ensures) (c .before .before .before .enum-told .given .1) (omega (arith, c .before .before .first-over .ensures, c .before .if1 .left)) (c .check-lent .ensures)
+    within-limit (a .n) (a .l) (firstOver (a .coefs .now)) (length (a .coefs .now)) (a .descs) (a .grands) (c .before .before .before .before .before .check-sizes .ensures) (c .before .before .before .enum-told .given .1) (omega (arith, first-le (a .coefs .now), c .before .before .first-over .ensures, c .before .if1 .left)) (c .check-lent .ensures)
 
 pub check-spec : {M : Type 1} → statement M
 check-spec =

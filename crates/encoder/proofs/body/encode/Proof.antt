@@ -4,6 +4,7 @@ use native.Mathlib.Omega.{arith}
 use borrow.Author.Needs.{needs}
 use lib.ListN.{length, take, drop, length-drop}
 use lib.Seq.{length-take-le}
+use Rattle.refusals.specs.Checks.{firstOf}
 use Rattle.refusals.specs.declared.Outcome.the-variants as outcome
 use Rattle.sizes.specs.Sizes.{allOf}
 use Rattle.sizes.proofs.Laws.{sized}
@@ -11,6 +12,8 @@ use Rattle.bits.specs.Bits.{packed}
 use Rattle.bits.proofs.Laws.{packed-length}
 use Rattle.coef.specs.Coef.{planesOf}
 use Rattle.coef.proofs.Laws.{planes-one, planes-of}
+use Rattle.tree.specs.Summaries.{summaryChecks}
+use Rattle.tree.proofs.Checks.{checks-by}
 use Rattle.nls.proofs.Streams.{marks-length}
 use Rattle.room.specs.Ready.{EncodeReady}
 use Rattle.room.proofs.Laws.{checked-first, checked-then, encode-ready}
@@ -20,24 +23,30 @@ use Rattle.encoder.proofs.EncodeLaws.{marks-back, output-back, writes-b
 use Rattle.encoder.proofs.body.encode.Statement.{statement}
 use Rattle.encoder.proofs.body.encode.Tie as tie
 
-check-requires : tie.Need-check-requires
-check-requires c κs = search needs
+planes-requires : tie.Need-planes-requires
+planes-requires c κs = search needs
+
+check-by-requires : tie.Need-check-by-requires
+check-by-requires c κs = search needs
+
+-- the planes are the array's, so the first checks are those of the summaries
+first-so : (c : tie.After-check-by) → let a = c .before .before .before .before .before .before .args in c .check-by .result ≡ firstOf (summaryChecks (a .n) (a .l) (a .coefs .now) (length (a .desc .now)) (length (a .grand .now)))
+first-so c =
+    let a = c .before .before .before .before .before .before .args in
+    c .check-by .ensures ∙ ap firstOf (checks-by (a .n) (a .l) (a .coefs .now) (length (a .desc .now)) (length (a .grand .now)) (c .before .planes .ensures))
 
 enum-known-first : tie.Need-enum-known-first
 enum-known-first c = search needs
 
 returns : tie.Need-returns
 returns c =
-    let a = c .before .before .before .before .before .before .before .before .args in
+    let a = c .before .before .before .before .before .before .before .before .before .args in
     let why = c .before .first .given in
     writes-by (a .n) (a .l) (a .coefs .now) (a .offset) (a .budget) (loan (a .desc .now) (a .grand .now) (a .marks .now) (a .out .now)) (outcome.Refused (why .0 .0))
-    (checked-first (a .n) (a .l) (a .coefs .now) (length (a .desc .now)) (length (a .grand .now)) (length (a .marks .now)) (length (a .out .now)) (a .offset) (a .budget) (c .before .before .before .check .ensures) (why .0 .0) (why .1)) refl refl
+    (checked-first (a .n) (a .l) (a .coefs .now) (length (a .desc .now)) (length (a .grand .now)) (length (a .marks .now)) (length (a .out .now)) (a .offset) (a .budget) (first-so (c .before .before .before)) (why .0 .0) (why .1)) refl refl
 
 enum-told : tie.Need-enum-told
 enum-told c = search needs
-
-planes-requires : tie.Need-planes-requires
-planes-requires c κs = search needs
 
 check-encode-requires : tie.Need-check-encode-requires
 check-encode-requires c κs = search needs
@@ -47,7 +56,7 @@ outcome-so : (c : tie.After-check-encode) → let a = c .before .before .before 
     c .check-encode .result ≡ writeOutcome (a .n) (a .l) (a .coefs .now) (a .offset) (a .budget) (loan (a .desc .now) (a .grand .now) (a .marks .now) (a .out .now))
 outcome-so c =
     let a = c .before .before .before .before .before .before .before .before .before .args in
-    checked-then (a .n) (a .l) (a .coefs .now) (length (a .desc .now)) (length (a .grand .now)) (length (a .marks .now)) (length (a .out .now)) (a .offset) (a .budget) (c .before .before .before .before .check .ensures) (c .before .before .enum-told .given .1) (c .before .planes .ensures) (c .check-encode .ensures)
+    checked-then (a .n) (a .l) (a .coefs .now) (length (a .desc .now)) (length (a .grand .now)) (length (a .marks .now)) (length (a .out .now)) (a .offset) (a .budget) (first-so (c .before .before .before)) (c .before .enum-told .given .1) (c .before .before .before .before .planes .ensures) (c .check-encode .ensures)
 
 enum-known-rest : tie.Need-enum-known-rest
 enum-known-rest c = search needs
@@ -96,7 +105,7 @@ write-requires c κs =
     let e : length (take (length (a .out .now) - a .offset) (drop (a .offset) (a .out .now))) ≡ length (a .out .now) - a .offset = length-take-le (length (a .out .now) - a .offset) (drop (a .offset) (a .out .now)) (omega (arith, length-drop (a .offset) (a .out .now))) in (
       subst (λ (x : ℕ). EncodeReady (a .n) (a .l) (a .coefs .now) (length (a .desc .now)) (length (a .grand .now)) x (a .budget)) (sym e) (ready (c .before .before .before .before) .0),
       length-take-le all (a .marks .now) (omega (arith, all-so (c .before .before .before .before), ready (c .before .before .before .before) .1)) ∙ all-so (c .before .before .before .before),
-      planes-one (c .before .before .before .before .before .before .before .before .planes .ensures) (planes-of (a .coefs .now)),
+      planes-one (c .before .before .before .before .before .before .before .before .before .before .before .planes .ensures) (planes-of (a .coefs .now)),
     )
 
 same-length : tie.Need-same-length
@@ -129,11 +138,11 @@ pub encode-spec : {M : Type 1} → statement M
 encode-spec =
     tie.close
     (tie.spec
-    check-requires
+    planes-requires
+    check-by-requires
     enum-known-first
     returns
     enum-told
-    planes-requires
     check-encode-requires
     enum-known-rest
     returns-2

@@ -1,21 +1,14 @@
 use native.Mathlib.Omega.{arith}
-use Prim.Native.Nat.{ℕ, _+_, _<_}
-use mathlib.Core.Bool.{Bool, _&&_}
 use Rattle.bits.specs.Bits.{bit}
-use Rattle.fours.specs.Tables.{inByte, end1, end2, end3, foundOf, minusOf}
-use Rattle.fours.proofs.Laws.{nibble-lt, parsed-below, heard}
+use Rattle.fours.specs.Tables.{inByte}
+use Rattle.fours.proofs.Laws.{parsed-below, heard}
+use Rattle.reading.proofs.SiblingLaws.{found-small, minus-small}
 use borrow.Author.Needs.{needs}
 use Rattle.reading.proofs.siblings.listen.Statement.{statement}
 use Rattle.reading.proofs.siblings.listen.Tie as tie
 use Rattle.reading.proofs.siblings.listen.Reads as reads
 use Rattle.reading.proofs.siblings.listen.Lts as lts
 use Rattle.fours.proofs.count.Reads as count-reads
-
-found-lt : (k u : ℕ → Bool) → foundOf k u < 16
-found-lt k u = nibble-lt (k 0 && u 0) (k 1 && u (end1 k u)) (k 2 && u (end2 k u)) (k 3 && u (end3 k u))
-
-minus-lt : (k u : ℕ → Bool) → minusOf k u < 16
-minus-lt k u = nibble-lt (k 0 && (u 0 && u 1)) (k 1 && (u (end1 k u) && u (end1 k u + 1))) (k 2 && (u (end2 k u) && u (end2 k u + 1))) (k 3 && (u (end3 k u) && u (end3 k u + 1)))
 
 mul-e : tie.Need-mul-e
 mul-e c = search needs
@@ -60,10 +53,10 @@ cast-t8 : tie.Need-cast-t8
 cast-t8 c = search needs
 
 cast-t9 : tie.Need-cast-t9
-cast-t9 c = omega (arith, heard _ _ _ _ (c .before .before .before .before .pre .0) (c .before .before .before .before .pre .1) (c .before .before .before .before .pre .2) (c .before .before .before .before .pre .3) .0, found-lt (bit (c .before .before .before .before .args .k)) (inByte (c .before .before .before .before .args .byte)))
+cast-t9 c = omega (arith, heard _ _ _ _ (c .before .before .before .before .pre .0) (c .before .before .before .before .pre .1) (c .before .before .before .before .pre .2) (c .before .before .before .before .pre .3) .0, found-small (bit (c .before .before .before .before .args .k)) (inByte (c .before .before .before .before .args .byte)))
 
 cast-t21 : tie.Need-cast-t21
-cast-t21 c = omega (arith, heard _ _ _ _ (c .before .before .before .before .pre .0) (c .before .before .before .before .pre .1) (c .before .before .before .before .pre .2) (c .before .before .before .before .pre .3) .1, minus-lt (bit (c .before .before .before .before .args .k)) (inByte (c .before .before .before .before .args .byte)))
+cast-t21 c = omega (arith, heard _ _ _ _ (c .before .before .before .before .pre .0) (c .before .before .before .before .pre .1) (c .before .before .before .before .pre .2) (c .before .before .before .before .pre .3) .1, minus-small (bit (c .before .before .before .before .args .k)) (inByte (c .before .before .before .before .args .byte)))
 
 returns : tie.Need-returns
 returns c = let h = heard _ _ _ _ (c .before .before .before .before .pre .0) (c .before .before .before .before .pre .1) (c .before .before .before .before .pre .2) (c .before .before .before .before .pre .3) in (rw (c .count .ensures) (h .2), h .0, h .1)
