@@ -8,6 +8,7 @@ use native.Mathlib.Nat.{pow-suc, zero-div, div-one, div-eq-of-lt-le, mod-lt}
 use native.Mathlib.Decide.{decLt, ℕ-discrete}
 use native.Mathlib.Omega.{arith}
 use borrow.Author.Tests.{eqb-true, eqb-false, eq-eqb, ne-eqb, leb-true, leb-false, le-leb, lt-leb}
+use mir.Val.{boolByte}
 use lib.Bits.{bitOr, or-step, or-shr, or-lt, or-add-and, and-le-l, and-le-r}
 use lib.Count.{leadingZeros, leading-length}
 use lib.Dec.{leb, eqb, lit<, lit≤}
@@ -176,6 +177,11 @@ zeros-below w x k h =
 pub digit-le : (x : Bool) → digit x ≤ 1
 digit-le true = lit≤ tt
 digit-le false = lit≤ tt
+
+-- what the code has for a bit
+pub as-digit : (x : Bool) → boolByte x ≡ digit x
+as-digit true = refl
+as-digit false = refl
 
 pub digit-bit : (x : Bool) → bit (digit x) 0 ≡ x
 unfolding bit

@@ -1,11 +1,10 @@
 -- What each way through a step over four places leaves, from what the code's calls have done.
 use Prim.Native.Nat.{ℕ, _+_, _*_, _/_, _%_, _^_, _≤_, _<_}
 use mathlib.Core.Path.{_≡_, refl, sym, ap, _∙_, subst}
-use mathlib.Core.Bool.{Bool, true, false}
+use mathlib.Core.Bool.{Bool, true, false, false≢true}
 use mathlib.Core.List.{List, [], _∷_}
 use native.Mathlib.Omega.{arith}
 use borrow.Author.Tests.{eqb-true, eqb-false}
-use mir.Val.{boolByte}
 use lib.Bits.{bitAnd}
 use lib.Dec.{eqb}
 use lib.IntN.{ℤ}
@@ -18,9 +17,9 @@ use Rattle.marking.proofs.Laws.{skip-in, set-skip-in, set-skip-low}
 use Rattle.walk.specs.Scans.{Scan, Leads}
 use Rattle.walk.specs.Visits.{Source, got, Sv, sv, scanOf}
 use Rattle.walk.proofs.Fours.{Counts, leads-none, leads-on, pixels-by, refining-by, sets-by, desc-zero, desc-one, grand-zero, grand-one, four-pixels, four-refined, four-children, idle-pixels, idle-refining, new-children}
-use Rattle.fours.specs.Words.{nibbleOf, spreadOf, whichAre, refinedWord, withWord, wordAt, lowWord, FourBytes, FourLow, key}
+use Rattle.fours.specs.Words.{spreadOf, whichAre, refinedWord, withWord, wordAt, lowWord, FourBytes, FourLow, key}
 use Rattle.fours.specs.Tables.{entryOf, four, ownBits, pickBits, sentTable, pickedTable}
-use Rattle.fours.proofs.Laws.{nibble-lt, which-are, low-marks, same-word, word-is, key-found, key-lt, sent-entry, picked-entry, own-length, pick-length}
+use Rattle.fours.proofs.Laws.{nibble-lt, none-of, which-are, low-marks, same-word, key-found, key-lt, sent-entry, picked-entry, own-length, pick-length}
 use Rattle.encoder.specs.Writing.{Bytes, bytes, replies, writer}
 use Rattle.encoder.specs.Sinks.{plusBit, plusBits, Holding, withHeld, held, SameHeld}
 use Rattle.encoder.specs.Siblings.{bitsAt, signsAt, Ahead, Gone}
@@ -38,10 +37,6 @@ digit-of x b = on (eqb (x / 2 ^ b % 2) 1) refl
     on true e = eqb-true (x / 2 ^ b % 2) 1 e
     on false e = let d : (x / 2 ^ b % 2 ≡ 1) → ⊥ = eqb-false (x / 2 ^ b % 2) 1 e in omega arith
 
-pub byte-of : (t : Bool) → boolByte t ≡ digit t
-byte-of true = refl
-byte-of false = refl
-
 pub four-digits : (x0 x1 x2 x3 : ℕ) (t0 t1 t2 t3 : Bool) → x0 ≡ digit t0 → x1 ≡ digit t1 → x2 ≡ digit t2 → x3 ≡ digit t3 → x0 + 2 * x1 + 4 * x2 + 8 * x3 < 16
 four-digits x0 x1 x2 x3 t0 t1 t2 t3 e0 e1 e2 e3 = subst (λ (n : ℕ). n < 16) (λ i. sym e0 i + 2 * sym e1 i + 4 * sym e2 i + 8 * sym e3 i) (nibble-lt t0 t1 t2 t3)
 
@@ -52,28 +47,9 @@ withEntry s e = record { acc = s .acc * 2 ^ (e / 256) + e % 256; n = s .n + e / 
 abbrev pub withDigit : Sink → ℕ → Sink
 withDigit s x = record { acc = s .acc * 2 ^ 1 + x; n = s .n + 1; at = s .at }
 
--- none of four is chosen
-pub none-of : (x y z t : Bool) → nibbleOf x y z t ≡ 0 → (x ≡ false) × (y ≡ false) × (z ≡ false) × (t ≡ false)
-none-of false false false false e = (refl, refl, refl, refl)
-none-of true y z t e = absurd (omega arith)
-none-of false true z t e = absurd (omega arith)
-none-of false false true t e = absurd (omega arith)
-none-of false false false true e = absurd (omega arith)
-
-never-on : false ≡ true → ⊥
-never-on e = let z : _≡_ {A = ℕ} 0 1 = cc in omega arith
-
 -- each bit that the encoder puts takes one of the budget
 counts : (A : List ℤ) (d g : List ℕ) (budget : ℕ) → Counts (writer A d g budget)
 counts A d g budget p b q x o = refl
-
--- how large four bits as bytes are
-pub spread-few : (a : ℕ) → spreadOf a ≤ 16843009
-spread-few a = omega arith
-
--- how large four marks below MCP are as a number
-pub low-few : (m : List ℕ) (i : ℕ) → i + 4 ≤ length m → FourLow m i → wordAt m i ≤ 50529027
-low-few m i h f = omega (arith, word-is m i h)
 
 -- bits and signs of four places
 pub bits-few : (A : List ℤ) (b i : ℕ) → bitsAt A b i < 16
@@ -81,9 +57,6 @@ bits-few A b i = nibble-lt (bit (magAt A i) b) (bit (magAt A (i + 1)) b) (bit (m
 
 pub signs-few : (A : List ℤ) (i : ℕ) → signsAt A i < 16
 signs-few A i = nibble-lt (negative (at A i)) (negative (at A (i + 1))) (negative (at A (i + 2))) (negative (at A (i + 3)))
-
-pub which-few : (v w : ℕ) → whichAre v w < 16
-which-few v w = nibble-lt (eqb (w % 4) v) (eqb (w / 256 % 4) v) (eqb (w / 65536 % 4) v) (eqb (w / 16777216 % 4) v)
 
 -- the entry for four coefficients of which those of k are asked
 module _ (A : List ℤ) (b place k x : ℕ) (hk : k < 16) (ex : x ≡ key k (bitsAt A b place) (signsAt A place)) where
@@ -179,7 +152,7 @@ module _ (A : List ℤ) (d g : List ℕ) (all budget safe b place : ℕ) (m o : 
 
   -- nothing is done: the place is left to the plain scan
   pub leave : (pass : ℕ) → Gone A d g all budget b pass place m o s (record { on = false; sink = s; place = place }) m o
-  leave pass = record { led = record { leads = leads-none E b pass place (sv m (held o s)); easy = a .easy }; falls = λ e. absurd (never-on e) }
+  leave pass = record { led = record { leads = leads-none E b pass place (sv m (held o s)); easy = a .easy }; falls = λ e. absurd (false≢true e) }
 
   -- places that are skipped
   skipped : (pass far : ℕ) → Way pass (place + far) (sv m (held o s)) → 1 ≤ far → GoesOn pass (place + far) s m o

@@ -10,7 +10,7 @@ use Rattle.walk.specs.Visits.{Sv, visitSeen, scanOf}
 use Rattle.encoder.specs.Writing.{Bytes, bytes, writer, st, leftBy, stepOf, Falls, Clean, Does, Holds}
 use Rattle.encoder.specs.declared.Step.{Step}
 use Rattle.encoder.specs.declared.Step.the-variants.{Stop, Go}
-use Rattle.walk.proofs.Turns.{at-go, resume-go, resume-next, resume-stop}
+use Rattle.walk.proofs.Turns.{at-go, resume-stop, Carries}
 
 seen-go : (place : ℕ) (S : Seen (Sv Bytes)) (r : Step) (k p : ℕ) (m o : List ℕ) → r ≡ stepOf place S → m ≡ leftBy S .marks → o ≡ leftBy S .rest .out → Clean S → r ≡ Go k p → S ≡ move p (st m o k)
 seen-go place (halt t) r k p m o e em eo z g = let z : _≡_ {A = ℕ} 0 1 = cc in absurd (omega arith)
@@ -49,18 +49,6 @@ module _ (A : List ℤ) (d g : List ℕ) (all budget b pass place : ℕ) (m₀ o
   pub turn-stop : (k p : ℕ) → Does (visitSeen (writer A d g budget) all b pass place (st m₀ o₀ n)) budget place n r m o → r ≡ Stop k p
       → visitSeen (writer A d g budget) all b pass place (st m₀ o₀ n) ≡ halt (st m o k)
   turn-stop k p s e = seen-stop place _ r k p m o (s .answered) (s .marked) (s .wrote) (s .clean) e
-
--- a scan that goes on from a place, with so many passes not finished, and goes on from another with the same end
-abbrev pub Carries : Scan (Sv Bytes) → ℕ → ℕ → Sv Bytes → ℕ → ℕ → Sv Bytes → Type 0
-Carries E k₀ p₀ t₀ k p t = (X : Ran (Sv Bytes)) (L : ℕ) → Resumes E (leftAt k₀) (passAt k₀) p₀ t₀ X L → Resumes E (leftAt k) (passAt k) p t X L
-
-module _ (E : Scan (Sv Bytes)) (k₀ p₀ : ℕ) (t₀ : Sv Bytes) (k p : ℕ) (t : Sv Bytes) (c : Carries E k₀ p₀ t₀ k p t) where
-  pub carry-go : 0 < k → (q : ℕ) (u : Sv Bytes) → Leads E (leftAt k - 1) (passAt k) p t q u → Carries E k₀ p₀ t₀ k q u
-  carry-go h q u l X L r = resume-go E (leftAt k) (passAt k) p t X L (c X L r) (omega arith) q u l
-
-  -- the next pass
-  pub carry-next : (k₁ p₁ : ℕ) (t₁ : Sv Bytes) → Carries E k p t k₁ p₁ t₁ → 0 < k₁ → E .all ≤ p₁ → Carries E k₀ p₀ t₀ (k₁ - 1) 0 t₁
-  carry-next k₁ p₁ t₁ f h l X L r = resume-next E k₁ p₁ t₁ X L (f X L (c X L r)) h l
 
 -- the end: no pass is left, or a bit exceeds the budget
 module _ (E : Scan (Sv Bytes)) (k₀ p₀ : ℕ) (t₀ : Sv Bytes) (k p : ℕ) (m o : List ℕ) (n : ℕ) (c : Carries E k₀ p₀ t₀ k p (st m o n)) where

@@ -141,6 +141,14 @@ module _ (x y z t : Bool) where
   pub count-nibble : countOf (nibbleOf x y z t) ≡ digit x + digit y + digit z + digit t
   count-nibble = rw (nibble-digits .0, nibble-digits .1, nibble-digits .2, nibble-digits .3) refl
 
+-- none of four is chosen
+pub none-of : (x y z t : Bool) → nibbleOf x y z t ≡ 0 → (x ≡ false) × (y ≡ false) × (z ≡ false) × (t ≡ false)
+none-of false false false false e = (refl, refl, refl, refl)
+none-of true y z t e = absurd (omega arith)
+none-of false true z t e = absurd (omega arith)
+none-of false false true t e = absurd (omega arith)
+none-of false false false true e = absurd (omega arith)
+
 pub same-choices : {A : Type 0} (f g : Bool → Bool → Bool → Bool → A)
     → table 16 (λ e. f (bit e 0) (bit e 1) (bit e 2) (bit e 3)) ≡ table 16 (λ e. g (bit e 0) (bit e 1) (bit e 2) (bit e 3))
     → (x y z t : Bool) → f x y z t ≡ g x y z t
@@ -221,6 +229,10 @@ low-marks m i h f e =
     let p = low-parts (getD m i 0) (getD m (i + 1) 0) (getD m (i + 2) 0) (getD m (i + 3) 0) (f .first) (f .second) (f .third) (rw (word-is m i h) at e) in
     record { first = p .0; second = p .1; third = p .2; fourth = p .3 }
 
+-- four marks below MCP and four bits as bytes are a number of 32 bits
+pub low-fits : (m : List ℕ) (i : ℕ) → i + 4 ≤ length m → FourLow m i → (a : ℕ) → wordAt m i + spreadOf a < 4294967296
+low-fits m i h f a = omega (arith, word-is m i h, f .first, f .second, f .third, f .fourth)
+
 -- the two low bits of four marks below MCP are all of them
 module _ (a b c d : ℕ) (ha : a < 4) (hb : b < 4) (hc : c < 4) (hd : d < 4) where
   low-0 : wordOf a b c d % 4 ≡ a
@@ -244,6 +256,9 @@ module _ (a b c d : ℕ) (ha : a < 4) (hb : b < 4) (hc : c < 4) (hd : d < 4) whe
       next : (v : ℕ) (t : Bool) → eqb v 2 ≡ t → v + digit t ≡ cond t 3 v
       next v true e = omega (arith, eqb-true v 2 e)
       next v false e = omega arith
+
+pub which-lt : (v w k : ℕ) → k ≡ whichAre v w → k < 16
+which-lt v w k e = omega (arith, e, nibble-lt (eqb (w % 4) v) (eqb (w / 256 % 4) v) (eqb (w / 65536 % 4) v) (eqb (w / 16777216 % 4) v))
 
 pub which-are : (m : List ℕ) (i v : ℕ) → i + 4 ≤ length m → FourLow m i
     → whichAre v (wordAt m i) ≡ nibbleOf (eqb (getD m i 0) v) (eqb (getD m (i + 1) 0) v) (eqb (getD m (i + 2) 0) v) (eqb (getD m (i + 3) 0) v)

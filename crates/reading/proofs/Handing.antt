@@ -17,10 +17,6 @@ use Rattle.reading.specs.declared.Turn.the-variants.{Stop, Bad, Go}
 use Rattle.reading.specs.declared.Went.{Went}
 use Rattle.reading.proofs.ReadTurns.{stops-here, turn-go, turn-stop, turn-bad}
 
--- with k passes not finished it gets from place p and state t to place q and state u, with j not finished
-abbrev pub Comes : Scan (Sv Read) → ℕ → ℕ → Sv Read → ℕ → ℕ → Sv Read → Type 0
-Comes E k p t j q u = (X : Ran (Sv Read)) (L : ℕ) → Resumes E (leftAt k) (passAt k) p t X L → Resumes E (leftAt j) (passAt j) q u X L
-
 pub in-plane : (k all : ℕ) → passAt k * all ≤ 2 * all
 in-plane k all = mul-le-mul-right {m = passAt k} {n = 2} all (omega arith)
 

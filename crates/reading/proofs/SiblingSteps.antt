@@ -1,7 +1,7 @@
 -- Each way through a step of the decoder over four places, from what the code's calls have done.
 use Prim.Native.Nat.{ℕ, _+_, _*_, _-_, _/_, _%_, _≤_, _<_}
 use mathlib.Core.Path.{_≡_, refl, sym, ap, _∙_, subst}
-use mathlib.Core.Bool.{Bool, true, false, cond, not, _&&_}
+use mathlib.Core.Bool.{Bool, true, false, false≢true, cond, not, _&&_}
 use mathlib.Core.List.{List}
 use native.Mathlib.Omega.{arith}
 use borrow.Author.Tests.{eqb-false}
@@ -15,27 +15,16 @@ use Rattle.walk.specs.Scans.{Leads}
 use Rattle.walk.specs.Visits.{Source, Sv, sv, scanOf}
 use Rattle.walk.specs.Fours.{ofChild, fourSeen}
 use Rattle.walk.proofs.Fours.{Counts, leads-none, leads-on, pixels-by, refining-by, sets-by, desc-zero, desc-one, grand-zero, grand-one, four-pixels, four-refined, four-children, idle-pixels, idle-refining, new-children, split-length}
-use Rattle.fours.specs.Words.{nibbleOf, spreadOf, countOf, whichAre, refinedWord, withWord, wordAt, lowWord, FourBytes, FourLow}
+use Rattle.fours.specs.Words.{spreadOf, countOf, whichAre, refinedWord, withWord, wordAt, lowWord, FourBytes, FourLow}
 use Rattle.fours.specs.Tables.{inByte, inNibble, end4, foundOf, minusOf, placedOf}
-use Rattle.fours.proofs.Laws.{nibble-lt, which-are, same-word, word-is, low-marks}
+use Rattle.fours.proofs.Laws.{nibble-lt, none-of, which-are, same-word, low-fits, low-marks}
 use Rattle.reading.specs.Reading.{Read, read, descClash, grandClash, reader, st}
 use Rattle.reading.specs.Siblings.{foundFour, refinedFour, Fixed, Shows, Ahead, Gone}
 use Rattle.reading.proofs.SiblingLaws.{found-small, minus-small, end4-le, byte-shows, next-shows, nibble-shows, zero-shows, one-shows, pixel-codes, pixel-marks, refined-codes, refined-marks, child-codes, child-marks, free0, free1, free2, free3}
 
-never : {A : Type 0} → false ≡ true → A
-never e = let z : _≡_ {A = ℕ} 0 1 = ap (λ (t : Bool). cond t 1 0) e in absurd (omega (arith, z))
-
 not-not : (t : Bool) → not t ≡ false → t ≡ true
 not-not true e = refl
 not-not false e = sym e
-
--- none of four is asked
-digit-none : (x y z t : Bool) → nibbleOf x y z t ≡ 0 → (x ≡ false) × (y ≡ false) × (z ≡ false) × (t ≡ false)
-digit-none false false false false e = (refl, refl, refl, refl)
-digit-none true y z t e = absurd (omega (arith, e))
-digit-none false true z t e = absurd (omega (arith, e))
-digit-none false false true t e = absurd (omega (arith, e))
-digit-none false false false true e = absurd (omega (arith, e))
 
 module _ (body : List ℕ) (all D P usable safe b i : ℕ) (m : List ℕ) (v : List ℤ) (n : ℕ) (a : Ahead body m v all usable safe b i n) where
   abbrev K : Source Read
@@ -49,7 +38,7 @@ module _ (body : List ℕ) (all D P usable safe b i : ℕ) (m : List ℕ) (v : L
 
   -- the step leaves the place as it is
   pub stays : (pass : ℕ) → Gone body all D P usable b pass i m v n (record { on = false; n = n; place = i }) m v
-  stays pass = record { led = record { leads = leads-none (scanOf K all) b pass i (st m v n); spent = a .spent }; falls = λ e. never e }
+  stays pass = record { led = record { leads = leads-none (scanOf K all) b pass i (st m v n); spent = a .spent }; falls = λ e. absurd (false≢true e) }
 
   -- a place further on, with nothing else changed
   moves : (pass k : ℕ) → i < k → Leads (scanOf K all) b pass i (st m v n) k (st m v n) → Gone body all D P usable b pass i m v n (record { on = true; n = n; place = k }) m v
@@ -76,7 +65,7 @@ module _ (body : List ℕ) (all D P usable safe b i : ℕ) (m : List ℕ) (v : L
   -- four places at which there is nothing to do
   pub no-pixels : FourLow m i → whichAre 1 (wordAt m i) ≡ 0 → Gone body all D P usable b 0 i m v n (record { on = true; n = n; place = i + 4 }) m v
   no-pixels low e =
-      let z = digit-none (eqb (getD m i 0) 1) (eqb (getD m (i + 1) 0) 1) (eqb (getD m (i + 2) 0) 1) (eqb (getD m (i + 3) 0) 1) (sym (which-are m i 1 inside low) ∙ e) in
+      let z = none-of (eqb (getD m i 0) 1) (eqb (getD m (i + 1) 0) 1) (eqb (getD m (i + 2) 0) 1) (eqb (getD m (i + 3) 0) 1) (sym (which-are m i 1 inside low) ∙ e) in
       moves 0 (i + 4) (omega arith)
       (idle-pixels K all b i m (read v n) (a .below) (a .spent) (low .first) (low .second) (low .third) (low .fourth)
       (eqb-false (getD m i 0) 1 (z .0)) (eqb-false (getD m (i + 1) 0) 1 (z .1)) (eqb-false (getD m (i + 2) 0) 1 (z .2)) (eqb-false (getD m (i + 3) 0) 1 (z .3)))
@@ -179,7 +168,7 @@ module _ (body : List ℕ) (all D P usable safe b i : ℕ) (m : List ℕ) (v : L
     is-low t e f = low-marks m i inside (bytes inside) (ap (λ (x : ℕ). lowWord x) (sym ew) ∙ sym e ∙ not-not t f)
 
     pub word-fits : (t : Bool) → t ≡ lowWord w → not t ≡ false → (x sp : ℕ) → sp ≡ spreadOf x → w + sp < 4294967296
-    word-fits t e f x sp es = let l = is-low t e f in omega (arith, ew, word-is m i inside, es, l .first, l .second, l .third, l .fourth)
+    word-fits t e f x sp es = omega (arith, ew, es, low-fits m i inside (is-low t e f) x)
 
     pub no-pixels-so : (t : Bool) → t ≡ lowWord w → not t ≡ false → (k : ℕ) → k ≡ whichAre 1 w → k ≡ 0 → Gone body all D P usable b 0 i m v n (record { on = true; n = n; place = i + 4 }) m v
     no-pixels-so t e f k ek z = no-pixels (is-low t e f) (ap (λ (x : ℕ). whichAre 1 x) (sym ew) ∙ sym ek ∙ z)
@@ -212,9 +201,6 @@ module _ (body : List ℕ) (all D P usable safe b i : ℕ) (m : List ℕ) (v : L
       rw split (grand-heard w shows s e h)
 
 -- sizes of what is heard
-pub asked-lt : (v w k : ℕ) → k ≡ whichAre v w → k < 16
-asked-lt v w k e = omega (arith, e, nibble-lt (eqb (w % 4) v) (eqb (w / 256 % 4) v) (eqb (w / 65536 % 4) v) (eqb (w / 16777216 % 4) v))
-
 pub found-lt : (k u : ℕ → Bool) (x : ℕ) → x ≡ foundOf k u → x < 16
 found-lt k u x e = subst (λ (y : ℕ). y < 16) (sym e) (found-small k u)
 

@@ -13,7 +13,7 @@ use mir.Facts.{toZ-pos}
 use mir.Syntax.{w32}
 use mir.Val.{SFits, Fits, ofZ, toZ, boolByte}
 use Rattle.bits.specs.Bits.{digit}
-use Rattle.bits.proofs.Laws.{digit-le}
+use Rattle.bits.proofs.Laws.{digit-le, as-digit}
 use Rattle.coef.specs.Coef.{at}
 use Rattle.reading.specs.Reading.{newCode, moreCode}
 
@@ -26,10 +26,6 @@ level-one b h = omega (arith, level-small b h)
 
 pub level-two : (b : ℕ) → b < 24 → 2 * 2 ^ b % 4294967296 ≡ 2 * 2 ^ b
 level-two b h = mod-eq-of-lt (omega (arith, level-small b (omega arith)))
-
-pub as-digit : (x : Bool) → boolByte x ≡ digit x
-as-digit true = refl
-as-digit false = refl
 
 digit-small : (x : Bool) (b : ℕ) → b < 25 → digit x * 2 ^ b ≤ 16777216
 digit-small x b h = omega (arith, mul-le-mul (digit-le x) (level-small b h))

@@ -21,7 +21,7 @@ use Rattle.nls.proofs.Machine.Start as table
 use Rattle.moves.specs.Stands.{stateOf}
 use Rattle.moves.specs.declared.Stand.{Stand}
 use Rattle.moves.proofs.Passes.{pass-back}
-use Rattle.reading.proofs.ValueLaws.{as-digit}
+use Rattle.bits.proofs.Laws.{as-digit}
 use Rattle.steps.specs.Records.{recordAt, recordOf, isEnd, isWithin, inRange}
 use Rattle.steps.specs.declared.Record.{Record}
 

@@ -147,3 +147,15 @@ module _ {S : Type 0} (E : Scan S) where
           let e : leftAt (k - 1) ≡ leftAt k - 1 = omega arith in
           let f : passAt (k - 1) ≡ 0 = omega arith in
           subst (λ (l : ℕ). Resumes E l (passAt (k - 1)) 0 t X L) (sym e) (subst (λ (q : ℕ). Resumes E (leftAt k - 1) q 0 t X L) (sym f) (resume-plane E (leftAt k) (passAt k) place t X L r positive a (omega arith)))
+
+-- with k passes not finished the scan gets from place p and state t to place q and state u, with j not finished
+abbrev pub Carries : {S : Type 0} → Scan S → ℕ → ℕ → S → ℕ → ℕ → S → Type 0
+Carries {S} E k p t j q u = (X : Ran S) (L : ℕ) → Resumes E (leftAt k) (passAt k) p t X L → Resumes E (leftAt j) (passAt j) q u X L
+
+module _ {S : Type 0} (E : Scan S) (k₀ p₀ : ℕ) (t₀ : S) (k p : ℕ) (t : S) (c : Carries E k₀ p₀ t₀ k p t) where
+  pub carry-go : 0 < k → (q : ℕ) (u : S) → Leads E (leftAt k - 1) (passAt k) p t q u → Carries E k₀ p₀ t₀ k q u
+  carry-go h q u l X L r = resume-go E (leftAt k) (passAt k) p t X L (c X L r) (omega arith) q u l
+
+  -- the next pass
+  pub carry-next : (k₁ p₁ : ℕ) (t₁ : S) → Carries E k p t k₁ p₁ t₁ → 0 < k₁ → E .all ≤ p₁ → Carries E k₀ p₀ t₀ (k₁ - 1) 0 t₁
+  carry-next k₁ p₁ t₁ f h l X L r = resume-next E k₁ p₁ t₁ X L (f X L (c X L r)) h l

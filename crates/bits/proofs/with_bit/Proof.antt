@@ -7,13 +7,9 @@ use mir.Val.{boolByte}
 use lib.Pow.{pow-add, shr-le, shr-mod, shr-shr}
 use borrow.Author.Needs.{needs}
 use Rattle.bits.specs.Bits.{digit, byteWith}
-use Rattle.bits.proofs.Laws.{digit-le, byte-lt}
+use Rattle.bits.proofs.Laws.{digit-le, as-digit, byte-lt}
 use Rattle.bits.proofs.with_bit.Statement.{statement}
 use Rattle.bits.proofs.with_bit.Tie as tie
-
-as-digit : (x : Bool) → boolByte x ≡ digit x
-as-digit true = refl
-as-digit false = refl
 
 -- what the code computes, in 32 bits
 stored : (v k : ℕ) (x : Bool) → v < 256 → k < 8 → (v / 2 ^ (7 - k) / 2 * 2 + boolByte x) * 2 ^ (7 - k) % 4294967296 ≡ byteWith v k x

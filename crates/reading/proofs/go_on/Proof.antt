@@ -3,10 +3,10 @@ use mathlib.Core.Path.{_≡_, refl, _∙_}
 use mathlib.Core.Bool.{false}
 use native.Mathlib.Omega.{arith}
 use Rattle.walk.specs.Visits.{scanOf}
-use Rattle.walk.proofs.Turns.{resume-next}
+use Rattle.walk.proofs.Turns.{Carries, carry-next}
 use Rattle.reading.specs.Reading.{reader, st}
 use Rattle.reading.proofs.ReadTurns.{Fit, stops-here, falls-go}
-use Rattle.reading.proofs.Handing.{Comes, in-plane, goes-on, ends-stop, ends-bad, ends-over}
+use Rattle.reading.proofs.Handing.{in-plane, goes-on, ends-stop, ends-bad, ends-over}
 use Rattle.reading.proofs.go_on.Statement.{statement}
 use Rattle.reading.proofs.go_on.Tie as tie
 use Rattle.reading.proofs.go_on.Reads as reads
@@ -14,13 +14,13 @@ use Rattle.reading.proofs.go_on.Lts as lts
 use Rattle.reading.proofs.visit.Reads as visit-reads
 
 abbrev Inv-loop : tie.InvT-loop
-Inv-loop body marks₀ values₀ all coarsest top usable turn0 place0 n0 n₀ turn place₀ left₀ stop₀ bad₀ planes pass marks values n place left stop bad = (left ≡ 0) × (stop ≡ 0) × (bad ≡ false) × Fit marks₀ values₀ marks values usable n × Comes (scanOf (reader body usable all coarsest top) all) turn place₀ (st marks₀ values₀ n₀) turn place (st marks values n)
+Inv-loop body marks₀ values₀ all coarsest top usable turn0 place0 n0 n₀ turn place₀ left₀ stop₀ bad₀ planes pass marks values n place left stop bad = (left ≡ 0) × (stop ≡ 0) × (bad ≡ false) × Fit marks₀ values₀ marks values usable n × Carries (scanOf (reader body usable all coarsest top) all) turn place₀ (st marks₀ values₀ n₀) turn place (st marks values n)
 
 abbrev μ-loop : tie.MeasureT-loop
 μ-loop body marks₀ values₀ all coarsest top usable turn0 place0 n0 n₀ turn place₀ left₀ stop₀ bad₀ planes pass marks values n place left stop bad = (all - place) + (usable - n)
 
 abbrev Inv-scan : tie.InvT-scan
-Inv-scan body marks₀ values₀ all coarsest top usable turn0 place0 n0 n₀ turn₀ place₀ left₀ stop₀ bad₀ marks values n turn place left stop bad = (left ≡ 0) × (stop ≡ 0) × (bad ≡ false) × Fit marks₀ values₀ marks values usable n × (turn ≤ turn₀) × Comes (scanOf (reader body usable all coarsest top) all) turn₀ place₀ (st marks₀ values₀ n₀) turn place (st marks values n)
+Inv-scan body marks₀ values₀ all coarsest top usable turn0 place0 n0 n₀ turn₀ place₀ left₀ stop₀ bad₀ marks values n turn place left stop bad = (left ≡ 0) × (stop ≡ 0) × (bad ≡ false) × Fit marks₀ values₀ marks values usable n × (turn ≤ turn₀) × Carries (scanOf (reader body usable all coarsest top) all) turn₀ place₀ (st marks₀ values₀ n₀) turn place (st marks values n)
 
 abbrev μ-scan : tie.MeasureT-scan
 μ-scan body marks₀ values₀ all coarsest top usable turn0 place0 n0 n₀ turn₀ place₀ left₀ stop₀ bad₀ marks values n turn place left stop bad = turn
@@ -93,7 +93,7 @@ scan-again c = (
   c .before .loop .inv .2,
   record { marks = omega arith; values = omega arith; spent = omega arith },
   omega arith,
-  λ X L w. resume-next _ _ _ _ X L (c .before .loop .inv .4 X L (c .before .before .before .scan .inv .5 X L w)) (c .before .before .scan-test .taken) (c .loop-test .left),
+  carry-next _ _ _ _ _ _ _ (c .before .before .before .scan .inv .5) _ _ _ (c .before .loop .inv .4) (c .before .before .scan-test .taken) (c .loop-test .left),
 )
 
 same-length : tie.Need-same-length Inv-loop μ-loop Inv-scan μ-scan

@@ -6,7 +6,8 @@ use borrow.Author.Needs.{needs}
 use lib.ListN.{getD}
 use Rattle.marking.proofs.Laws.{skip-in}
 use Rattle.fours.specs.Words.{FourLow}
-use Rattle.encoder.proofs.SiblingSteps.{four-there, room-for, holds-eight, low-four, which-few, spread-few, low-few, found-few, sent-ready, leave, skip-pixels, no-pixels, found-pixels}
+use Rattle.fours.proofs.Laws.{low-fits, which-lt}
+use Rattle.encoder.proofs.SiblingSteps.{four-there, room-for, holds-eight, low-four, found-few, sent-ready, leave, skip-pixels, no-pixels, found-pixels}
 use Rattle.encoder.proofs.siblings.pixels.Statement.{statement}
 use Rattle.encoder.proofs.siblings.pixels.Tie as tie
 
@@ -54,7 +55,7 @@ low-so : (c : tie.Else3) → FourLow (c .before .before .before .before .before 
 low-so c = low-four _ _ _ _ _ _ _ _ _ (c .before .before .before .before .before .before .before .before .before .before .before .before .pre .0) _ (c .before .before .before .before .word-at .ensures .0) (c .before .before .before .before .word-at .ensures .1 (four-there _ _ _ _ _ _ _ _ _ (c .before .before .before .before .before .before .before .before .before .before .before .before .pre .0))) _ (c .before .low .ensures) (not-false _ (c .if3 .left))
 
 asked-few : (c : tie.After-ones) → c .ones .result < 16
-asked-few c = omega (arith, c .ones .ensures, which-few 1 (c .before .before .before .before .before .word-at .result))
+asked-few c = which-lt 1 (c .before .before .before .before .before .word-at .result) _ (c .ones .ensures)
 
 returns-4 : tie.Need-returns-4
 returns-4 c = let s = c .before .before .before .before .before .before .before .before .before .before .before .before .before .before in no-pixels _ _ _ _ _ _ _ _ _ _ _ (s .pre .0) _ (c .before .before .before .before .before .before .word-at .ensures .0) (c .before .before .before .before .before .before .word-at .ensures .1 (four-there _ _ _ _ _ _ _ _ _ (s .pre .0))) (low-so (c .before .before)) (sym (c .before .ones .ensures) ∙ c .if4 .taken)
@@ -81,7 +82,7 @@ spread-requires : tie.Need-spread-requires
 spread-requires c κs = search needs
 
 add-set-word : tie.Need-add-set-word
-add-set-word c = let s = c .before .before .before .before .before .before .before .before .before .before .before .before .before .before .before .before .before .before .before .before .before .before in omega (arith, c .spread .ensures, spread-few (c .before .before .before .before .before .before .before .key-of .result / 16), c .before .before .before .before .before .before .before .before .before .before .before .before .before .before .word-at .ensures .0, low-few (s .args .marks .now) (s .args .place) (four-there _ _ _ _ _ _ _ _ _ (s .pre .0)) (low-so (c .before .before .before .before .before .before .before .before .before .before)))
+add-set-word c = let s = c .before .before .before .before .before .before .before .before .before .before .before .before .before .before .before .before .before .before .before .before .before .before in omega (arith, c .spread .ensures, c .before .before .before .before .before .before .before .before .before .before .before .before .before .before .word-at .ensures .0, low-fits (s .args .marks .now) (s .args .place) (four-there _ _ _ _ _ _ _ _ _ (s .pre .0)) (low-so (c .before .before .before .before .before .before .before .before .before .before)) (c .before .before .before .before .before .before .before .key-of .result / 16))
 
 set-word-requires : tie.Need-set-word-requires
 set-word-requires c κs = search needs

@@ -6,7 +6,8 @@ use borrow.Author.Needs.{needs}
 use lib.ListN.{getD}
 use Rattle.marking.proofs.Laws.{skip-in}
 use Rattle.fours.specs.Words.{FourLow, withWord}
-use Rattle.encoder.proofs.SiblingSteps.{four-there, room-for, holds-eight, low-four, bits-few, which-few, picked-ready, leave, skip-refining, none-refined, found-refined}
+use Rattle.fours.proofs.Laws.{which-lt}
+use Rattle.encoder.proofs.SiblingSteps.{four-there, room-for, holds-eight, low-four, bits-few, picked-ready, leave, skip-refining, none-refined, found-refined}
 use Rattle.encoder.proofs.siblings.refine.Statement.{statement}
 use Rattle.encoder.proofs.siblings.refine.Tie as tie
 
@@ -57,7 +58,7 @@ low-so : (c : tie.Else4) → FourLow (c .before .before .before .before .before 
 low-so c = low-four _ _ _ _ _ _ _ _ _ (c .before .before .before .before .before .before .before .before .before .before .before .before .before .pre .0) _ (c .before .before .before .before .before .word-at .ensures .0) (c .before .before .before .before .before .word-at .ensures .1 (four-there _ _ _ _ _ _ _ _ _ (c .before .before .before .before .before .before .before .before .before .before .before .before .before .pre .0))) _ (c .before .low .ensures) (not-false _ (c .if4 .left))
 
 asked-few : (c : tie.After-threes) → c .threes .result < 16
-asked-few c = omega (arith, c .threes .ensures, which-few 3 (c .before .before .before .before .before .before .word-at .result))
+asked-few c = which-lt 3 (c .before .before .before .before .before .before .word-at .result) _ (c .threes .ensures)
 
 mul-e : tie.Need-mul-e
 mul-e c = omega (arith, asked-few c)

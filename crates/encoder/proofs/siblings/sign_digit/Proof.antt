@@ -4,9 +4,9 @@ use borrow.Author.Needs.{needs}
 use mir.Val.{boolByte}
 use lib.IntN.{ℤ, pos}
 use lib.ListN.{getD}
+use Rattle.bits.proofs.Laws.{as-digit}
 use Rattle.coef.specs.Coef.{negative, at}
 use Rattle.coef.proofs.Held.{read-back}
-use Rattle.encoder.proofs.SiblingSteps.{byte-of}
 use Rattle.encoder.proofs.siblings.sign_digit.Statement.{statement}
 use Rattle.encoder.proofs.siblings.sign_digit.Tie as tie
 
@@ -26,7 +26,7 @@ returns : tie.Need-returns
 returns c =
     let a = c .before .before .args in
     ap (λ (t : Bool). boolByte t) (c .is-negative .ensures ∙ ap (λ (z : ℤ). negative z) (read-back (getD (a .coefs .now) (a .place) (pos 0)) (c .before .z .given)))
-    ∙ byte-of (negative (at (a .coefs .now) (a .place)))
+    ∙ as-digit (negative (at (a .coefs .now) (a .place)))
 
 pub sign-digit-spec : {M : Type 1} → statement M
 sign-digit-spec =

@@ -2,8 +2,9 @@ use Prim.Native.Nat.{_+_, _-_, _≤_}
 use mathlib.Core.Path.{refl, _∙_}
 use native.Mathlib.Omega.{arith}
 use Rattle.walk.specs.Visits.{scanOf}
+use Rattle.walk.proofs.Turns.{Carries, carry-go, carry-next}
 use Rattle.encoder.specs.Writing.{writer, st}
-use Rattle.encoder.proofs.WriteTurns.{Fit, falls-go, turn-go, turn-stop, Carries, carry-go, carry-next, carry-over, carry-stop}
+use Rattle.encoder.proofs.WriteTurns.{Fit, falls-go, turn-go, turn-stop, carry-over, carry-stop}
 use Rattle.encoder.proofs.writing.go_on.Statement.{statement}
 use Rattle.encoder.proofs.writing.go_on.Tie as tie
 

@@ -1,8 +1,9 @@
 use Rattle.bits.specs.Bits.{bit}
 use Rattle.fours.specs.Tables.{inByte}
+use Rattle.fours.proofs.Laws.{which-lt}
 use Prim.Native.Nat.{_/_}
 use Rattle.reading.proofs.SiblingLaws.{end4-le}
-use Rattle.reading.proofs.SiblingSteps.{word-fits, asked-lt, found-lt, minus-lt}
+use Rattle.reading.proofs.SiblingSteps.{word-fits, found-lt, minus-lt}
 use mathlib.Core.Path.{_≡_, sym, _∙_}
 use native.Mathlib.Omega.{arith}
 use lib.ListN.{getD}
@@ -69,7 +70,7 @@ window-requires : tie.Need-window-requires
 window-requires c κs = search needs
 
 listen-requires : tie.Need-listen-requires
-listen-requires c κs = (c .before .before .before .before .before .before .before .before .before .before .before .before .pre .1, c .before .before .before .before .before .before .before .before .before .before .before .before .pre .2, asked-lt 1 (c .before .before .before .before .before .before .word-at .result) _ (c .before .before .ones .ensures), omega (arith, c .window .ensures .small))
+listen-requires c κs = (c .before .before .before .before .before .before .before .before .before .before .before .before .pre .1, c .before .before .before .before .before .before .before .before .before .before .before .before .pre .2, which-lt 1 (c .before .before .before .before .before .before .word-at .result) _ (c .before .before .ones .ensures), omega (arith, c .window .ensures .small))
 
 found-four-requires : tie.Need-found-four-requires
 found-four-requires c κs = (omega (arith, c .before .before .before .before .before .before .before .before .before .before .before .before .before .before .pre .0 .below, c .before .before .before .before .before .before .before .before .before .before .before .before .before .before .pre .0 .inValues), c .before .before .before .before .before .before .before .before .before .before .before .before .before .before .pre .3, c .before .before .before .before .before .before .before .before .before .before .before .before .before .before .pre .0 .plane, found-lt (bit (c .before .before .before .before .ones .result)) (inByte (c .before .before .window .result / 256)) _ (c .before .listen .ensures .1), minus-lt (bit (c .before .before .before .before .ones .result)) (inByte (c .before .before .window .result / 256)) _ (c .before .listen .ensures .2))

@@ -5,8 +5,8 @@ use lib.ListN.{getD}
 use Rattle.bits.specs.Bits.{bit}
 use Rattle.fours.specs.Tables.{inNibble, placedOf}
 use Rattle.marking.proofs.Laws.{skip-in}
-use Rattle.fours.proofs.Laws.{placed-entry}
-use Rattle.reading.proofs.SiblingSteps.{stays, skips-refining, no-refined-so, refined-so, asked-lt, placed-lt}
+use Rattle.fours.proofs.Laws.{placed-entry, which-lt}
+use Rattle.reading.proofs.SiblingSteps.{stays, skips-refining, no-refined-so, refined-so, placed-lt}
 use borrow.Author.Needs.{needs}
 use Rattle.reading.proofs.siblings.refine.Statement.{statement}
 use Rattle.reading.proofs.siblings.refine.Tie as tie
@@ -65,25 +65,25 @@ threes-requires : tie.Need-threes-requires
 threes-requires c κs = search needs
 
 mul-a : tie.Need-mul-a
-mul-a c = record { fits = omega (arith, asked-lt 3 (c .before .before .before .before .before .word-at .result) (c .threes .result) (c .threes .ensures)) }
+mul-a c = record { fits = omega (arith, which-lt 3 (c .before .before .before .before .before .word-at .result) (c .threes .result) (c .threes .ensures)) }
 
 window-requires : tie.Need-window-requires
 window-requires c κs = search needs
 
 add-a : tie.Need-add-a
-add-a c = record { fits = omega (arith, asked-lt 3 (c .before .before .before .before .before .before .word-at .result) (c .before .threes .result) (c .before .threes .ensures), c .window .ensures .small) }
+add-a c = record { fits = omega (arith, which-lt 3 (c .before .before .before .before .before .before .word-at .result) (c .before .threes .result) (c .before .threes .ensures), c .window .ensures .small) }
 
 cast-a : tie.Need-cast-a
 cast-a c = search needs
 
 element-copy-out-a : tie.Need-element-copy-out-a
-element-copy-out-a c = omega (arith, asked-lt 3 (c .before .before .before .before .before .before .word-at .result) (c .before .threes .result) (c .before .threes .ensures), c .window .ensures .small)
+element-copy-out-a c = omega (arith, which-lt 3 (c .before .before .before .before .before .before .word-at .result) (c .before .threes .result) (c .before .threes .ensures), c .window .ensures .small)
 
 cast-refined-four : tie.Need-cast-refined-four
-cast-refined-four c = record { fits = omega (arith, placed-entry (c .before .before .before .before .before .before .before .before .before .before .before .before .before .before .args .placed .now) (c .before .before .before .threes .result) (c .before .before .window .result / 4096) (c .before .before .before .before .before .before .before .before .before .before .before .before .before .before .pre .1) (asked-lt 3 (c .before .before .before .before .before .before .before .before .word-at .result) (c .before .before .before .threes .result) (c .before .before .before .threes .ensures)) (omega (arith, c .before .before .window .ensures .small)), placed-lt (bit (c .before .before .before .threes .result)) (inNibble (c .before .before .window .result / 4096))) }
+cast-refined-four c = record { fits = omega (arith, placed-entry (c .before .before .before .before .before .before .before .before .before .before .before .before .before .before .args .placed .now) (c .before .before .before .threes .result) (c .before .before .window .result / 4096) (c .before .before .before .before .before .before .before .before .before .before .before .before .before .before .pre .1) (which-lt 3 (c .before .before .before .before .before .before .before .before .word-at .result) (c .before .before .before .threes .result) (c .before .before .before .threes .ensures)) (omega (arith, c .before .before .window .ensures .small)), placed-lt (bit (c .before .before .before .threes .result)) (inNibble (c .before .before .window .result / 4096))) }
 
 refined-four-requires : tie.Need-refined-four-requires
-refined-four-requires c κs = (omega (arith, c .before .before .before .before .before .before .before .before .before .before .before .before .before .before .pre .0 .below, c .before .before .before .before .before .before .before .before .before .before .before .before .before .before .pre .0 .inValues), c .before .before .before .before .before .before .before .before .before .before .before .before .before .before .pre .2, c .before .before .before .before .before .before .before .before .before .before .before .before .before .before .pre .0 .plane, subst (λ (x : ℕ). x < 16) (sym (placed-entry (c .before .before .before .before .before .before .before .before .before .before .before .before .before .before .args .placed .now) (c .before .before .before .threes .result) (c .before .before .window .result / 4096) (c .before .before .before .before .before .before .before .before .before .before .before .before .before .before .pre .1) (asked-lt 3 (c .before .before .before .before .before .before .before .before .word-at .result) (c .before .before .before .threes .result) (c .before .before .before .threes .ensures)) (omega (arith, c .before .before .window .ensures .small)))) (placed-lt (bit (c .before .before .before .threes .result)) (inNibble (c .before .before .window .result / 4096))))
+refined-four-requires c κs = (omega (arith, c .before .before .before .before .before .before .before .before .before .before .before .before .before .before .pre .0 .below, c .before .before .before .before .before .before .before .before .before .before .before .before .before .before .pre .0 .inValues), c .before .before .before .before .before .before .before .before .before .before .before .before .before .before .pre .2, c .before .before .before .before .before .before .before .before .before .before .before .before .before .before .pre .0 .plane, subst (λ (x : ℕ). x < 16) (sym (placed-entry (c .before .before .before .before .before .before .before .before .before .before .before .before .before .before .args .placed .now) (c .before .before .before .threes .result) (c .before .before .window .result / 4096) (c .before .before .before .before .before .before .before .before .before .before .before .before .before .before .pre .1) (which-lt 3 (c .before .before .before .before .before .before .before .before .word-at .result) (c .before .before .before .threes .result) (c .before .before .before .threes .ensures)) (omega (arith, c .before .before .window .ensures .small)))) (placed-lt (bit (c .before .before .before .threes .result)) (inNibble (c .before .before .window .result / 4096))))
 
 refined-requires : tie.Need-refined-requires
 refined-requires c κs = search needs
@@ -110,7 +110,7 @@ same-length-5 : tie.Need-same-length-5
 same-length-5 c = search needs
 
 returns-5 : tie.Need-returns-5
-returns-5 c = refined-so _ _ _ _ _ _ _ _ _ _ _ (c .before .before .before .before .before .before .before .before .before .before .before .before .before .before .before .before .before .before .before .before .before .before .pre .0) _ (c .before .before .before .before .before .before .before .before .before .before .before .before .before .before .before .before .word-at .ensures .0) (c .before .before .before .before .before .before .before .before .before .before .before .before .before .before .before .before .word-at .ensures .1) _ (c .before .before .before .before .before .before .before .before .before .before .before .before .before .low .ensures) (c .before .before .before .before .before .before .before .before .before .before .before .before .if4 .left) _ (c .before .before .before .before .before .before .before .before .before .before .before .threes .ensures) _ (c .before .before .before .before .before .before .before .before .before .before .window .ensures) (omega (arith, c .before .before .before .before .before .before .before .before .before .before .before .before .before .before .if3 .left)) _ _ _ (c .count .ensures) (placed-entry (c .before .before .before .before .before .before .before .before .before .before .before .before .before .before .before .before .before .before .before .before .before .before .args .placed .now) (c .before .before .before .before .before .before .before .before .before .before .before .threes .result) (c .before .before .before .before .before .before .before .before .before .before .window .result / 4096) (c .before .before .before .before .before .before .before .before .before .before .before .before .before .before .before .before .before .before .before .before .before .before .pre .1) (asked-lt 3 (c .before .before .before .before .before .before .before .before .before .before .before .before .before .before .before .before .word-at .result) (c .before .before .before .before .before .before .before .before .before .before .before .threes .result) (c .before .before .before .before .before .before .before .before .before .before .before .threes .ensures)) (omega (arith, c .before .before .before .before .before .before .before .before .before .before .window .ensures .small))) (c .before .before .before .before .refined .ensures) _ _ (c .before .before .before .set-word .ensures) (c .before .before .before .before .before .before .before .refined-four .ensures .0) (c .before .before .before .before .before .before .before .refined-four .ensures .1)
+returns-5 c = refined-so _ _ _ _ _ _ _ _ _ _ _ (c .before .before .before .before .before .before .before .before .before .before .before .before .before .before .before .before .before .before .before .before .before .before .pre .0) _ (c .before .before .before .before .before .before .before .before .before .before .before .before .before .before .before .before .word-at .ensures .0) (c .before .before .before .before .before .before .before .before .before .before .before .before .before .before .before .before .word-at .ensures .1) _ (c .before .before .before .before .before .before .before .before .before .before .before .before .before .low .ensures) (c .before .before .before .before .before .before .before .before .before .before .before .before .if4 .left) _ (c .before .before .before .before .before .before .before .before .before .before .before .threes .ensures) _ (c .before .before .before .before .before .before .before .before .before .before .window .ensures) (omega (arith, c .before .before .before .before .before .before .before .before .before .before .before .before .before .before .if3 .left)) _ _ _ (c .count .ensures) (placed-entry (c .before .before .before .before .before .before .before .before .before .before .before .before .before .before .before .before .before .before .before .before .before .before .args .placed .now) (c .before .before .before .before .before .before .before .before .before .before .before .threes .result) (c .before .before .before .before .before .before .before .before .before .before .window .result / 4096) (c .before .before .before .before .before .before .before .before .before .before .before .before .before .before .before .before .before .before .before .before .before .before .pre .1) (which-lt 3 (c .before .before .before .before .before .before .before .before .before .before .before .before .before .before .before .before .word-at .result) (c .before .before .before .before .before .before .before .before .before .before .before .threes .result) (c .before .before .before .before .before .before .before .before .before .before .before .threes .ensures)) (omega (arith, c .before .before .before .before .before .before .before .before .before .before .window .ensures .small))) (c .before .before .before .before .refined .ensures) _ _ (c .before .before .before .set-word .ensures) (c .before .before .before .before .before .before .before .refined-four .ensures .0) (c .before .before .before .before .before .before .before .refined-four .ensures .1)
 
 pub refine-spec : {M : Type 1} → statement M
 refine-spec =
