@@ -1,16 +1,18 @@
 // Bits of a number, and of a byte slice: there the highest bit of each byte comes first.
+#![tactic(auto)]
+
 ghost use Rattle.std.specs.Prelude.{◌≡◌, ◌-◌, ◌%◌};
 ghost use Rattle.bits.specs.Bits.{bit, fetched, byte_with, with_bit};
 
 // Why there are no more bits: the declared count is reached, or the body is short of it.
-#[derive(Drop)]
+#[derive(Clone, Copy)]
 pub enum Why {
     Declared,
     Short,
 }
 
 // What a fetch answers: a bit, or that there are no more, and why.
-#[derive(Drop)]
+#[derive(Clone, Copy)]
 pub enum Next {
     Bit(bool),
     NoMore(Why),

@@ -1,1 +1,2 @@
 // The encoder and the decoder of a body together: theorems, no code.
+#![tactic(auto)]

@@ -1,4 +1,6 @@
 // Coefficients: sign and magnitude, the limit, planes, the float.
+#![tactic(auto)]
+
 ghost use Rattle.std.specs.Prelude.{◌≡◌, map, ◌≤◌, ◌<◌, ◌^◌, eqb, length};
 ghost use Rattle.sizes.specs.Sizes.{limit};
 ghost use Rattle.bits.specs.Bits.{or_all};
@@ -7,25 +9,25 @@ ghost use Rattle.coef.specs.Coef.{negative, magnitude, signed, within, parted_of
 use refusals::Refusal;
 use sizes::LIMIT;
 
-#[derive(Drop)]
+#[derive(Clone, Copy)]
 pub struct Signed {
     pub negative: bool,
     pub magnitude: u32,
 }
 
-#[derive(Drop)]
+#[derive(Clone, Copy)]
 pub enum Parted {
     Is(Signed),
     TooLarge,
 }
 
-#[derive(Drop)]
+#[derive(Clone, Copy)]
 pub enum Joined {
     Is(i32),
     TooLarge,
 }
 
-#[derive(Drop)]
+#[derive(Clone, Copy)]
 pub enum Float {
     Is(f32),
     Refused(Refusal),

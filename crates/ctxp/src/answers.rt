@@ -9,7 +9,7 @@ use decoder::Ending;
 use refusals::{Outcome, Refusal};
 
 // The numbers that a call answers, in the order of the header's `txp_answer`. Those that it does not speak of are 0.
-#[derive(Drop)]
+#[derive(Clone, Copy)]
 pub struct Answer {
     pub refusal: u32,
     pub place: u32,

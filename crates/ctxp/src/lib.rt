@@ -1,5 +1,7 @@
 // The calls of the base for programs in C: `include/txp.h` declares them.
 // Each gives back the number of the refusal, 0 where it was done, and puts every other number into the lent answer.
+#![tactic(auto)]
+
 mod answers;
 mod dials;
 

@@ -1,4 +1,6 @@
 // Whole numbers as text: their characters to base 10, put into a lent buffer as far as there is room.
+#![tactic(auto)]
+
 ghost use Rattle.std.specs.Prelude.{◌+◌, ◌≤◌, ◌<◌, ◌≡◌, length, set};
 ghost use Rattle.std.proofs.lemmas.List.Edits.{sets};
 ghost use Rattle.decimal.specs.Decimal.{figure, minus, decimal, signed_decimal};

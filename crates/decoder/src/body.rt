@@ -12,7 +12,7 @@ use bits::Next;
 use refusals::{Outcome, Refusal};
 
 // The bits used, the planes finished, the worst error, and why the bits ended.
-#[derive(Drop)]
+#[derive(Clone, Copy)]
 pub struct ReadTo {
     pub used: u32,
     pub finished: u32,
@@ -21,7 +21,7 @@ pub struct ReadTo {
 }
 
 // What the calls answer.
-#[derive(Drop)]
+#[derive(Clone, Copy)]
 pub enum ReadAnswer {
     Done(ReadTo),
     Refused(Refusal),

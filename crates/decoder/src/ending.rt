@@ -5,7 +5,7 @@ ghost use Rattle.decoder.specs.Ending.{word_of, whole_or};
 use bits::{Next, Why};
 
 // The last plane ended, or there is none; else the declared count was reached, or the file is short of it; else bits go on.
-#[derive(Drop)]
+#[derive(Clone, Copy)]
 pub enum Ending {
     Whole,
     Budget,

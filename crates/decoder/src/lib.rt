@@ -1,4 +1,6 @@
 // The decoder of a body.
+#![tactic(auto)]
+
 mod body;
 mod ending;
 mod finish;

@@ -4,7 +4,7 @@ ghost use Rattle.sizes.specs.Sizes.{limit, most_planes};
 ghost use Rattle.decoder.specs.Rules.{rule_of};
 
 // Known bits stand for themselves, or for the middle of what they leave open.
-#[derive(Drop)]
+#[derive(Clone, Copy)]
 pub enum Rule {
     Lower,
     Midpoint,

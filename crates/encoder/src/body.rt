@@ -10,14 +10,14 @@ ghost use Rattle.encoder.specs.Body.{sent_bits, sent_marks, loan, Writes};
 use refusals::{Outcome, Refusal};
 
 // The planes of the array, and the bits written.
-#[derive(Drop)]
+#[derive(Clone, Copy)]
 pub struct Written {
     pub planes: u32,
     pub bits: u32,
 }
 
 // What `encode` answers.
-#[derive(Drop)]
+#[derive(Clone, Copy)]
 pub enum WriteAnswer {
     Done(Written),
     Refused(Refusal),

@@ -1,4 +1,6 @@
 // The encoder of a body.
+#![tactic(auto)]
+
 mod body;
 mod siblings;
 mod sinks;
@@ -7,14 +9,14 @@ mod writing;
 pub use body::{WriteAnswer, Written, encode};
 
 // What a visit of the encoder leaves to do: nothing, for want of a bit, or to go on. In both the number of bits put, then the place: where it stopped, or where to go on.
-#[derive(Drop)]
+#[derive(Clone, Copy)]
 pub enum Step {
     Stop(usize, usize),
     Go(usize, usize),
 }
 
 // Bits on their way out: n of them are held in a number below 2^n, and `at` whole bytes are written.
-#[derive(Drop)]
+#[derive(Clone, Copy)]
 pub struct Sink {
     pub acc: u64,
     pub n: usize,
@@ -22,7 +24,7 @@ pub struct Sink {
 }
 
 // Where a step over four places leads: whether it goes on there, with what is held.
-#[derive(Drop)]
+#[derive(Clone, Copy)]
 pub struct Went {
     pub on: bool,
     pub sink: Sink,
@@ -30,7 +32,7 @@ pub struct Went {
 }
 
 // Where the scan goes on: the bits put, the passes not finished, and the place.
-#[derive(Drop)]
+#[derive(Clone, Copy)]
 pub struct Reached {
     pub n: usize,
     pub turn: u32,

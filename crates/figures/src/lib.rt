@@ -1,4 +1,6 @@
 // The figures of one plane and of all planes, from the values alone: the parts that stand after a plane, the sets split in it, the coefficients found in it, and the bits that these make.
+#![tactic(auto)]
+
 ghost use Rattle.std.specs.Prelude.{◌+◌, ◌*◌, ◌/◌, ◌<◌, ◌≤◌, ◌^◌, ◌≡◌, true, [], ◌∷◌, ◌++◌, leb, length, get_or, set};
 ghost use Rattle.std.specs.Int.Count.{count_leading_zeros};
 ghost use Rattle.refusals.specs.Checks.{need, first_failing, lent_after};
@@ -17,7 +19,7 @@ use sizes::MOST_PLANES;
 // Four numbers for each plane.
 const ALL_FIGURES: usize = 96;
 
-#[derive(Drop)]
+#[derive(Clone, Copy)]
 pub struct Figures {
     pub parts: u32,
     pub splits: u32,
@@ -25,7 +27,7 @@ pub struct Figures {
     pub found: u32,
 }
 
-#[derive(Drop)]
+#[derive(Clone, Copy)]
 pub enum FiguresAnswer {
     Done(Figures),
     Refused(Refusal),
@@ -80,7 +82,7 @@ fn count_large(level: u32, values: &[i32]) -> u32
 }
 
 // How many reach a level: of DESC, of its entries that have one in GRAND, of GRAND, and of the magnitudes.
-#[derive(Drop)]
+#[derive(Clone, Copy)]
 struct Reach {
     descs: u32,
     inner: u32,

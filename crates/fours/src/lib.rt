@@ -1,4 +1,6 @@
 // Four marks as one number, and the tables for four coefficients by themselves.
+#![tactic(auto)]
+
 mod tables;
 
 ghost use Rattle.std.specs.Prelude.{◌≡◌, Bool, ◌+◌, ◌≤◌, length};

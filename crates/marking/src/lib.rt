@@ -1,4 +1,6 @@
 // The table of marks: skips, splits, and the table before the first bit.
+#![tactic(auto)]
+
 ghost use Rattle.std.specs.Prelude.{◌≡◌, cond, ◌+◌, ◌*◌, ◌%◌, ◌<◌, ◌≤◌, leb, length, replicate, set};
 ghost use Rattle.sizes.specs.Sizes.{most_n, all_of};
 ghost use Rattle.nls.specs.Marks.{start_marks};

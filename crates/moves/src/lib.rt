@@ -1,4 +1,6 @@
 // The scan, one answer at a time: what an answer does to the marks, and the silent moves after it.
+#![tactic(auto)]
+
 ghost use Rattle.std.specs.Prelude.{◌≡◌, true, false, cond, ◌||◌, ◌+◌, ◌<◌, ◌≤◌, min, eqb, length, get_or, set};
 ghost use Rattle.sizes.specs.Sizes.{most_n, all_of};
 ghost use Rattle.nls.specs.Marks.{MIP, MNP, MSP, skip};
@@ -7,7 +9,7 @@ ghost use Rattle.moves.specs.Stands.{pass_of, stand, state_of, stand_of};
 ghost use Rattle.moves.specs.Moves.{told, onward, Moves, Passed, stand_fits};
 
 // Where the scan stands: the planes that are not finished, the pass (0, 1 or 2), the place, and whether a sign is pending.
-#[derive(Drop)]
+#[derive(Clone, Copy)]
 pub struct Stand {
     pub left: u32,
     pub pass: u32,
@@ -16,7 +18,7 @@ pub struct Stand {
 }
 
 // What the scan does next: it rests, at a question or at its end, or goes on to these planes left, pass and place.
-#[derive(Drop)]
+#[derive(Clone, Copy)]
 pub enum Ahead {
     Rests,
     Goes(u32, u32, usize),

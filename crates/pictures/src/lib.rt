@@ -1,1 +1,2 @@
 // The transform and the file together: theorems, no code.
+#![tactic(auto)]

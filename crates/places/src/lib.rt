@@ -1,4 +1,6 @@
 // Raster and linear places: the change between the two orders, of one place and of whole arrays.
+#![tactic(auto)]
+
 mod tables;
 
 ghost use Rattle.std.specs.Prelude.{◌≡◌, ◌+◌, ◌≤◌, ◌<◌, ◌^◌, pos, length, get_or, set};
@@ -12,19 +14,19 @@ ghost use Rattle.places.specs.Answers.{place_checks, reorder_checks, raster_if, 
 use refusals::{Outcome, Refusal};
 
 // A place in raster order, and one in linear order.
-#[derive(Drop)]
+#[derive(Clone, Copy)]
 pub struct Raster(u32);
 
-#[derive(Drop)]
+#[derive(Clone, Copy)]
 pub struct Linear(u32);
 
-#[derive(Drop)]
+#[derive(Clone, Copy)]
 pub enum RasterAnswer {
     Place(Raster),
     Refused(Refusal),
 }
 
-#[derive(Drop)]
+#[derive(Clone, Copy)]
 pub enum LinearAnswer {
     Place(Linear),
     Refused(Refusal),

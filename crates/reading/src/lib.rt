@@ -1,5 +1,7 @@
 // The decoder's scan: visits, passes, planes.
 // While it runs a known value is kept as a code: twice its magnitude, and 1 more where it is below 0.
+#![tactic(auto)]
+
 mod siblings;
 mod values;
 
@@ -16,7 +18,7 @@ use bits::Next;
 
 // What a visit of the decoder leaves to do: nothing, for want of a bit or because the next one fits no array, or to go on.
 // In each the number of bits used comes first, and then the place: where it stopped, or where to go on.
-#[derive(Drop)]
+#[derive(Clone, Copy)]
 pub enum Turn {
     Stop(usize, usize),
     Bad(usize, usize),
@@ -24,7 +26,7 @@ pub enum Turn {
 }
 
 // Where a step over four places leads: whether it goes on there, and the bits used.
-#[derive(Drop)]
+#[derive(Clone, Copy)]
 pub struct Went {
     pub on: bool,
     pub n: usize,
@@ -32,7 +34,7 @@ pub struct Went {
 }
 
 // Where the scan goes on: the bits used, the passes not finished, and the place.
-#[derive(Drop)]
+#[derive(Clone, Copy)]
 pub struct Handed {
     pub n: usize,
     pub turn: u32,
@@ -41,7 +43,7 @@ pub struct Handed {
 
 // Where the decoder's scan ended: the bits used, the planes not finished, where it stopped in its plane (pass times I, and the place), and
 // whether the next bit fits no array.
-#[derive(Drop)]
+#[derive(Clone, Copy)]
 pub struct Reached {
     pub bits: usize,
     pub left: u32,

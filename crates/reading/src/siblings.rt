@@ -13,7 +13,7 @@ use crate::values::{found_four, refined_four, window};
 use crate::{Handed, Went};
 
 // What eight bits say of the four of k: how many are used, which are found, and which of these have a minus.
-#[derive(Drop)]
+#[derive(Clone, Copy)]
 struct Heard {
     used: usize,
     found: usize,

@@ -1,8 +1,10 @@
 // The numbers for no: one case for each line of document 01's table, and for each that document 02 adds. A case holds the place that it reports, where that is not always 0.
+#![tactic(auto)]
+
 ghost use Rattle.std.specs.Prelude.{◌≡◌};
 ghost use Rattle.refusals.specs.Refusals.{number_of, place_of};
 
-#[derive(Drop)]
+#[derive(Clone, Copy)]
 pub enum Refusal {
     // 1: N out of range
     Side,
@@ -43,7 +45,7 @@ pub enum Refusal {
 }
 
 // The answer of a call that gives back nothing else: done, or refused.
-#[derive(Drop)]
+#[derive(Clone, Copy)]
 pub enum Outcome {
     Done,
     Refused(Refusal),

@@ -1,4 +1,6 @@
 // The checks of the calls on a body, and the numbers that they compare: the worst body, the room in the output, the usable bits.
+#![tactic(auto)]
+
 ghost use Rattle.std.specs.Prelude.{◌≡◌, true, ◌++◌, ◌+◌, ◌*◌, ◌≤◌, min, leb};
 ghost use Rattle.refusals.specs.Checks.{first_failing};
 ghost use Rattle.sizes.specs.Sizes.{side_fits, levels_fit, most_planes};
@@ -9,7 +11,7 @@ ghost use Rattle.room.specs.Room.{worst_checks, worst_answer, most_bits, room_ch
 use refusals::{Outcome, Refusal};
 
 // What `worst_body` answers.
-#[derive(Drop)]
+#[derive(Clone, Copy)]
 pub enum WorstAnswer {
     Bits(u32),
     Refused(Refusal),

@@ -1,4 +1,6 @@
 // Runs the samples of document 01 that are not among the proved ones, and the ends of N by document 02, and prints what the calls answer.
+#![tactic(auto)]
+
 use libc::STDOUT_FILENO;
 use refusals::Refusal;
 use txp::{DecodeAnswer, EncodeAnswer, HeaderAnswer};

@@ -5,7 +5,7 @@ use crate::{stepping, transforming};
 pub const UNKNOWN: u32 = 99;
 
 // A case: its letter, the numbers that go in, and the place in the line behind the numbers that are expected.
-#[derive(Drop)]
+#[derive(Clone, Copy)]
 pub struct Case {
     pub letter: u8,
     pub a: u32,

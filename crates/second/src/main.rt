@@ -1,4 +1,6 @@
 // Holds the calls for C to the cases of an independent second coder, which are read on standard input. tests/VECTORS.md has their format.
+#![tactic(auto)]
+
 mod calls;
 mod stepping;
 mod tables;
@@ -24,7 +26,7 @@ const ALL: usize = 262208;
 const FEW: usize = 65600;
 
 // What became of a line, and the letter of its case.
-#[derive(Drop)]
+#[derive(Clone, Copy)]
 enum Verdict {
     Remark,
     Malformed,
@@ -33,7 +35,7 @@ enum Verdict {
 }
 
 // The lengths lent of a case's tables, and the place in the line behind them.
-#[derive(Drop)]
+#[derive(Clone, Copy)]
 struct Loan {
     desc: usize,
     grand: usize,
@@ -44,7 +46,7 @@ struct Loan {
 }
 
 // The lengths of a case's arrays, and the place in the line behind them.
-#[derive(Drop)]
+#[derive(Clone, Copy)]
 struct Given {
     ints: usize,
     file: usize,
@@ -52,21 +54,21 @@ struct Given {
 }
 
 // The result of a call, and whether it and the answer are as expected.
-#[derive(Drop)]
+#[derive(Clone, Copy)]
 struct Made {
     result: u32,
     agrees: bool,
 }
 
 // How far a line was compared, and whether all was as expected.
-#[derive(Drop)]
+#[derive(Clone, Copy)]
 struct Step {
     at: usize,
     agrees: bool,
 }
 
 // A line in the window: its place, its end, which is that of all that is held where it has no newline, and how much is held.
-#[derive(Drop)]
+#[derive(Clone, Copy)]
 struct Line {
     at: usize,
     end: usize,

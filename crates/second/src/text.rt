@@ -5,14 +5,14 @@ ghost use Rattle.std.specs.Prelude.{◌≤◌};
 pub const NOWHERE: usize = 18446744073709551615;
 
 // A number of 32 bits, and the place behind it. One below 0 is the 32 bits of its complement.
-#[derive(Drop)]
+#[derive(Clone, Copy)]
 pub struct Number {
     pub value: u32,
     pub at: usize,
 }
 
 // An item of a list: a number, or, where `back` is not 0, the one that stands so many places before; how many times it stands, and the place behind it.
-#[derive(Drop)]
+#[derive(Clone, Copy)]
 pub struct Item {
     pub value: u32,
     pub back: usize,
@@ -21,7 +21,7 @@ pub struct Item {
 }
 
 // How many numbers a list has, and the place behind it.
-#[derive(Drop)]
+#[derive(Clone, Copy)]
 pub struct Listed {
     pub count: usize,
     pub at: usize,

@@ -1,4 +1,6 @@
 // What is shown of a file, as text in a lent buffer. Each inner function puts its text from entry `at` on, as far as there is room, and answers the entry behind it.
+#![tactic(auto)]
+
 ghost use Rattle.std.specs.Prelude.{◌+◌, ◌*◌, ◌≤◌, ◌<◌, ◌^◌, ◌≡◌, [], ◌∷◌, ◌++◌, map, length, set, take};
 ghost use Rattle.sizes.specs.Sizes.{all_of, most_planes};
 ghost use Rattle.places.specs.Order.{rasterly};

@@ -1,4 +1,6 @@
 // The sizes of document 01, and the checks behind refusals 1 to 3.
+#![tactic(auto)]
+
 ghost use Rattle.std.specs.Prelude.{◌≡◌, ◌&&◌, cond, ◌^◌, ◌≤◌, min};
 ghost use Rattle.refusals.specs.Checks.{first_failing};
 ghost use Rattle.sizes.specs.Sizes.{side_fits, levels_fit, all_of, coarsest_of, most_n};

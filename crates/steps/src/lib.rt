@@ -1,4 +1,6 @@
 // The stepped decoder: one bit forward or one back, in place, and a dial that turns by such steps.
+#![tactic(auto)]
+
 mod by_value;
 mod moving;
 mod records;
@@ -12,7 +14,7 @@ use decoder::ReadAnswer;
 
 // The scan record: the sizes, the plane in progress, the pass (0, 1 or 2), the place, the bits used, and whether a sign is pending (1) or
 // not (0). At the end, and for P = 0, it is plane 0, pass 2, place I.
-#[derive(Drop)]
+#[derive(Clone, Copy)]
 pub struct Record {
     pub n: u32,
     pub l: u32,
@@ -25,14 +27,14 @@ pub struct Record {
 }
 
 // What a step answers, and the record after it.
-#[derive(Drop)]
+#[derive(Clone, Copy)]
 pub struct Stepped {
     pub dial: Record,
     pub answer: ReadAnswer,
 }
 
 // What is asked where the scan stands: nothing, a sign, the bit of a coefficient that is not found, a refinement bit, a DESC or a GRAND.
-#[derive(Drop)]
+#[derive(Clone, Copy)]
 pub enum Asked {
     Nothing,
     Sign,

@@ -8,7 +8,7 @@ ghost use Rattle.coef.specs.Coef.{at};
 ghost use Rattle.transform.specs.Quads.{apart, joined, block, bands, unbands, onward, widest, widest_coarse};
 
 // Four numbers: those of a block, row by row; or one of each quarter.
-#[derive(Drop)]
+#[derive(Clone, Copy)]
 struct Quad {
     tl: i32,
     tr: i32,

@@ -1,4 +1,6 @@
 // The reversible integer S transform, both ways. Samples are put into linear order once; then a level is one walk over blocks (`blocks`), and the next is of the first quarter alone.
+#![tactic(auto)]
+
 mod blocks;
 
 ghost use Rattle.std.specs.Prelude.{◌≡◌, true, ◌&&◌, ◌∷◌, [], ℕ, ◌≤◌, ◌<◌, leb, nat_abs, pos, length, replicate};

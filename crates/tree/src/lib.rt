@@ -1,4 +1,6 @@
 // The summaries: the bitwise OR of the magnitudes over DESC and GRAND of each place.
+#![tactic(auto)]
+
 ghost use Rattle.std.specs.Prelude.{◌+◌, ◌*◌, ◌/◌, ◌<◌, ◌≤◌, ◌++◌, ◌≡◌, length, drop};
 ghost use Rattle.refusals.specs.Checks.{first_failing, lent_after};
 ghost use Rattle.sizes.specs.Sizes.{all_of, coarsest_of};

@@ -1,4 +1,6 @@
 // The TXP file: its header, and the public calls.
+#![tactic(auto)]
+
 ghost use Rattle.std.specs.Prelude.{◌≡◌, true, ◌++◌, ◌<◌, ◌≤◌, length, get_or, set, drop};
 ghost use Rattle.std.proofs.lemmas.List.Edits.{sets};
 ghost use Rattle.refusals.specs.Checks.{first_failing};
@@ -19,7 +21,7 @@ use refusals::{Outcome, Refusal};
 pub const HEADER_SIZE: usize = 12;
 
 // What a header says, but for letters and version.
-#[derive(Drop)]
+#[derive(Clone, Copy)]
 pub struct Header {
     pub n: u32,
     pub l: u32,
@@ -28,14 +30,14 @@ pub struct Header {
 }
 
 // What `read_header` answers.
-#[derive(Drop)]
+#[derive(Clone, Copy)]
 pub enum HeaderAnswer {
     Done(Header),
     Refused(Refusal),
 }
 
 // The planes of the array, the bits written, and the bytes of the file.
-#[derive(Drop)]
+#[derive(Clone, Copy)]
 pub struct Encoded {
     pub planes: u32,
     pub bits: u32,
@@ -43,14 +45,14 @@ pub struct Encoded {
 }
 
 // What `encode` answers.
-#[derive(Drop)]
+#[derive(Clone, Copy)]
 pub enum EncodeAnswer {
     Done(Encoded),
     Refused(Refusal),
 }
 
 // What the header says, the bits used, the planes finished, the worst error, and why the bits ended.
-#[derive(Drop)]
+#[derive(Clone, Copy)]
 pub struct Decoded {
     pub n: u32,
     pub l: u32,
@@ -63,7 +65,7 @@ pub struct Decoded {
 }
 
 // What `decode` and `decode_midpoint` answer.
-#[derive(Drop)]
+#[derive(Clone, Copy)]
 pub enum DecodeAnswer {
     Done(Decoded),
     Refused(Refusal),

@@ -1,11 +1,13 @@
 // Shows one TXP file that is read on standard input. The text is that of crate `show`, and is written at once; where a read fails nothing is written.
+#![tactic(auto)]
+
 ghost use Rattle.std.specs.Prelude.{length};
 ghost use Rattle.txpshow.specs.Input.{Within};
 
 use libc::{STDIN_FILENO, STDOUT_FILENO};
 
 // The bytes that were read up to the end of standard input or of the room for them; or that a read failed.
-#[derive(Drop)]
+#[derive(Clone, Copy)]
 enum Input {
     Read(usize),
     Failed,

@@ -1,4 +1,6 @@
 // One bit back: the state of the scan before its last answer, from marks and values alone.
+#![tactic(auto)]
+
 ghost use Rattle.std.specs.Prelude.{◌≡◌, Bool, true, ◌&&◌, ◌||◌, not, cond, ℕ, ◌+◌, ◌*◌, ◌-◌, ◌%◌, ◌<◌, ◌≤◌, ltb, leb, eqb, length, get_or, set};
 ghost use Rattle.sizes.specs.Sizes.{most_n, most_planes, all_of};
 ghost use Rattle.nls.specs.Marks.{no_mark, MIP, MNP, MSP, MCP, MD, MG, MN, push_from};
@@ -11,7 +13,7 @@ ghost use Rattle.undo.specs.Undoing.{Was, Hushed, four_found, any_big, is_new, S
 use moves::Stand;
 
 // What led to where the scan stands: nothing, a silent move from these planes left, pass and place, or an answer.
-#[derive(Drop)]
+#[derive(Clone, Copy)]
 pub enum Before {
     Nothing,
     Quiet(u32, u32, usize),

@@ -1,11 +1,13 @@
 // A view of a body's bits. Each function over it is thin: the work is done on the slice and the numbers.
+#![tactic(auto)]
+
 ghost use Rattle.std.specs.Prelude.{◌≡◌};
 ghost use Rattle.view.specs.View.{viewed, moved_to, view_of, past};
 
 use bits::{Next, Why, fetch};
 
 // The lent body, the number of the next bit, and the declared count.
-#[derive(Drop)]
+#[derive(Clone, Copy)]
 pub struct BitView<'a> {
     pub body: &'a [u8],
     pub at: usize,
@@ -13,7 +15,7 @@ pub struct BitView<'a> {
 }
 
 // A bit, or why there are no more, and the number of the next bit.
-#[derive(Drop)]
+#[derive(Clone, Copy)]
 struct Taken {
     next: Next,
     at: usize,
