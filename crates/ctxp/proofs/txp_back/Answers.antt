@@ -1,0 +1,8 @@
+use Rattle.steps.specs.Steps.{Backs}
+use Rattle.ctxp.proofs.Laws.{answers_by, step_from}
+use Rattle.ctxp.proofs.txp_back.Goals as goal
+
+pub returns : goal.returns
+returns c = let a = c.args in
+    let step = c.take_back-done in
+    record { said = step.result.answer; moved = step.result.dial; backs = step_from (Backs a.declared a.body.now) c.dial_of-from.ensures step.ensures; recorded = c.put_dial.ensures; answers = answers_by c.put.result _ c.of_read.ensures c.put.ensures }

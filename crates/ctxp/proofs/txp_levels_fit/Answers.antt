@@ -1,0 +1,9 @@
+use mathlib.Core.Bool.{Bool}
+use mathlib.Core.Path.{ap, ◌∙◌}
+use Rattle.bits.specs.Bits.{digit}
+use Rattle.ctxp.specs.Answers.{of_value}
+use Rattle.ctxp.proofs.Laws.{answers_by}
+use Rattle.ctxp.proofs.txp_levels_fit.Goals as goal
+
+pub returns : goal.returns
+returns c = answers_by c.put.result _ (c.of_bool.ensures ∙ ap (λ (t : Bool). of_value (digit t)) c.sizes_fit-done.ensures) c.put.ensures

@@ -1,0 +1,12 @@
+use Rattle.fours.proofs.tables.sent_table.Goals as goal
+-- The table of what is sent of four coefficients is tested here, whole, by computation.
+use mathlib.Core.Path.{refl}
+use Rattle.sizes.specs.Tables.{table}
+use Rattle.bits.specs.Bits.{bit}
+use Rattle.fours.specs.Tables.{value_of, sent_table}
+use Rattle.fours.proofs.tables.sent_table.Statement.{statement}
+use Rattle.fours.proofs.tables.sent_table.Tie as tie
+
+pub returns : goal.returns
+unfolding table bit value_of sent_table
+returns c = refl

@@ -1,0 +1,4 @@
+use Rattle.marking.proofs.new_desc.Goals as goal
+
+pub returns : goal.returns
+returns c = cc

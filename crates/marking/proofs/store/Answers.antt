@@ -1,0 +1,6 @@
+use mathlib.Core.Path.{sym}
+use lib.Seq.{set_out}
+use Rattle.marking.proofs.store.Goals as goal
+
+pub returns-else-place-marks : goal.returns-else-place-marks
+returns-else-place-marks c = sym (set_out _ _ _ c.if-place-marks.false)

@@ -1,0 +1,17 @@
+use mathlib.Core.Path.{sym, ◌∙◌}
+use native.Mathlib.Omega.{arith}
+use lib.ListN.{length}
+use Rattle.moves.proofs.Tells.{fits_both, tells_pass, goes_on, stays}
+use Rattle.moves.proofs.go_on.Goals as goal
+
+pub tell-told-requires : goal.tell-told-requires
+tell-told-requires c = fits_both (length c.args.marks.now) c.args.from (sym c.stand_fits.ensures ∙ c.if-stand_fits.true)
+
+pub rest-requires : goal.rest-requires
+rest-requires c = (omega arith, (fits_both (length c.args.marks.now) c.args.from (sym c.stand_fits.ensures ∙ c.if-stand_fits.true)).1, tells_pass (length c.args.marks.now) c.args.from c.args.marks.now c.args.bit _ c.tell-told.ensures.stand)
+
+pub returns-then-stand_fits : goal.returns-then-stand_fits
+returns-then-stand_fits c = goes_on (length c.args.marks.now) c.args.from c.args.marks.now c.args.bit _ _ _ _ (sym c.stand_fits.ensures ∙ c.if-stand_fits.true) c.tell-told.ensures c.rest.ensures.stand c.rest.ensures.marked
+
+pub returns : goal.returns
+returns c = stays (length c.args.marks.now) c.args.from c.args.marks.now c.args.bit c.args.from (sym c.stand_fits.ensures ∙ c.if-stand_fits.false)

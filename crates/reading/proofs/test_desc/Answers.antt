@@ -1,0 +1,26 @@
+use native.Mathlib.Omega.{arith}
+use lib.Dec.{lit≤}
+use Rattle.marking.proofs.Laws.{split_desc_so}
+use Rattle.reading.proofs.ReadLaws.{told_bit, told_none, tested_none, tested_one, tested_bad, tested_zero}
+use Rattle.reading.proofs.test_desc.Goals as goal
+
+pub overflow_add-result : goal.overflow_add-result
+overflow_add-result c = omega (arith, (told_bit c.args.body.now c.args.n c.args.usable c.read.ensures _ c.in-Bit.is).0, c.ranges.usable.fits)
+
+pub returns-then-x : goal.returns-then-x
+returns-then-x c = let b = told_bit c.args.body.now c.args.n c.args.usable c.read.ensures _ c.in-Bit.is in
+    tested_one _ _ _ _ _ _ _ _ _ _ _ _ _ tt _ b.1 b.0 _ c.if-x.true (split_desc_so _ _ c.args.marks.now _ c.split_desc.ensures c.requires.1 c.requires.5.near c.requires.0)
+
+pub returns-then-desc_clash : goal.returns-then-desc_clash
+returns-then-desc_clash c = let b = told_bit c.args.body.now c.args.n c.args.usable c.read.ensures _ c.in-Bit.is in
+    tested_bad _ _ _ _ _ _ _ _ _ _ _ _ _ tt _ b.1 b.0 c.if-x.false _ c.desc_clash.ensures c.if-desc_clash.true
+
+pub overflow_add-result-in-Bit : goal.overflow_add-result-in-Bit
+overflow_add-result-in-Bit c = omega (arith, (told_bit c.args.body.now c.args.n c.args.usable c.read.ensures _ c.in-Bit.is).0, c.ranges.usable.fits)
+
+pub returns-else-desc_clash : goal.returns-else-desc_clash
+returns-else-desc_clash c = let b = told_bit c.args.body.now c.args.n c.args.usable c.read.ensures _ c.in-Bit.is in
+    tested_zero _ _ _ _ _ _ _ _ _ _ _ _ _ tt _ b.1 b.0 (lit≤ tt) c.if-x.false _ c.desc_clash.ensures c.if-desc_clash.false
+
+pub returns-in-NoMore : goal.returns-in-NoMore
+returns-in-NoMore c = tested_none _ _ _ _ _ _ _ _ _ _ _ _ _ tt (told_none c.args.body.now c.args.n c.args.usable c.read.ensures c.requires.4 c.in-NoMore.is) (omega arith)

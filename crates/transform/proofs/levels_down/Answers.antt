@@ -1,0 +1,68 @@
+use mathlib.Core.Path.{◌≡◌, refl, ◌∙◌, sym, ap, subst}
+use mathlib.Core.Bool.{Bool, true, false}
+use borrow.Author.Tests.{ltb-true, ltb-false}
+use lib.Dec.{ltb}
+use Prim.Native.Nat.{ℕ, suc, ◌-◌, ◌/◌, ◌^◌, ◌≤◌, ◌<◌}
+use native.Mathlib.Omega.{arith}
+use native.Mathlib.Numerals.{add-one}
+use lib.IntN.{ℤ}
+use lib.Signed.{mag}
+use Rattle.sizes.specs.Sizes.{all_of}
+use Rattle.sizes.proofs.Laws.{sized}
+use Rattle.coef.specs.Coef.{at}
+use Rattle.transform.specs.Quads.{onward, downs}
+use Rattle.transform.proofs.Arrays.{onward_near, onward_far, tabled}
+use Rattle.transform.proofs.Range.{level_up, downs_mag}
+use Rattle.transform.proofs.Runs.{Down, down_start, down_next, level_most}
+use Rattle.transform.proofs.levels_down.Goals as goal
+
+parts : (n : ℕ) (X Y Z : ℕ → ℤ) (i : ℕ) → (i < n → X i ≡ Z i) → (n ≤ i → Y i ≡ Z i) → onward n X Y i ≡ Z i
+parts n X Y Z i f g = tell (ltb i n) refl
+  where
+    tell : (t : Bool) → ltb i n ≡ t → onward n X Y i ≡ Z i
+    tell true e = onward_near n X Y i (ltb-true i n e) ∙ f (ltb-true i n e)
+    tell false e = onward_far n X Y i (ltb-false i n e) ∙ g (ltb-false i n e)
+
+pub loop-j-init : goal.loop-j-init
+loop-j-init c = let a = c.args in
+    let e : c.all_of-quarter.result ≡ 4 ^ a.n = c.all_of-quarter.ensures ∙ rw c.requires.0 in
+    (omega arith, e ∙ ap (λ (x : ℕ). 4 ^ x) {x = a.n} {y = a.n - 0} (omega arith), refl, refl, down_start a.n (at a.work.now) (at a.out.now))
+
+pub level_down-requires : goal.level_down-requires
+level_down-requires c = let a = c.args in
+    let l = c.loop-j in
+    let p = c.requires in
+    let z = sized a.n a.l p.1 in
+    let u = level_up a.n l.j (omega (arith, z.most)) in
+    let m = level_most a.n l.j in
+    (omega (arith, u, m), omega (arith, u, m), λ i h. subst (λ (x : ℤ). mag x ≤ 32767) (sym (l.invariant.4.coarse i (omega (arith, u)))) (downs_mag a.n (at a.work.now) (λ k b. p.4 k) l.j (omega (arith, z.most)) i (omega (arith, u))))
+
+pub loop-j-smaller : goal.loop-j-smaller
+loop-j-smaller c = omega arith
+
+pub loop-j-preserved : goal.loop-j-preserved
+loop-j-preserved c = let a = c.args in
+    let l = c.loop-j in
+    let p = c.requires in
+    let z = sized a.n a.l p.1 in
+    let u = level_up a.n l.j (omega (arith, z.most)) in
+    let q : l.quarter / 4 ≡ 4 ^ (a.n - suc l.j) = omega (arith, u) in
+    (omega arith, rw (add-one l.j) q, omega arith, omega arith, rw (add-one l.j) (down_next a.n l.j (l.quarter / 4) (omega (arith, z.most)) q (at a.work.now) (at l.work) (at l.out) (at c.level_down.new.work) (at c.level_down.new.out) l.invariant.4 c.level_down.ensures.coarse c.level_down.ensures.fine))
+
+pub copy_head-requires : goal.copy_head-requires
+copy_head-requires c = let a = c.args in
+    let l = c.loop-j in
+    (omega (arith, level_most a.n l.j), omega (arith, level_most a.n l.j))
+
+pub shape_of-work : goal.shape_of-work
+shape_of-work c = omega arith
+
+pub returns : goal.returns
+returns c = let a = c.args in
+    let l = c.loop-j in
+    let e : l.j ≡ a.l = omega arith in
+    let o = c.copy_head.new.to in
+    let X = downs a.n a.l (at a.work.now) in
+    let d = subst (λ (j : ℕ). Down a.n j (at a.work.now) (at l.work) (at l.out)) e l.invariant.4 in
+    let q : l.quarter ≡ 4 ^ (a.n - a.l) = l.invariant.1 ∙ ap (λ (j : ℕ). 4 ^ (a.n - j)) e in
+    tabled o (all_of a.n) X (omega arith) (λ i h. ap (λ (A : ℕ → ℤ). A i) c.copy_head.ensures ∙ parts l.quarter (at l.work) (at l.out) X i (λ k. d.coarse i (omega arith)) (λ k. d.fine i (omega arith) h))

@@ -1,0 +1,35 @@
+use Prim.Native.Nat.{◌-◌}
+use native.Mathlib.Omega.{arith}
+use lib.ListN.{length, drop, length-drop}
+use lib.Seq.{take_all}
+use Rattle.decoder.specs.Body.{tables}
+use Rattle.decoder.specs.Rules.{rule_of}
+use Rattle.txp.specs.Header.{header_size}
+use Rattle.txp.proofs.CallLaws.{refused_file, header_stands, file_decoded}
+use Rattle.txp.proofs.decode_by.Goals as goal
+
+pub slice_bounds-decode_by-count : goal.slice_bounds-decode_by-count
+slice_bounds-decode_by-count c = let a = c.args in
+    header_stands a.file.now (length a.values.now) (length a.precisions.now) (length a.marks.now) c.check_decode-checked.result c.check_decode-checked.ensures c.in-Done.is
+
+-- TODO
+-- part-decode-by-start : tie.Need-slice-bounds-decode-by-start
+-- part-decode-by-start c =
+--     let a = c.before.before.before.before.before.before.before.args in
+--     header_stands a.file.now (length a.values.now) (length a.precisions.now) (length a.marks.now) c.before.before.before.check-decode.result c.before.before.before.check-decode.ensures c.before.enum_told.given.1
+
+-- TODO
+-- part-decode-by-end : tie.Need-slice-bounds-decode-by-end
+-- part-decode-by-end c = search rules
+
+pub returns-in-Done : goal.returns-in-Done
+returns-in-Done c = let a = c.args in
+    let d = c.decode_by-body in
+    let e = file_decoded a.file.now (length a.values.now) (length a.precisions.now) (length a.marks.now) c.check_decode-checked.result c.check_decode-checked.ensures c.in-Done.is (rule_of a.rule)
+    c.header_of-h.result _ (tables a.values.now a.precisions.now a.marks.now) (tables d.new.1.1.1.1.1.0 d.new.1.1.1.1.1.1.0 d.new.1.1.1.1.1.1.1.0) d.result c.header_of-h.ensures
+    (take_all (length a.file.now - 12) (drop header_size a.file.now) (omega (arith, length-drop header_size a.file.now))) d.ensures in
+    rw c.with_header.ensures e
+
+pub returns-in-Refused : goal.returns-in-Refused
+returns-in-Refused c = let a = c.args in
+    refused_file a.file.now (length a.values.now) (length a.precisions.now) (length a.marks.now) c.check_decode-checked.result c.check_decode-checked.ensures (rule_of a.rule) c.in-Refused.why (tables a.values.now a.precisions.now a.marks.now) c.in-Refused.is

@@ -1,0 +1,11 @@
+use mathlib.Core.Path.{◌≡◌}
+use Prim.Native.Nat.{◌-◌, ◌≤◌}
+use lib.ListN.{length}
+use Rattle.txpshow.proofs.read_input.Given as goal
+
+-- what was read is within the room
+abbrev pub invariant-loop-got : goal.invariant-loop-got
+invariant-loop-got l = (length l.bytes ≡ length l.initial.bytes) × (l.got ≤ length l.bytes)
+
+abbrev pub decreases-loop-got : goal.decreases-loop-got
+decreases-loop-got l = length l.bytes - l.got
