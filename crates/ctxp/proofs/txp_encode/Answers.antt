@@ -6,7 +6,7 @@ pub of_encoded-requires : goal.of_encoded-requires
 of_encoded-requires c = let a = c.args in
     let e = c.encode-done in
     file_short a.n a.l a.coefs.now a.budget (loan a.desc.now a.grand.now a.marks.now a.out.now)
-    (loan e.new.1.1.1.0 e.new.1.1.1.1.0 e.new.1.1.1.1.1.0 e.new.1.1.1.1.1.1.0) e.result c.ranges.budget.fits e.ensures
+    (loan e.new.desc e.new.grand e.new.marks e.new.out) e.result c.ranges.budget.fits e.ensures
 
 pub returns : goal.returns
 returns c = let e = c.encode-done in

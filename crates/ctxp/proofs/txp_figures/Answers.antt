@@ -11,4 +11,4 @@ pub returns : goal.returns
 returns c = let e = c.figures_of-done in
     let a = c.args in
     let s = first_failing (figures_checks a.n a.l a.values.now (length a.desc.now) (length a.grand.now) a.plane) in
-    let o = figures_ends (figures_of a.n a.l a.values.now a.plane) s e.ensures.0 in record { answer = answers_by c.put.result _ (c.of_figures.ensures ∙ ap of_figures e.ensures.0) c.put.ensures; descs = lent_by (outcome_of e.result) s (desc_table a.n a.l a.values.now) a.desc.now o e.ensures.1.0; grands = lent_by (outcome_of e.result) s (grand_table a.n a.l a.values.now) a.grand.now o e.ensures.1.1 }
+    let o = figures_ends (figures_of a.n a.l a.values.now a.plane) s e.ensures.answer in record { answer = answers_by c.put.result _ (c.of_figures.ensures ∙ ap of_figures e.ensures.answer) c.put.ensures; descs = lent_by (outcome_of e.result) s (desc_table a.n a.l a.values.now) a.desc.now o e.ensures.descs; grands = lent_by (outcome_of e.result) s (grand_table a.n a.l a.values.now) a.grand.now o e.ensures.grands }

@@ -10,4 +10,4 @@ use Rattle.ctxp.proofs.txp_figures_all.Goals as goal
 pub returns : goal.returns
 returns c = let e = c.figures_of_all-done in
     let a = c.args in
-    let s = first_failing (all_figures_checks a.n a.l a.values.now (length a.desc.now) (length a.grand.now) (length a.out.now)) in record { answer = answers_by c.put.result _ (c.of_outcome.ensures ∙ ap of_outcome e.ensures.0) c.put.ensures; descs = lent_by e.result s (desc_table a.n a.l a.values.now) a.desc.now e.ensures.0 e.ensures.1.0; grands = lent_by e.result s (grand_table a.n a.l a.values.now) a.grand.now e.ensures.0 e.ensures.1.1.0; outs = lent_by e.result s (all_figures a.n a.l a.values.now) a.out.now e.ensures.0 e.ensures.1.1.1 }
+    let s = first_failing (all_figures_checks a.n a.l a.values.now (length a.desc.now) (length a.grand.now) (length a.out.now)) in record { answer = answers_by c.put.result _ (c.of_outcome.ensures ∙ ap of_outcome e.ensures.answer) c.put.ensures; descs = lent_by e.result s (desc_table a.n a.l a.values.now) a.desc.now e.ensures.answer e.ensures.descs; grands = lent_by e.result s (grand_table a.n a.l a.values.now) a.grand.now e.ensures.answer e.ensures.grands; outs = lent_by e.result s (all_figures a.n a.l a.values.now) a.out.now e.ensures.answer e.ensures.outs }

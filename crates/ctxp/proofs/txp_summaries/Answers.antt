@@ -9,4 +9,4 @@ use Rattle.ctxp.proofs.txp_summaries.Goals as goal
 pub returns : goal.returns
 returns c = let e = c.summaries-done in
     let a = c.args in
-    let s = first_failing (summary_checks a.n a.l a.coefs.now (length a.desc.now) (length a.grand.now)) in record { answer = answers_by c.put.result _ (c.of_outcome.ensures ∙ ap of_outcome e.ensures.0) c.put.ensures; descs = lent_by e.result s (desc_table a.n a.l a.coefs.now) a.desc.now e.ensures.0 e.ensures.1.0; grands = lent_by e.result s (grand_table a.n a.l a.coefs.now) a.grand.now e.ensures.0 e.ensures.1.1 }
+    let s = first_failing (summary_checks a.n a.l a.coefs.now (length a.desc.now) (length a.grand.now)) in record { answer = answers_by c.put.result _ (c.of_outcome.ensures ∙ ap of_outcome e.ensures.answer) c.put.ensures; descs = lent_by e.result s (desc_table a.n a.l a.coefs.now) a.desc.now e.ensures.answer e.ensures.descs; grands = lent_by e.result s (grand_table a.n a.l a.coefs.now) a.grand.now e.ensures.answer e.ensures.grands }

@@ -8,7 +8,7 @@ use Rattle.decimal.proofs.Laws.{decimal_most, signed_below, signed_above, sign_p
 use Rattle.decimal.proofs.put_signed.Goals as goal
 
 pub overflow_add-result : goal.overflow_add-result
-overflow_add-result c = omega (arith, decimal_most c.magnitude.result c.magnitude.type-inv, c.put_behind.ensures.0)
+overflow_add-result c = omega (arith, decimal_most c.magnitude.result c.magnitude.type_inv, c.put_behind.ensures.0)
 
 pub returns-then-is_negative : goal.returns-then-is_negative
 returns-then-is_negative c = let a = c.args in

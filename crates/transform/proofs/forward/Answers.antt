@@ -60,8 +60,8 @@ returns-in-Done c =
     let done = c.in-Done.is in
     record {
       answered = c.check_forward-checked.ensures;
-      filled = own_first a.n all r done e k.new.1.1.1.0 (coefficients_of a.n a.l a.samples.now) a.out.now k.ensures.0 (coefficients_length a.n a.l a.samples.now);
-      cleared = own_first a.n all r done e k.new.1.1.1.1.0 (all_zero a.n) a.work.now k.ensures.1 (zeros_length a.n);
+      filled = own_first a.n all r done e k.new.out (coefficients_of a.n a.l a.samples.now) a.out.now k.ensures.result (coefficients_length a.n a.l a.samples.now);
+      cleared = own_first a.n all r done e k.new.work (all_zero a.n) a.work.now k.ensures.cleared (zeros_length a.n);
     }
 
 pub returns-in-Refused : goal.returns-in-Refused

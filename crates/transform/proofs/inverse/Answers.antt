@@ -66,9 +66,9 @@ returns-in-Done c =
     let told = c.in-Done.is in
     let done : first_failing checks ≡ Done = sym is ∙ told in
     record {
-      answered = then_more checks (restored_check (samples_of a.n a.l C) ∷ []) is told k.ensures.0;
-      filled = own_first a.n all (first_failing checks) done e k.new.1.1.1.0 (restored_of a.n a.l C) a.out.now k.ensures.1.0 (restored_length a.n a.l C);
-      cleared = own_first a.n all (first_failing checks) done e k.new.1.1.1.1.0 (all_zero a.n) a.work.now k.ensures.1.1 (zeros_length a.n);
+      answered = then_more checks (restored_check (samples_of a.n a.l C) ∷ []) is told k.ensures.answer;
+      filled = own_first a.n all (first_failing checks) done e k.new.out (restored_of a.n a.l C) a.out.now k.ensures.result (restored_length a.n a.l C);
+      cleared = own_first a.n all (first_failing checks) done e k.new.work (all_zero a.n) a.work.now k.ensures.cleared (zeros_length a.n);
     }
 
 pub returns-in-Refused : goal.returns-in-Refused

@@ -14,7 +14,7 @@ use Rattle.transform.proofs.transform.Goals as goal
 
 pub levels_down-requires : goal.levels_down-requires
 levels_down-requires c =
-    let filled : c.reorder_to_linear.new.to ≡ linearly c.args.n c.args.samples.now = let a = c.args in let p = c.requires in let k = c.reorder_to_linear in in_linear a.n a.samples.now a.work.now k.new.1.1.0 k.result p.0 p.2 p.4 k.ensures.0 k.ensures.1 in
+    let filled : c.reorder_to_linear.new.to ≡ linearly c.args.n c.args.samples.now = let a = c.args in let p = c.requires in let k = c.reorder_to_linear in in_linear a.n a.samples.now a.work.now k.new.to k.result p.0 p.2 p.4 k.ensures.0 k.ensures.1 in
     let p = c.requires in
     let w = filled in
     let A = c.args.samples.now in
@@ -22,7 +22,7 @@ levels_down-requires c =
 
 pub returns : goal.returns
 returns c =
-    let filled : c.reorder_to_linear.new.to ≡ linearly c.args.n c.args.samples.now = let a = c.args in let p = c.requires in let k = c.reorder_to_linear in in_linear a.n a.samples.now a.work.now k.new.1.1.0 k.result p.0 p.2 p.4 k.ensures.0 k.ensures.1 in
+    let filled : c.reorder_to_linear.new.to ≡ linearly c.args.n c.args.samples.now = let a = c.args in let p = c.requires in let k = c.reorder_to_linear in in_linear a.n a.samples.now a.work.now k.new.to k.result p.0 p.2 p.4 k.ensures.0 k.ensures.1 in
     let a = c.args in
     let p = c.requires in
     let w = filled in

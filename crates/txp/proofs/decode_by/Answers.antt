@@ -26,7 +26,7 @@ pub returns-in-Done : goal.returns-in-Done
 returns-in-Done c = let a = c.args in
     let d = c.decode_by-body in
     let e = file_decoded a.file.now (length a.values.now) (length a.precisions.now) (length a.marks.now) c.check_decode-checked.result c.check_decode-checked.ensures c.in-Done.is (rule_of a.rule)
-    c.header_of-h.result _ (tables a.values.now a.precisions.now a.marks.now) (tables d.new.1.1.1.1.1.0 d.new.1.1.1.1.1.1.0 d.new.1.1.1.1.1.1.1.0) d.result c.header_of-h.ensures
+    c.header_of-h.result _ (tables a.values.now a.precisions.now a.marks.now) (tables d.new.values d.new.precisions d.new.marks) d.result c.header_of-h.ensures
     (take_all (length a.file.now - 12) (drop header_size a.file.now) (omega (arith, length-drop header_size a.file.now))) d.ensures in
     rw c.with_header.ensures e
 

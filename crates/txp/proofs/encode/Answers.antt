@@ -7,7 +7,7 @@ put_header-requires c = let a = c.args in
     let e = c.encode-body in
     let w = c.body-1.given in
     header_fits a.n a.l a.coefs.now a.budget (loan a.desc.now a.grand.now a.marks.now a.out.now)
-    (loan e.new.1.1.1.0 e.new.1.1.1.1.0 e.new.1.1.1.1.1.0 e.new.1.1.1.1.1.1.0) e.result e.ensures w.0.0 w.1
+    (loan e.new.desc e.new.grand e.new.marks e.new.out) e.result e.ensures w.0.0 w.1
 
 pub returns-in-Done : goal.returns-in-Done
 returns-in-Done c = let a = c.args in
@@ -15,11 +15,11 @@ returns-in-Done c = let a = c.args in
     let w = c.body-1.given in
     rw c.bytes_for.ensures
     (file_written a.n a.l a.coefs.now a.budget (loan a.desc.now a.grand.now a.marks.now a.out.now)
-    (loan e.new.1.1.1.0 e.new.1.1.1.1.0 e.new.1.1.1.1.1.0 e.new.1.1.1.1.1.1.0) e.result e.ensures w.0.0 w.1 c.put_header.new.out c.put_header.ensures)
+    (loan e.new.desc e.new.grand e.new.marks e.new.out) e.result e.ensures w.0.0 w.1 c.put_header.new.out c.put_header.ensures)
 
 pub returns-in-Refused : goal.returns-in-Refused
 returns-in-Refused c = let a = c.args in
     let e = c.encode-body in
     let w = c.body-in-Refused-1.given in
     refused_body a.n a.l a.coefs.now a.budget (loan a.desc.now a.grand.now a.marks.now a.out.now)
-    (loan e.new.1.1.1.0 e.new.1.1.1.1.0 e.new.1.1.1.1.1.0 e.new.1.1.1.1.1.1.0) e.result e.ensures w.0.0 w.1
+    (loan e.new.desc e.new.grand e.new.marks e.new.out) e.result e.ensures w.0.0 w.1

@@ -84,9 +84,9 @@ returns-in-Done c =
     let r = ready in
     let k = c.read in
     let all = c.all_of-all.result in
-    let v = k.new.1.1.1.1.1.0 in
-    let q = k.new.1.1.1.1.1.1.0 in
-    let m = k.new.1.1.1.1.1.1.1.0 in
+    let v = k.new.values in
+    let q = k.new.precisions in
+    let m = k.new.marks in
     subst (λ (x : Outcome). ReadsTo x (rule_of a.rule) (ending a.declared a.body.now) a.n a.l a.p (body_bits a.declared a.body.now) (tables a.values.now a.precisions.now a.marks.now) k.result (tables (v ++ drop all a.values.now) (q ++ drop all a.precisions.now) (m ++ drop all a.marks.now)))
     (sym c.in-Done.is ∙ c.check_decode.ensures)
     (decoded_back (rule_of a.rule) (ending a.declared a.body.now) a.n a.l a.p (min a.declared (8 * length a.body.now)) a.declared all a.body.now a.values.now a.precisions.now a.marks.now k.result v q m

@@ -50,7 +50,7 @@ took c =
 pub overflow_cast-bits : goal.overflow_cast-bits
 overflow_cast-bits c = let a = c.args in
     let s = c.scan-reached in
-    record { fits = omega (arith, bits_most a.n a.l a.p (length a.values.now) (length a.precisions.now) (length a.marks.now) c.requires a.body.now (min a.declared (8 * length a.body.now)) s.result.bits s.result.left s.result.stop s.result.bad s.new.1.0 s.new.1.1.0 (ended ⟪After-struct_known⟫), c.ranges.declared.fits) }
+    record { fits = omega (arith, bits_most a.n a.l a.p (length a.values.now) (length a.precisions.now) (length a.marks.now) c.requires a.body.now (min a.declared (8 * length a.body.now)) s.result.bits s.result.left s.result.stop s.result.bad s.new.marks s.new.values (ended ⟪After-struct_known⟫), c.ranges.declared.fits) }
 
 pub returns-then-reached : goal.returns-then-reached
 returns-then-reached c =
@@ -59,11 +59,11 @@ returns-then-reached c =
     let a = c.args in
     let s = c.scan-reached in
     let k = c.clear-then-reached in
-    refused_12 a.n a.l a.p (length a.values.now) (length a.precisions.now) (length a.marks.now) c.requires a.body.now (min a.declared (8 * length a.body.now)) s.result.bits s.result.left s.result.stop s.result.bad s.new.1.0 s.new.1.1.0 (ended ⟪After-slice_known6⟫) (rule_of a.rule) (ending a.declared a.body.now) (tables a.values.now a.precisions.now a.marks.now) c.requires.values_size c.requires.precisions_size c.requires.marks_size
-    k.new.0 k.new.1.0 k.new.1.1.0
-    (k.ensures.0 ∙ ap (λ (x : ℕ). replicate x (pos 0)) (values_so))
-    (k.ensures.1.0 ∙ ap (λ (x : ℕ). replicate x 0) c.requires.precisions_size)
-    (k.ensures.1.1 ∙ ap (λ (x : ℕ). replicate x 0) (marks_so))
+    refused_12 a.n a.l a.p (length a.values.now) (length a.precisions.now) (length a.marks.now) c.requires a.body.now (min a.declared (8 * length a.body.now)) s.result.bits s.result.left s.result.stop s.result.bad s.new.marks s.new.values (ended ⟪After-slice_known6⟫) (rule_of a.rule) (ending a.declared a.body.now) (tables a.values.now a.precisions.now a.marks.now) c.requires.values_size c.requires.precisions_size c.requires.marks_size
+    k.new.values k.new.precisions k.new.marks
+    (k.ensures.values_after ∙ ap (λ (x : ℕ). replicate x (pos 0)) (values_so))
+    (k.ensures.precisions_after ∙ ap (λ (x : ℕ). replicate x 0) c.requires.precisions_size)
+    (k.ensures.marks_after ∙ ap (λ (x : ℕ). replicate x 0) (marks_so))
     c.if-reached.true
 
 pub finish-requires : goal.finish-requires
@@ -75,23 +75,23 @@ finish-requires c =
     let t = took ⟪After-finish-arg2⟫ in (
       values_so ∙ sym (marks_so),
       c.requires.precisions_size ∙ sym (marks_so),
-      (stood a.n a.l a.p (length a.values.now) (length a.precisions.now) (length a.marks.now) c.requires a.body.now (min a.declared (8 * length a.body.now)) s.result.bits s.result.left s.result.stop s.result.bad s.new.1.0 s.new.1.1.0 t.1 t.0, t.1.valued),
+      (stood a.n a.l a.p (length a.values.now) (length a.precisions.now) (length a.marks.now) c.requires a.body.now (min a.declared (8 * length a.body.now)) s.result.bits s.result.left s.result.stop s.result.bad s.new.marks s.new.values t.1 t.0, t.1.valued),
     )
 
 pub overflow_sub-result : goal.overflow_sub-result
 overflow_sub-result c = let a = c.args in
     let s = c.scan-reached in
-    left_in a.n a.l a.p (length a.values.now) (length a.precisions.now) (length a.marks.now) c.requires a.body.now (min a.declared (8 * length a.body.now)) s.result.bits s.result.left s.result.stop s.result.bad s.new.1.0 s.new.1.1.0 (took ⟪After-slice_known9⟫).1
+    left_in a.n a.l a.p (length a.values.now) (length a.precisions.now) (length a.marks.now) c.requires a.body.now (min a.declared (8 * length a.body.now)) s.result.bits s.result.left s.result.stop s.result.bad s.new.marks s.new.values (took ⟪After-slice_known9⟫).1
 
 pub overflow_shl-result : goal.overflow_shl-result
 overflow_shl-result c = let a = c.args in
     let s = c.scan-reached in
-    omega (arith, left_in a.n a.l a.p (length a.values.now) (length a.precisions.now) (length a.marks.now) c.requires a.body.now (min a.declared (8 * length a.body.now)) s.result.bits s.result.left s.result.stop s.result.bad s.new.1.0 s.new.1.1.0 (took ⟪After-slice_known9⟫).1, c.requires.planes)
+    omega (arith, left_in a.n a.l a.p (length a.values.now) (length a.precisions.now) (length a.marks.now) c.requires a.body.now (min a.declared (8 * length a.body.now)) s.result.bits s.result.left s.result.stop s.result.bad s.new.marks s.new.values (took ⟪After-slice_known9⟫).1, c.requires.planes)
 
 pub overflow_sub-result-in-NoMore : goal.overflow_sub-result-in-NoMore
 overflow_sub-result-in-NoMore c = let a = c.args in
     let s = c.scan-reached in
-    power_one a.n a.l a.p (length a.values.now) (length a.precisions.now) (length a.marks.now) c.requires a.body.now (min a.declared (8 * length a.body.now)) s.result.bits s.result.left s.result.stop s.result.bad s.new.1.0 s.new.1.1.0 (took ⟪After-slice_known9⟫).1
+    power_one a.n a.l a.p (length a.values.now) (length a.precisions.now) (length a.marks.now) c.requires a.body.now (min a.declared (8 * length a.body.now)) s.result.bits s.result.left s.result.stop s.result.bad s.new.marks s.new.values (took ⟪After-slice_known9⟫).1
 
 pub returns-in-Bit : goal.returns-in-Bit
 returns-in-Bit c =
@@ -100,11 +100,11 @@ returns-in-Bit c =
     let a = c.args in
     let s = c.scan-reached in
     let k = c.clear-in-Bit in
-    refused_13 a.n a.l a.p (length a.values.now) (length a.precisions.now) (length a.marks.now) c.requires a.body.now (min a.declared (8 * length a.body.now)) s.result.bits s.result.left s.result.stop s.result.bad s.new.1.0 s.new.1.1.0 (ended ⟪After-slice_known8⟫) (rule_of a.rule) (ending a.declared a.body.now) (tables a.values.now a.precisions.now a.marks.now) c.requires.values_size c.requires.precisions_size c.requires.marks_size
-    k.new.0 k.new.1.0 k.new.1.1.0
-    (k.ensures.0 ∙ ap (λ (x : ℕ). replicate x (pos 0)) (values_so))
-    (k.ensures.1.0 ∙ ap (λ (x : ℕ). replicate x 0) c.requires.precisions_size)
-    (k.ensures.1.1 ∙ ap (λ (x : ℕ). replicate x 0) (marks_so))
+    refused_13 a.n a.l a.p (length a.values.now) (length a.precisions.now) (length a.marks.now) c.requires a.body.now (min a.declared (8 * length a.body.now)) s.result.bits s.result.left s.result.stop s.result.bad s.new.marks s.new.values (ended ⟪After-slice_known8⟫) (rule_of a.rule) (ending a.declared a.body.now) (tables a.values.now a.precisions.now a.marks.now) c.requires.values_size c.requires.precisions_size c.requires.marks_size
+    k.new.values k.new.precisions k.new.marks
+    (k.ensures.values_after ∙ ap (λ (x : ℕ). replicate x (pos 0)) (values_so))
+    (k.ensures.precisions_after ∙ ap (λ (x : ℕ). replicate x 0) c.requires.precisions_size)
+    (k.ensures.marks_after ∙ ap (λ (x : ℕ). replicate x 0) (marks_so))
     c.if-reached.false (viewed_within a.body.now s.result.bits a.declared _ (sym c.read.ensures ∙ c.in-Bit.is))
 
 pub returns-in-NoMore : goal.returns-in-NoMore
@@ -114,6 +114,6 @@ returns-in-NoMore c =
     let s = c.scan-reached in
     let t = took ⟪After-ending_of⟫ in
     let f = c.finish in
-    accepted a.n a.l a.p (length a.values.now) (length a.precisions.now) (length a.marks.now) c.requires a.body.now (min a.declared (8 * length a.body.now)) s.result.bits s.result.left s.result.stop s.result.bad s.new.1.0 s.new.1.1.0 t.1 t.0 (rule_of a.rule) (ending a.declared a.body.now) c.ending_of.result
+    accepted a.n a.l a.p (length a.values.now) (length a.precisions.now) (length a.marks.now) c.requires a.body.now (min a.declared (8 * length a.body.now)) s.result.bits s.result.left s.result.stop s.result.bad s.new.marks s.new.values t.1 t.0 (rule_of a.rule) (ending a.declared a.body.now) c.ending_of.result
     (ending_said a.declared a.body.now s.result.bits s.result.left c.ending_of.result _ c.ending_of.ensures (sym c.in-NoMore.is ∙ c.read.ensures)) (tables a.values.now a.precisions.now a.marks.now) c.requires.values_size c.requires.precisions_size c.requires.marks_size
-    f.new.0 f.new.1.0 (length s.new.1.0) (marks_so) f.ensures.0 f.ensures.1
+    f.new.values f.new.precisions (length s.new.marks) (marks_so) f.ensures.values_after f.ensures.precisions_after

@@ -45,7 +45,7 @@ loop-i-preserved c =
     let code_so : to_z w32 (of_z w32 (at c.loop-i.values c.loop-i.i)) ≡ at c.args.values.now c.loop-i.i = let l = c.loop-i in let f : SFits w32 (at l.values l.i) = record { sfits = c.code-1.given } in to_z-of_z f ∙ code_is in
     let a = c.args in
     let l = c.loop-i in
-    let f : SFits w32 c.value_at-v.result = record { sfits = c.value_at-v.type-inv } in
+    let f : SFits w32 c.value_at-v.result = record { sfits = c.value_at-v.type_inv } in
     let v : to_z w32 (of_z w32 c.value_at-v.result) ≡ value_by (rule_of a.rule) (get_or a.precisions.now l.i 0) (plain_of (at a.values.now l.i)) =
     to_z-of_z f ∙ c.value_at-v.ensures ∙ rw (code_so) in (
       omega arith,

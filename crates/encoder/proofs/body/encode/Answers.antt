@@ -98,9 +98,9 @@ returns c =
     let r = ready in
     let u = sent_bits a.n a.l a.coefs.now a.budget in
     let marks =
-    marks_back c.all_of-all.result (sent_marks a.n a.l a.coefs.now a.budget) w.new.1.1.1.1.1.0 a.marks.now w.ensures.1.1.1.0 (marks_length a.n a.l (sized a.n a.l r.0.levels) (planes_of a.coefs.now) u ∙ sym (all_so)) in
-    let out = output_back a.offset _ (packed u) w.new.1.1.1.1.1.1.0 a.out.now r.2 (sym (packed_length u)) w.ensures.1.1.1.1 in
+    marks_back c.all_of-all.result (sent_marks a.n a.l a.coefs.now a.budget) w.new.marks a.marks.now w.ensures.marks_after (marks_length a.n a.l (sized a.n a.l r.0.levels) (planes_of a.coefs.now) u ∙ sym (all_so)) in
+    let out = output_back a.offset _ (packed u) w.new.out a.out.now r.2 (sym (packed_length u)) w.ensures.out_after in
     writes_by a.n a.l a.coefs.now a.offset a.budget (loan a.desc.now a.grand.now a.marks.now a.out.now) outcome.Done
     (sym c.in_default-rest.is ∙ outcome_so)
-    (ap Done w.ensures.0)
-    (λ i. loan (w.ensures.1.0 i) (w.ensures.1.1.0 i) (marks i) (out i))
+    (ap Done w.ensures.value)
+    (λ i. loan (w.ensures.desc_after i) (w.ensures.grand_after i) (marks i) (out i))

@@ -23,4 +23,4 @@ pub chosen-requires-4 : goal.chosen-requires-4
 chosen-requires-4 c = (mask c.args.rows.now c.requires.1 c.args.a c.requires.3 3 (lit< tt), code_low c.args.b c.requires.2 _)
 
 pub returns : goal.returns
-returns c = found_four_lem c.args.rows.now c.requires.1 c.args.b c.requires.2 c.args.a c.requires.3 c.args.values.now c.args.place c.chosen.result c.chosen-2.result c.chosen-3.result c.chosen-4.result c.args.s c.requires.4 (record { fits = c.chosen.type-inv; held = c.v0-1.given; is = c.chosen.ensures }) (record { fits = c.chosen-2.type-inv; held = c.v1-1.given; is = c.chosen-2.ensures }) (record { fits = c.chosen-3.type-inv; held = c.v2-1.given; is = c.chosen-3.ensures }) (record { fits = c.chosen-4.type-inv; held = c.v3-1.given; is = c.chosen-4.ensures })
+returns c = found_four_lem c.args.rows.now c.requires.1 c.args.b c.requires.2 c.args.a c.requires.3 c.args.values.now c.args.place c.chosen.result c.chosen-2.result c.chosen-3.result c.chosen-4.result c.args.s c.requires.4 (record { fits = c.chosen.type_inv; held = c.v0-1.given; is = c.chosen.ensures }) (record { fits = c.chosen-2.type_inv; held = c.v1-1.given; is = c.chosen-2.ensures }) (record { fits = c.chosen-3.type_inv; held = c.v2-1.given; is = c.chosen-3.ensures }) (record { fits = c.chosen-4.type_inv; held = c.v3-1.given; is = c.chosen-4.ensures })

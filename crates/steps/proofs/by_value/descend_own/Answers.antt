@@ -59,4 +59,4 @@ returns c =
     let a = c.args in
     let k = c.descend in
     own_steps_lem (ending a.declared a.body.now) (back_in (ending a.declared a.body.now) a.body.now) (a.dial.used - a.to) a.dial (tables a.values.now a.precisions.now a.marks.now) c.all_of-all.result (all_so)
-    (step k.result.answer k.result.dial (tables k.new.1.1.1.1.0 k.new.1.1.1.1.1.0 k.new.1.1.1.1.1.1.0)) k.ensures
+    (step k.result.answer k.result.dial (tables k.new.values k.new.precisions k.new.marks)) k.ensures

@@ -67,14 +67,14 @@ loop-used-preserved c = let a = c.args in
     let range = c.requires.range in
     let bit = read_bit a.body.now l.used a.declared c.read.ensures _ c.in-Bit.is in
     let k = c.tell-at in (
-      climb_goes a.dial range l.at l.invariant.1 (ending a.declared a.body.now) (usable_bits a.declared a.body.now) a.body.now l.used l.values l.precisions l.marks a.to _ k.result k.new.1.1.1.0 k.new.1.1.1.1.0 k.new.1.1.1.1.1.0 c.loop-used-test.true
-          (forward_on a.dial range l.at l.invariant.1 (ending a.declared a.body.now) (usable_bits a.declared a.body.now) a.body.now l.used l.values l.precisions l.marks _ bit c.if-at-eq0.false _ c.bars.ensures c.if-bars.false) k.ensures.0 k.ensures.1 ∙ l.invariant.0,
-      subst (λ (x : Stand). Stood a.dial x) (sym k.ensures.0) (stood_onward a.dial range l.at l.marks _ l.invariant.1 (omega (arith, c.if-at-eq0.false))),
+      climb_goes a.dial range l.at l.invariant.1 (ending a.declared a.body.now) (usable_bits a.declared a.body.now) a.body.now l.used l.values l.precisions l.marks a.to _ k.result k.new.values k.new.precisions k.new.marks c.loop-used-test.true
+          (forward_on a.dial range l.at l.invariant.1 (ending a.declared a.body.now) (usable_bits a.declared a.body.now) a.body.now l.used l.values l.precisions l.marks _ bit c.if-at-eq0.false _ c.bars.ensures c.if-bars.false) k.ensures.stand k.ensures.filled ∙ l.invariant.0,
+      subst (λ (x : Stand). Stood a.dial x) (sym k.ensures.stand) (stood_onward a.dial range l.at l.marks _ l.invariant.1 (omega (arith, c.if-at-eq0.false))),
       record {
         range = range;
-        values_size = k.auto.1.1.1.0 ∙ l.invariant.2.values_size;
-        precisions_size = k.auto.1.1.1.1.0 ∙ l.invariant.2.precisions_size;
-        marks_size = k.auto.1.1.1.1.1.0 ∙ l.invariant.2.marks_size;
+        values_size = k.auto.values ∙ l.invariant.2.values_size;
+        precisions_size = k.auto.precisions ∙ l.invariant.2.precisions_size;
+        marks_size = k.auto.marks ∙ l.invariant.2.marks_size;
       },
     )
 

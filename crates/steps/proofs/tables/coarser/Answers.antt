@@ -5,4 +5,4 @@ pub overflow_add-size : goal.overflow_add-size
 overflow_add-size c = coarser_fits c.args.left c.requires c.args.value c.ranges.value _ c.magnitude.ensures
 
 pub returns : goal.returns
-returns c = coarser_is c.args.left c.requires c.args.value c.ranges.value _ c.magnitude.ensures _ c.is_negative.ensures _ (record { sfits = c.value_of.type-inv }) c.value_of.ensures
+returns c = coarser_is c.args.left c.requires c.args.value c.ranges.value _ c.magnitude.ensures _ c.is_negative.ensures _ (record { sfits = c.value_of.type_inv }) c.value_of.ensures
