@@ -71,7 +71,7 @@ module _ (I : ℕ) where
   old_roots : {m n : List ℕ} (f i : ℕ) → Old m n → Old m (push_roots I f i n)
   unfolding push_roots
   old_roots zero i o = o
-  old_roots (suc f) i o = old_roots f (i + 4) (old_root i o)
+  old_roots {m = m} {n = n} (suc f) i o = old_roots {n = push I i (set {A = ℕ} n i 5)} f (i + 4) (old_root i o)
 
   old_start : (D : ℕ) → Old (replicate D 1 ++ replicate (I - D) 0) (start_marks I D)
   unfolding start_marks

@@ -1,5 +1,5 @@
 -- Refusal 12, one half: where the marks say so, every array that fits answers 1, so a 0 fits none.
-use mathlib.Core.Path.{◌≡◌, refl, sym, subst, ◌∙◌}
+use mathlib.Core.Path.{◌≡◌, refl, sym, ap, subst, ◌∙◌}
 use mathlib.Core.Bool.{true, false, true≢false}
 use mathlib.Core.List.{List}
 use Prim.Native.Nat.{ℕ, zero, suc, ◌+◌, ◌*◌, ◌/◌, ◌%◌, ◌^◌, ◌≤◌, ◌<◌}
@@ -30,8 +30,11 @@ pub data Clash (D I P : ℕ) (b t : ℕ) (m : List ℕ) : Type 0 where
 
 -- the children of q have between them all of GRAND(q)
 pub via : (q j : ℕ) → Under q (j / 4) → (h : ℕ) × (h / 4 ≡ q) × Under h j
-via q j (kid e) = (j / 4, e, kid refl)
-via q j (far u) = let r : (h : ℕ) × (h / 4 ≡ q) × Under h (j / 4) = via q (j / 4) u in (r.0, r.1, far r.2)
+via q j x = under j (j / 4) refl x
+  where
+    under : (j v : ℕ) → j / 4 ≡ v → Under q v → (h : ℕ) × (h / 4 ≡ q) × Under h j
+    under j v is (kid e) = (v, e, kid is)
+    under j v is (far u) = let r : (h : ℕ) × (h / 4 ≡ q) × Under h v = under v (v / 4) refl u in (r.0, r.1, far (subst (λ (x : ℕ). Under r.0 x) (sym is) r.2))
 
 module _ {D I : ℕ} (sz : Tiled D I) where
   -- nothing in a set that stands is alone
@@ -42,11 +45,15 @@ module _ {D I : ℕ} (sz : Tiled D I) where
       (low D I c o j (no_alone D I c (j / 4) d).0 d).1
 
   pub dead_g : (c : Cfg) → Ok D I c → (q j : ℕ) → D ≤ 4 * q → c.s_g q ≡ false → Under q (j / 4) → alone D I c j ≡ false
-  dead_g c o q j a n (kid e) =
-      alone_no D I c j (omega arith) (no_dg D I c o (j / 4) (stands_no D I c (j / 4) (omega arith) (subst (λ (x : ℕ). c.s_g x ≡ false) (sym e) n)))
-  dead_g c o q j a n (far u) =
-      let d : alone D I c (j / 4) ≡ false = dead_g c o q (j / 4) a n u in
-      (low D I c o j (no_alone D I c (j / 4) d).0 d).1
+  dead_g c o q j a n x = under j (j / 4) refl x
+    where
+      under : (j v : ℕ) → j / 4 ≡ v → Under q v → alone D I c j ≡ false
+      under j v is (kid e) =
+          alone_no D I c j (omega arith) (no_dg D I c o (j / 4) (stands_no D I c (j / 4) (omega arith) (subst (λ (x : ℕ). c.s_g x ≡ false) (sym e ∙ ap (λ (x : ℕ). x / 4) (sym is)) n)))
+      under j v is (far u) =
+          let d : alone D I c v ≡ false = under v (v / 4) refl u in
+          let e : alone D I c (j / 4) ≡ false = subst (λ (x : ℕ). alone D I c x ≡ false) (sym is) d in
+          (low D I c o j (no_alone D I c (j / 4) e).0 e).1
 
   pub root : (n j : ℕ) → j ≤ n → D ≤ j → (h : ℕ) × (D ≤ 4 * h) × (h < D) × Under h j
   root zero j a b = absurd (omega arith)
