@@ -11,12 +11,10 @@ use Rattle.ctxp.proofs.txp_float.Goals as goal
 
 pub returns-in-Is : goal.returns-in-Is
 returns-in-Is c = let a = c.args in
-    let v = c.v-1.given in
-    let g : float_of a.x ≡ Is v.0.0 = ap float_of (sym (to_z-of_z c.ranges.x)) ∙ sym c.float_of.ensures.0 ∙ v.1 in
+    let g : float_of a.x ≡ Is c.in-Is.v = ap float_of (sym (to_z-of_z c.ranges.x)) ∙ sym c.float_of.ensures.0 ∙ c.in-Is.is in
     record { answer = answers_by c.put.result _ (ap entries c.nothing.ensures ∙ sym (ap of_float g)) c.put.ensures; floated = sym (ap (λ (f : Float). float_in f a.to.now) g) }
 
 pub returns-in-Refused : goal.returns-in-Refused
 returns-in-Refused c = let a = c.args in
-    let w = c.why-1.given in
-    let g : float_of a.x ≡ Refused w.0.0 = ap float_of (sym (to_z-of_z c.ranges.x)) ∙ sym c.float_of.ensures.0 ∙ w.1 in
+    let g : float_of a.x ≡ Refused c.in-Refused.why = ap float_of (sym (to_z-of_z c.ranges.x)) ∙ sym c.float_of.ensures.0 ∙ c.in-Refused.is in
     record { answer = answers_by c.put-in-Refused.result _ (c.refused.ensures ∙ sym (ap of_float g)) c.put-in-Refused.ensures; floated = sym (ap (λ (f : Float). float_in f a.to.now) g) }

@@ -13,9 +13,8 @@ use Rattle.ctxp.proofs.txp_join.Goals as goal
 
 pub returns-in-Is : goal.returns-in-Is
 returns-in-Is c = let a = c.args in
-    let x = c.x-1.given in
-    let g : joined_of (signed_of a.negative a.magnitude) ≡ Is x.0.0 = sym c.join_of.ensures ∙ x.1 in
-    let h : to_z w32 (of_z w32 x.0.0) ≡ x.0.0 = search rules in
+    let g : joined_of (signed_of a.negative a.magnitude) ≡ Is c.in-Is.x = sym c.join_of.ensures ∙ c.in-Is.is in
+    let h : to_z w32 (of_z w32 c.in-Is.x) ≡ c.in-Is.x = search rules in
     record { answer = answers_by c.put.result _ (ap entries c.nothing.ensures ∙ sym (ap of_joined g)) c.put.ensures; joined = h ∙ sym (ap (λ (j : Joined). joined_in j a.to.now) g) }
 
 pub returns-in-TooLarge : goal.returns-in-TooLarge

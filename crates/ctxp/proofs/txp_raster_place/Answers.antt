@@ -10,11 +10,9 @@ use Rattle.ctxp.proofs.txp_raster_place.Goals as goal
 pub returns-in-Place : goal.returns-in-Place
 returns-in-Place c = let a = c.args in
     let s = first_failing (place_checks a.n a.place) in
-    let at = c.q-1.given in
-    let same : at.0.0.0 ≡ a.place = linear_same s a.place at.0.0 (sym c.linear_at.ensures ∙ at.1) in
+    let same : c.in-Place.q.0 ≡ a.place = linear_same s a.place c.in-Place.q (sym c.linear_at.ensures ∙ c.in-Place.is) in
     answers_by c.put.result _ (c.of_raster.ensures ∙ ap of_raster (c.to_raster-done.ensures ∙ ap (λ (x : ℕ). raster_if (first_failing (place_checks a.n x)) (to_raster a.n x)) same)) c.put.ensures
 
 pub returns-in-Refused : goal.returns-in-Refused
 returns-in-Refused c = let a = c.args in
-    let w = c.why-1.given in
-    answers_by c.put-in-Refused.result _ (c.refused.ensures ∙ linear_refused (first_failing (place_checks a.n a.place)) a.place (to_raster a.n a.place) w.0.0 (sym c.linear_at.ensures ∙ w.1)) c.put-in-Refused.ensures
+    answers_by c.put-in-Refused.result _ (c.refused.ensures ∙ linear_refused (first_failing (place_checks a.n a.place)) a.place (to_raster a.n a.place) c.in-Refused.why (sym c.linear_at.ensures ∙ c.in-Refused.is)) c.put-in-Refused.ensures

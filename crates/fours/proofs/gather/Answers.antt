@@ -18,4 +18,4 @@ unfolding table bit
 cases = refl
 
 pub returns : goal.returns
-returns c = ap computed e ∙ same_choices (λ p q s t. computed (word_of (digit p) (digit q) (digit s) (digit t))) nibble_of cases p q s t
+returns c p q s t e = ap computed e ∙ same_choices (λ p q s t. computed (word_of (digit p) (digit q) (digit s) (digit t))) nibble_of cases p q s t

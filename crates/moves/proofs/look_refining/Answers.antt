@@ -8,7 +8,7 @@ pub returns-then-mark-eq-MSP : goal.returns-then-mark-eq-MSP
 returns-then-mark-eq-MSP c = refining_rests c.args.all c.args.place c.args.marks.now c.args.left c.requires.2 c.if-all-place.false c.if-mark-eq-MSP.true
 
 pub returns-then-is_new : goal.returns-then-is_new
-returns-then-is_new c = refining_over c.args.all c.args.place c.args.marks.now c.args.left _ _ _ _ c.over_new-next.ensures c.is_new.ensures c.if-is_new.true c.requires.2 c.if-all-place.false
+returns-then-is_new c = refining_over c.args.all c.args.place c.args.marks.now c.args.left _ _ _ _ c.over_new-next.ensures (c.is_new.ensures.value, c.is_new.ensures.marks_after) c.if-is_new.true c.requires.2 c.if-all-place.false
 
 pub returns : goal.returns
-returns c = refining_goes c.args.all c.args.place c.args.marks.now c.args.left _ _ _ c.behind-next.ensures c.is_new.ensures c.if-is_new.false c.requires.2 c.if-all-place.false c.if-mark-eq-MSP.false
+returns c = refining_goes c.args.all c.args.place c.args.marks.now c.args.left _ _ _ c.behind-next.ensures (c.is_new.ensures.value, c.is_new.ensures.marks_after) c.if-is_new.false c.requires.2 c.if-all-place.false c.if-mark-eq-MSP.false

@@ -31,9 +31,6 @@ visit-requires c = (
   c.requires.3,
 )
 
-pub enum_known-k : goal.enum_known-k
-enum_known-k c = c.in-Stop.keys1
-
 pub overflow_cast-stop : goal.overflow_cast-stop
 overflow_cast-stop c = omega arith
 
@@ -43,12 +40,6 @@ overflow_mul-stop c = omega (arith, in_plane c.scan.turn c.args.all)
 pub overflow_add-stop : goal.overflow_add-stop
 overflow_add-stop c = let s = stops_here _ _ _ _ _ _ _ _ _ c.visit.ensures c.in-Stop.is in
     omega (arith, s, in_plane c.scan.turn c.args.all)
-
-pub enum_known-k-in-Bad-1 : goal.enum_known-k-in-Bad-1
-enum_known-k-in-Bad-1 c = c.in-Bad.keys2
-
-pub enum_known-k-in-Go-1 : goal.enum_known-k-in-Go-1
-enum_known-k-in-Go-1 c = c.in-Go.keys3
 
 pub loop-place-smaller : goal.loop-place-smaller
 loop-place-smaller c = let f = falls_go _ _ _ _ _ _ c.visit.ensures.falls c.in-Go.is in omega arith

@@ -21,7 +21,6 @@ pub returns-then-first_outside-out : goal.returns-then-first_outside-out
 returns-then-first_outside-out c =
     let restored : let a = c.args in c.reorder_to_raster.new.to ≡ samples_of a.n a.l a.coefs.now = let a = c.args in let p = c.requires in let k = c.reorder_to_raster in let w = c.levels_up in let work = w.new.work in let n : length work ≡ all_of a.n = ap length w.ensures ∙ table_length (all_of a.n) (ups a.n a.l (at a.coefs.now)) in samples_from a.n a.l a.coefs.now work k.new.to p.1 w.ensures (in_raster a.n work a.out.now k.new.to k.result p.0 n p.3 k.ensures.0 k.ensures.1) in
     let a = c.args in
-    let p = c.requires in
     let X = samples_of a.n a.l a.coefs.now in
     let o = restored in
     let f : first_outside X ≡ length X = subst (λ (l : List ℤ). first_outside l ≡ length l) o (sym c.first_outside.ensures ∙ c.if-first_outside-out.true) in
@@ -31,7 +30,6 @@ pub returns : goal.returns
 returns c =
     let restored : let a = c.args in c.reorder_to_raster.new.to ≡ samples_of a.n a.l a.coefs.now = let a = c.args in let p = c.requires in let k = c.reorder_to_raster in let w = c.levels_up in let work = w.new.work in let n : length work ≡ all_of a.n = ap length w.ensures ∙ table_length (all_of a.n) (ups a.n a.l (at a.coefs.now)) in samples_from a.n a.l a.coefs.now work k.new.to p.1 w.ensures (in_raster a.n work a.out.now k.new.to k.result p.0 n p.3 k.ensures.0 k.ensures.1) in
     let a = c.args in
-    let p = c.requires in
     let X = samples_of a.n a.l a.coefs.now in
     let o = restored in
     let f : first_outside X ≡ length X → ⊥ = subst (λ (l : List ℤ). first_outside l ≡ length l → ⊥) o (λ e. c.if-first_outside-out.false (c.first_outside.ensures ∙ e)) in

@@ -7,7 +7,7 @@ use Rattle.undo.specs.Back.{alone}
 use Rattle.undo.proofs.back_alone.Given as goal
 
 abbrev pub invariant-loop-at : goal.invariant-loop-at
-invariant-loop-at l = (l.at ≤ l.place) × (l.at % 4 ≡ 0) × (l.at < l.all → alone l.marks l.at ≡ true) × ((P l : ℕ) (big : ℕ → ℕ → Bool) → l ≤ P → Hushed l.all l.coarsest P big l sets l.place l.marks l.at l.marks)
+invariant-loop-at l = (l.at ≤ l.place) × (l.at % 4 ≡ 0) × (l.at < l.all → alone l.marks l.at ≡ true) × ((P e : ℕ) (big : ℕ → ℕ → Bool) → e ≤ P → Hushed l.all l.coarsest P big e sets l.place l.marks l.at l.marks)
 
 abbrev pub decreases-loop-at : goal.decreases-loop-at
 decreases-loop-at l = l.at

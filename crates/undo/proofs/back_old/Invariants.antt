@@ -6,13 +6,13 @@ use Rattle.undo.specs.Undoing.{Hushed}
 use Rattle.undo.proofs.back_old.Given as goal
 
 abbrev pub invariant-loop-at : goal.invariant-loop-at
-invariant-loop-at l = (l.at ≤ l.place) × ((D P l : ℕ) (big : ℕ → ℕ → Bool) → l ≤ P → Hushed (length l.marks) D P big l pixels l.place l.marks l.at l.marks)
+invariant-loop-at l = (l.at ≤ l.place) × ((D P e : ℕ) (big : ℕ → ℕ → Bool) → e ≤ P → Hushed (length l.marks) D P big e pixels l.place l.marks l.at l.marks)
 
 abbrev pub decreases-loop-at : goal.decreases-loop-at
 decreases-loop-at l = l.at
 
 abbrev pub invariant-loop-at-2 : goal.invariant-loop-at-2
-invariant-loop-at-2 l = invariant-loop l.marks l.place l.initial.at l.at
+invariant-loop-at-2 l = (l.at ≤ l.place) × ((D P e : ℕ) (big : ℕ → ℕ → Bool) → e ≤ P → Hushed (length l.marks) D P big e pixels l.place l.marks l.at l.marks)
 
 abbrev pub decreases-loop-at-2 : goal.decreases-loop-at-2
 decreases-loop-at-2 l = l.at

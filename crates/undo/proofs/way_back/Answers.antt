@@ -10,21 +10,14 @@ loop-l-init c = (refl, c.requires.1.lefts, c.requires.1.passes, c.requires.0.wit
 pub prior-requires : goal.prior-requires
 prior-requires c = (record { size = refl; near = omega arith; whole = omega arith; wide = omega arith; roots = omega arith; within = omega arith }, record { each = omega arith; most = omega arith; lefts = omega arith; passes = omega arith })
 
-pub enum_told-1 : goal.enum_told-1
-enum_told-1 c = c.in-Nothing.keys1
-
 pub shape_of-marks-in-Nothing : goal.shape_of-marks-in-Nothing
 shape_of-marks-in-Nothing c = c.prior.auto.marks ∙ (omega arith)
 
 pub returns-in-Nothing : goal.returns-in-Nothing
 returns-in-Nothing c = ends_first (length c.args.marks.now) _ _ _ _ _ _ _ _ _ _ c.loop-l.invariant.0 c.prior.ensures _ c.loop-l.invariant.4 c.in-Nothing.is c.loop-l.invariant.2
 
-pub enum_known-l : goal.enum_known-l
-enum_known-l c = c.in-Quiet.keys2
-
 pub run_back-place-requires : goal.run_back-place-requires
 run_back-place-requires c = let g = goes_on (length c.args.marks.now) _ _ _ _ _ _ _ _ _ _ c.loop-l.invariant.0 c.prior.ensures _ c.loop-l.invariant.4 _ _ _ c.in-Quiet.is c.loop-l.invariant.1 c.loop-l.invariant.3 in
-    let e = c.prior.auto.marks in
     (record { size = refl; near = omega arith; whole = omega arith; wide = omega arith; roots = omega arith; within = omega arith }, omega arith, omega arith, g.2)
 
 pub loop-l-smaller : goal.loop-l-smaller
@@ -32,9 +25,6 @@ loop-l-smaller c = (runs_on (length c.args.marks.now) _ _ _ _ _ _ _ _ _ _ c.loop
 
 pub loop-l-preserved : goal.loop-l-preserved
 loop-l-preserved c = let g = runs_on (length c.args.marks.now) _ _ _ _ _ _ _ _ _ _ c.loop-l.invariant.0 c.prior.ensures _ c.loop-l.invariant.4 _ _ _ c.in-Quiet.is c.loop-l.invariant.1 c.loop-l.invariant.3 _ _ _ (c.prior.auto.marks ∙ c.loop-l.invariant.0) c.run_back-place.ensures in (c.run_back-place.auto.marks ∙ c.prior.auto.marks ∙ c.loop-l.invariant.0, g.1, g.2, g.3, g.4)
-
-pub enum_known-stand : goal.enum_known-stand
-enum_known-stand c = c.in-Answer.keys3
 
 pub shape_of-marks-in-Answer : goal.shape_of-marks-in-Answer
 shape_of-marks-in-Answer c = c.prior.auto.marks ∙ (omega arith)

@@ -6,7 +6,7 @@ use Rattle.decoder.proofs.RuleLaws.{adds_half}
 use Rattle.decoder.proofs.rule.added.Goals as goal
 
 pub returns-in-Lower : goal.returns-in-Lower
-returns-in-Lower c = ap (λ (r : Rule). rule_of r c.args.k m) c.in-Lower.is ∙ omega arith
+returns-in-Lower c m = ap (λ (r : Rule). rule_of r c.args.k m) c.in-Lower.is ∙ omega arith
 
 pub returns-in-Midpoint : goal.returns-in-Midpoint
-returns-in-Midpoint c = ap (λ (r : Rule). rule_of r c.args.k m) c.in-Midpoint.is ∙ adds_half c.args.k c.requires m
+returns-in-Midpoint c m = ap (λ (r : Rule). rule_of r c.args.k m) c.in-Midpoint.is ∙ adds_half c.args.k c.requires m

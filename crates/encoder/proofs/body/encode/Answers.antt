@@ -25,17 +25,15 @@ pub returns-in-Refused : goal.returns-in-Refused
 returns-in-Refused c =
     let first_so : let a = c.args in c.check_by-first.result ≡ first_failing (summary_checks a.n a.l a.coefs.now (length a.desc.now) (length a.grand.now)) = let a = c.args in c.check_by-first.ensures ∙ ap first_failing (checks_by a.n a.l a.coefs.now (length a.desc.now) (length a.grand.now) c.planes-planes.ensures) in
     let a = c.args in
-    let why = c.first-1.given in
-    writes_by a.n a.l a.coefs.now a.offset a.budget (loan a.desc.now a.grand.now a.marks.now a.out.now) (outcome.Refused why.0.0)
-    (checked_first a.n a.l a.coefs.now (length a.desc.now) (length a.grand.now) (length a.marks.now) (length a.out.now) a.offset a.budget (first_so) why.0.0 why.1) refl refl
+    writes_by a.n a.l a.coefs.now a.offset a.budget (loan a.desc.now a.grand.now a.marks.now a.out.now) (outcome.Refused c.in-Refused.why)
+    (checked_first a.n a.l a.coefs.now (length a.desc.now) (length a.grand.now) (length a.marks.now) (length a.out.now) a.offset a.budget (first_so) c.in-Refused.why c.in-Refused.is) refl refl
 
 pub returns-in-Refused-rest : goal.returns-in-Refused-rest
 returns-in-Refused-rest c =
     let first_so : let a = c.args in c.check_by-first.result ≡ first_failing (summary_checks a.n a.l a.coefs.now (length a.desc.now) (length a.grand.now)) = let a = c.args in c.check_by-first.ensures ∙ ap first_failing (checks_by a.n a.l a.coefs.now (length a.desc.now) (length a.grand.now) c.planes-planes.ensures) in
     let outcome_so : let a = c.args in c.check_encode-rest.result ≡ write_outcome a.n a.l a.coefs.now a.offset a.budget (loan a.desc.now a.grand.now a.marks.now a.out.now) = let a = c.args in checked_then a.n a.l a.coefs.now (length a.desc.now) (length a.grand.now) (length a.marks.now) (length a.out.now) a.offset a.budget (first_so) c.in_default.is c.planes-planes.ensures c.check_encode-rest.ensures in
     let a = c.args in
-    let why = c.rest-1.given in
-    writes_by a.n a.l a.coefs.now a.offset a.budget (loan a.desc.now a.grand.now a.marks.now a.out.now) (outcome.Refused why.0.0) (sym why.1 ∙ outcome_so) refl refl
+    writes_by a.n a.l a.coefs.now a.offset a.budget (loan a.desc.now a.grand.now a.marks.now a.out.now) (outcome.Refused c.in-Refused-rest.why) (sym c.in-Refused-rest.is ∙ outcome_so) refl refl
 
 pub slice_bounds-write-end : goal.slice_bounds-write-end
 slice_bounds-write-end c =

@@ -31,12 +31,6 @@ visit-requires c = let p = c.requires in
       p.4,
     )
 
-pub enum_known-k : goal.enum_known-k
-enum_known-k c = c.in-Stop.keys1
-
-pub enum_known-k-in-Go-1 : goal.enum_known-k-in-Go-1
-enum_known-k-in-Go-1 c = c.in-Go.keys2
-
 pub loop-place-smaller : goal.loop-place-smaller
 loop-place-smaller c = let f = falls_go _ _ _ _ _ _ c.visit.ensures.falls c.in-Go.is in omega (arith, c.loop-place-test.true)
 

@@ -107,7 +107,6 @@ shape_of-marks c = c.loop-used.invariant.2.marks_size ∙ sym c.requires.marks_s
 pub returns : goal.returns
 returns c = let a = c.args in
     let l = c.loop-used in
-    let range = c.requires.range in
     c.arrive.ensures l.values l.precisions l.marks
     ∙ steps_none (forward_in (ending a.declared a.body.now) (usable_bits a.declared a.body.now) a.body.now) (a.to - l.used) _ (omega (arith, c.loop-used-test.false))
     ∙ l.invariant.0
