@@ -12,15 +12,9 @@ pub slice_bounds-decode_by-count : goal.slice_bounds-decode_by-count
 slice_bounds-decode_by-count c = let a = c.args in
     header_stands a.file.now (length a.values.now) (length a.precisions.now) (length a.marks.now) c.check_decode-checked.result c.check_decode-checked.ensures c.in-Done.is
 
--- TODO
--- part-decode-by-start : tie.Need-slice-bounds-decode-by-start
--- part-decode-by-start c =
---     let a = c.before.before.before.before.before.before.before.args in
---     header_stands a.file.now (length a.values.now) (length a.precisions.now) (length a.marks.now) c.before.before.before.check-decode.result c.before.before.before.check-decode.ensures c.before.enum_told.given.1
-
--- TODO
--- part-decode-by-end : tie.Need-slice-bounds-decode-by-end
--- part-decode-by-end c = search rules
+pub slice_bounds-decode_by-start : goal.slice_bounds-decode_by-start
+slice_bounds-decode_by-start c = let a = c.args in
+    header_stands a.file.now (length a.values.now) (length a.precisions.now) (length a.marks.now) c.check_decode-checked.result c.check_decode-checked.ensures c.in-Done.is
 
 pub returns-in-Done : goal.returns-in-Done
 returns-in-Done c = let a = c.args in

@@ -1,6 +1,7 @@
 use Rattle.txp.proofs.Headers.{low_power}
 use mathlib.Core.Path.{◌≡◌, sym, ◌∙◌}
 use Prim.Native.Nat.{◌+◌, ◌-◌, ◌/◌, ◌%◌}
+use lib.Pow.{pow_pos}
 use lib.Seq.{get_or-drop}
 use lib.ListN.{length, get_or, length-drop}
 use borrow.Author.Tests.{eq-eqb, ne_eqb}
@@ -8,11 +9,9 @@ use Rattle.txp.specs.Header.{header_size, body_of}
 use Rattle.txp.specs.Calls.{padding_fits}
 use Rattle.txp.proofs.padding_fits.Goals as goal
 
--- TODO
--- rem-result : tie.Need-nonzero-rem-result
--- rem-result c =
---     let a = c.before.before.before.before.args in
---     rw (low_power (a.declared % 8)) (pow_pos (8 - a.declared % 8))
+pub nonzero_rem-result-then-file-bytes_for : goal.nonzero_rem-result-then-file-bytes_for
+nonzero_rem-result-then-file-bytes_for c = let a = c.args in
+    rw (low_power (a.declared % 8)) (pow_pos (8 - a.declared % 8))
 
 pub returns-then-file-bytes_for : goal.returns-then-file-bytes_for
 unfolding padding_fits

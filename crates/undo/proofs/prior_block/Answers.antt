@@ -8,7 +8,7 @@ pub returns-then-new_four : goal.returns-then-new_four
 returns-then-new_four c = λ planes big. block_new c.args.all c.args.coarsest planes big _ _ _ _ _ _ _ (sym c.alone.ensures ∙ c.if-alone.true) (sym c.new_four.ensures ∙ c.if-new_four.true) c.unasked.ensures.value c.unasked.ensures.marks_after
 
 pub returns-then-alone : goal.returns-then-alone
-returns-then-alone c = λ planes big. block_alone c.args.all c.args.coarsest planes big _ _ _ _ _ (sym c.alone.ensures ∙ c.if-alone.true) (sym c.new_four.ensures ∙ c.if-new_four.false)
+returns-then-alone c = λ planes big. block_alone c.args.all c.args.coarsest planes big c.args.left c.args.place c.args.marks.now _ _ (sym c.alone.ensures ∙ c.if-alone.true) (sym c.new_four.ensures ∙ c.if-new_four.false)
 
 pub bounds-marks-at : goal.bounds-marks-at
 bounds-marks-at c = omega (arith, block_before c.args.marks.now c.args.place, c.block-at.ensures)

@@ -1,12 +1,15 @@
 use mathlib.Core.Path.{◌≡◌, refl, sym, ap, ◌∙◌}
-use Prim.Native.Nat.{ℕ, ◌*◌, min}
+use Prim.Native.Nat.{ℕ, ◌*◌, ◌%◌, ◌≤◌, min}
 use native.Mathlib.Omega.{arith}
 use lib.IntN.{pos}
 use lib.ListN.{length, replicate}
-use Rattle.sizes.specs.Sizes.{all_of}
+use Rattle.sizes.specs.Sizes.{most_n, all_of, coarsest_of}
 use Rattle.bits.specs.Bits.{bits_of}
+use Rattle.nls.specs.Marks.{start_marks}
 use Rattle.nls.specs.Judging.{taken, Judged}
 use Rattle.nls.proofs.Verdicts.{verdict}
+use Rattle.marking.proofs.Laws.{start_so}
+use Rattle.room.proofs.Laws.{sizes_near}
 use Rattle.reading.proofs.ScanLaws.{scanned_so}
 use Rattle.view.proofs.Laws.{viewed_within, viewed_past}
 use Rattle.decoder.specs.Rules.{rule_of}
@@ -16,104 +19,122 @@ use Rattle.decoder.proofs.Endings.{ending_said}
 use Rattle.decoder.proofs.DecodeLaws.{Took, Ends, ends, bits_most, judged_taken, refused_12, refused_13, left_in, stood, power_one, accepted}
 use Rattle.decoder.proofs.body.read.Goals as goal
 
--- where the scan ended, by the verdict
-ended : (c : tie.After-scan)
-    → let start = c.before.before.before.before.before.before.before.before.before.before.before.before.before.before in
-    let a = start.args in
-    let s = c.scan in
-    Ends a.n a.l a.p (length a.values.now) (length a.precisions.now) (length a.marks.now) start.requires a.body.now (min a.declared (8 * length a.body.now)) s.result.bits s.result.left s.result.stop s.result.bad s.new.1.0 s.new.1.1.0 (verdict a.n a.l a.p (bits_of (min a.declared (8 * length a.body.now)) a.body.now))
-ended c =
-    let start = c.before.before.before.before.before.before.before.before.before.before.before.before.before.before in
-    let a = start.args in
-    let s = c.scan in
-    let clear = c.before.before.before.before.before.before.before.before.clear in
-    let begin = c.before.before.before.before.before in
-    let f = sizes_so begin in
-    ends a.n a.l a.p (length a.values.now) (length a.precisions.now) (length a.marks.now) start.requires a.body.now (min a.declared (8 * length a.body.now)) s.result.bits s.result.left s.result.stop s.result.bad s.new.1.0 s.new.1.1.0
-    begin.start.new.0 clear.new.0 (length begin.start.new.0) c.before.before.before.before.before.before.before.before.before.before.coarsest-of.result
-    (all_so begin) (coarsest_so c.before.before.before.before.before.before.before.before.before.before) (begun begin) (clear.ensures ∙ ap (λ (k : ℕ). replicate k (pos 0)) start.requires.values_size)
-    (scanned_so a.body.now (min a.declared (8 * length a.body.now)) c.before.before.before.before.before.before.before.before.before.before.coarsest-of.result a.p begin.start.new.0 clear.new.0 s.result s.new.1.0 s.new.1.1.0 a.declared refl
-    (clear.auto.0 ∙ start.requires.values_size ∙ sym (all_so begin)) (record { near = f.0; wide = f.1; room = f.2; tops = start.requires.planes }) s.ensures)
-
--- all bits were used
-took : (c : tie.After-known-told)
-    → let start = c.before.before.before.before.before.before.before.before.before.before.before.before.before.before.before.before.before.before.before.before.before.before.before in
-    let a = start.args in
-    let s = c.before.before.before.before.before.before.before.before.before.scan in
-    Judged a.n a.l a.p (bits_of (min a.declared (8 * length a.body.now)) a.body.now) taken × Took a.n a.l a.p (length a.values.now) (length a.precisions.now) (length a.marks.now) start.requires a.body.now (min a.declared (8 * length a.body.now)) s.result.bits s.result.left s.result.stop s.result.bad s.new.1.0 s.new.1.1.0
-took c =
-    let start = c.before.before.before.before.before.before.before.before.before.before.before.before.before.before.before.before.before.before.before.before.before.before.before in
-    let a = start.args in
-    let s = c.before.before.before.before.before.before.before.before.before.scan in
-    judged_taken a.n a.l a.p (length a.values.now) (length a.precisions.now) (length a.marks.now) start.requires a.body.now (min a.declared (8 * length a.body.now)) s.result.bits s.result.left s.result.stop s.result.bad s.new.1.0 s.new.1.1.0 (ended c.before.before.before.before.before.before.before.before.before) c.before.before.before.before.if1.false (viewed_past a.body.now s.result.bits a.declared _ (sym c.before.before.before.read.ensures ∙ c.before.why.given.1))
-
 pub overflow_cast-bits : goal.overflow_cast-bits
-overflow_cast-bits c = let a = c.args in
+overflow_cast-bits c =
+    let all_so : length c.start.new.marks ≡ all_of c.args.n = c.start.auto.marks ∙ c.requires.marks_size in
+    let coarsest_so : c.coarsest_of-coarsest.result ≡ coarsest_of c.args.n c.args.l = c.coarsest_of-coarsest.ensures ∙ rw (c.requires.side, c.requires.levels) in
+    let sizes_so : let all = length c.start.new.marks in let coarsest = c.coarsest_of-coarsest.result in (all ≤ all_of most_n) × (4 ≤ coarsest) × (4 * coarsest ≤ all) × (coarsest % 4 ≡ 0) = sizes_near c.args.n c.args.l (length c.start.new.marks) c.coarsest_of-coarsest.result all_so coarsest_so c.requires.side c.requires.levels in
+    let begun : c.start.new.marks ≡ start_marks (length c.start.new.marks) c.coarsest_of-coarsest.result = let s = sizes_so in start_so _ _ c.args.marks.now _ c.start.ensures (sym c.start.auto.marks) s.0 s.1 s.2 s.3 in
+    let ended : let a = c.args in let s = c.scan-reached in Ends a.n a.l a.p (length a.values.now) (length a.precisions.now) (length a.marks.now) c.requires a.body.now (min a.declared (8 * length a.body.now)) s.result.bits s.result.left s.result.stop s.result.bad s.new.marks s.new.values (verdict a.n a.l a.p (bits_of (min a.declared (8 * length a.body.now)) a.body.now)) = let a = c.args in let s = c.scan-reached in let clear = c.clear in let f = sizes_so in ends a.n a.l a.p (length a.values.now) (length a.precisions.now) (length a.marks.now) c.requires a.body.now (min a.declared (8 * length a.body.now)) s.result.bits s.result.left s.result.stop s.result.bad s.new.marks s.new.values c.start.new.marks clear.new.dst (length c.start.new.marks) c.coarsest_of-coarsest.result all_so coarsest_so begun (clear.ensures ∙ ap (λ (k : ℕ). replicate k (pos 0)) c.requires.values_size) (scanned_so a.body.now (min a.declared (8 * length a.body.now)) c.coarsest_of-coarsest.result a.p c.start.new.marks clear.new.dst s.result s.new.marks s.new.values a.declared refl (clear.auto.dst ∙ c.requires.values_size ∙ sym all_so) (record { near = f.0; wide = f.1; room = f.2; tops = c.requires.planes }) s.ensures) in
+    let a = c.args in
     let s = c.scan-reached in
-    record { fits = omega (arith, bits_most a.n a.l a.p (length a.values.now) (length a.precisions.now) (length a.marks.now) c.requires a.body.now (min a.declared (8 * length a.body.now)) s.result.bits s.result.left s.result.stop s.result.bad s.new.marks s.new.values (ended ⟪After-struct_known⟫), c.ranges.declared.fits) }
+    record { fits = omega (arith, bits_most a.n a.l a.p (length a.values.now) (length a.precisions.now) (length a.marks.now) c.requires a.body.now (min a.declared (8 * length a.body.now)) s.result.bits s.result.left s.result.stop s.result.bad s.new.marks s.new.values ended, c.ranges.declared.fits) }
 
 pub returns-then-reached : goal.returns-then-reached
 returns-then-reached c =
+    let all_so : length c.start.new.marks ≡ all_of c.args.n = c.start.auto.marks ∙ c.requires.marks_size in
+    let coarsest_so : c.coarsest_of-coarsest.result ≡ coarsest_of c.args.n c.args.l = c.coarsest_of-coarsest.ensures ∙ rw (c.requires.side, c.requires.levels) in
+    let sizes_so : let all = length c.start.new.marks in let coarsest = c.coarsest_of-coarsest.result in (all ≤ all_of most_n) × (4 ≤ coarsest) × (4 * coarsest ≤ all) × (coarsest % 4 ≡ 0) = sizes_near c.args.n c.args.l (length c.start.new.marks) c.coarsest_of-coarsest.result all_so coarsest_so c.requires.side c.requires.levels in
+    let begun : c.start.new.marks ≡ start_marks (length c.start.new.marks) c.coarsest_of-coarsest.result = let s = sizes_so in start_so _ _ c.args.marks.now _ c.start.ensures (sym c.start.auto.marks) s.0 s.1 s.2 s.3 in
+    let ended : let a = c.args in let s = c.scan-reached in Ends a.n a.l a.p (length a.values.now) (length a.precisions.now) (length a.marks.now) c.requires a.body.now (min a.declared (8 * length a.body.now)) s.result.bits s.result.left s.result.stop s.result.bad s.new.marks s.new.values (verdict a.n a.l a.p (bits_of (min a.declared (8 * length a.body.now)) a.body.now)) = let a = c.args in let s = c.scan-reached in let clear = c.clear in let f = sizes_so in ends a.n a.l a.p (length a.values.now) (length a.precisions.now) (length a.marks.now) c.requires a.body.now (min a.declared (8 * length a.body.now)) s.result.bits s.result.left s.result.stop s.result.bad s.new.marks s.new.values c.start.new.marks clear.new.dst (length c.start.new.marks) c.coarsest_of-coarsest.result all_so coarsest_so begun (clear.ensures ∙ ap (λ (k : ℕ). replicate k (pos 0)) c.requires.values_size) (scanned_so a.body.now (min a.declared (8 * length a.body.now)) c.coarsest_of-coarsest.result a.p c.start.new.marks clear.new.dst s.result s.new.marks s.new.values a.declared refl (clear.auto.dst ∙ c.requires.values_size ∙ sym all_so) (record { near = f.0; wide = f.1; room = f.2; tops = c.requires.planes }) s.ensures) in
     let values_so : length c.scan-reached.new.values ≡ all_of c.args.n = c.scan-reached.auto.values ∙ c.clear.auto.dst ∙ c.requires.values_size in
     let marks_so : length c.scan-reached.new.marks ≡ all_of c.args.n = c.scan-reached.auto.marks ∙ c.start.auto.marks ∙ c.requires.marks_size in
     let a = c.args in
     let s = c.scan-reached in
     let k = c.clear-then-reached in
-    refused_12 a.n a.l a.p (length a.values.now) (length a.precisions.now) (length a.marks.now) c.requires a.body.now (min a.declared (8 * length a.body.now)) s.result.bits s.result.left s.result.stop s.result.bad s.new.marks s.new.values (ended ⟪After-slice_known6⟫) (rule_of a.rule) (ending a.declared a.body.now) (tables a.values.now a.precisions.now a.marks.now) c.requires.values_size c.requires.precisions_size c.requires.marks_size
+    refused_12 a.n a.l a.p (length a.values.now) (length a.precisions.now) (length a.marks.now) c.requires a.body.now (min a.declared (8 * length a.body.now)) s.result.bits s.result.left s.result.stop s.result.bad s.new.marks s.new.values ended (rule_of a.rule) (ending a.declared a.body.now) (tables a.values.now a.precisions.now a.marks.now) c.requires.values_size c.requires.precisions_size c.requires.marks_size
     k.new.values k.new.precisions k.new.marks
-    (k.ensures.values_after ∙ ap (λ (x : ℕ). replicate x (pos 0)) (values_so))
+    (k.ensures.values_after ∙ ap (λ (x : ℕ). replicate x (pos 0)) values_so)
     (k.ensures.precisions_after ∙ ap (λ (x : ℕ). replicate x 0) c.requires.precisions_size)
-    (k.ensures.marks_after ∙ ap (λ (x : ℕ). replicate x 0) (marks_so))
+    (k.ensures.marks_after ∙ ap (λ (x : ℕ). replicate x 0) marks_so)
     c.if-reached.true
 
 pub finish-requires : goal.finish-requires
 finish-requires c =
+    let all_so : length c.start.new.marks ≡ all_of c.args.n = c.start.auto.marks ∙ c.requires.marks_size in
+    let coarsest_so : c.coarsest_of-coarsest.result ≡ coarsest_of c.args.n c.args.l = c.coarsest_of-coarsest.ensures ∙ rw (c.requires.side, c.requires.levels) in
+    let sizes_so : let all = length c.start.new.marks in let coarsest = c.coarsest_of-coarsest.result in (all ≤ all_of most_n) × (4 ≤ coarsest) × (4 * coarsest ≤ all) × (coarsest % 4 ≡ 0) = sizes_near c.args.n c.args.l (length c.start.new.marks) c.coarsest_of-coarsest.result all_so coarsest_so c.requires.side c.requires.levels in
+    let begun : c.start.new.marks ≡ start_marks (length c.start.new.marks) c.coarsest_of-coarsest.result = let s = sizes_so in start_so _ _ c.args.marks.now _ c.start.ensures (sym c.start.auto.marks) s.0 s.1 s.2 s.3 in
+    let ended : let a = c.args in let s = c.scan-reached in Ends a.n a.l a.p (length a.values.now) (length a.precisions.now) (length a.marks.now) c.requires a.body.now (min a.declared (8 * length a.body.now)) s.result.bits s.result.left s.result.stop s.result.bad s.new.marks s.new.values (verdict a.n a.l a.p (bits_of (min a.declared (8 * length a.body.now)) a.body.now)) = let a = c.args in let s = c.scan-reached in let clear = c.clear in let f = sizes_so in ends a.n a.l a.p (length a.values.now) (length a.precisions.now) (length a.marks.now) c.requires a.body.now (min a.declared (8 * length a.body.now)) s.result.bits s.result.left s.result.stop s.result.bad s.new.marks s.new.values c.start.new.marks clear.new.dst (length c.start.new.marks) c.coarsest_of-coarsest.result all_so coarsest_so begun (clear.ensures ∙ ap (λ (k : ℕ). replicate k (pos 0)) c.requires.values_size) (scanned_so a.body.now (min a.declared (8 * length a.body.now)) c.coarsest_of-coarsest.result a.p c.start.new.marks clear.new.dst s.result s.new.marks s.new.values a.declared refl (clear.auto.dst ∙ c.requires.values_size ∙ sym all_so) (record { near = f.0; wide = f.1; room = f.2; tops = c.requires.planes }) s.ensures) in
+    let took : let a = c.args in let s = c.scan-reached in Judged a.n a.l a.p (bits_of (min a.declared (8 * length a.body.now)) a.body.now) taken × Took a.n a.l a.p (length a.values.now) (length a.precisions.now) (length a.marks.now) c.requires a.body.now (min a.declared (8 * length a.body.now)) s.result.bits s.result.left s.result.stop s.result.bad s.new.marks s.new.values = let a = c.args in let s = c.scan-reached in judged_taken a.n a.l a.p (length a.values.now) (length a.precisions.now) (length a.marks.now) c.requires a.body.now (min a.declared (8 * length a.body.now)) s.result.bits s.result.left s.result.stop s.result.bad s.new.marks s.new.values ended c.if-reached.false (viewed_past a.body.now s.result.bits a.declared _ (sym c.read.ensures ∙ c.in-NoMore.is)) in
     let values_so : length c.scan-reached.new.values ≡ all_of c.args.n = c.scan-reached.auto.values ∙ c.clear.auto.dst ∙ c.requires.values_size in
     let marks_so : length c.scan-reached.new.marks ≡ all_of c.args.n = c.scan-reached.auto.marks ∙ c.start.auto.marks ∙ c.requires.marks_size in
     let a = c.args in
     let s = c.scan-reached in
-    let t = took ⟪After-finish-arg2⟫ in (
-      values_so ∙ sym (marks_so),
-      c.requires.precisions_size ∙ sym (marks_so),
+    let t = took in (
+      values_so ∙ sym marks_so,
+      c.requires.precisions_size ∙ sym marks_so,
       (stood a.n a.l a.p (length a.values.now) (length a.precisions.now) (length a.marks.now) c.requires a.body.now (min a.declared (8 * length a.body.now)) s.result.bits s.result.left s.result.stop s.result.bad s.new.marks s.new.values t.1 t.0, t.1.valued),
     )
 
 pub overflow_sub-result : goal.overflow_sub-result
-overflow_sub-result c = let a = c.args in
+overflow_sub-result c =
+    let all_so : length c.start.new.marks ≡ all_of c.args.n = c.start.auto.marks ∙ c.requires.marks_size in
+    let coarsest_so : c.coarsest_of-coarsest.result ≡ coarsest_of c.args.n c.args.l = c.coarsest_of-coarsest.ensures ∙ rw (c.requires.side, c.requires.levels) in
+    let sizes_so : let all = length c.start.new.marks in let coarsest = c.coarsest_of-coarsest.result in (all ≤ all_of most_n) × (4 ≤ coarsest) × (4 * coarsest ≤ all) × (coarsest % 4 ≡ 0) = sizes_near c.args.n c.args.l (length c.start.new.marks) c.coarsest_of-coarsest.result all_so coarsest_so c.requires.side c.requires.levels in
+    let begun : c.start.new.marks ≡ start_marks (length c.start.new.marks) c.coarsest_of-coarsest.result = let s = sizes_so in start_so _ _ c.args.marks.now _ c.start.ensures (sym c.start.auto.marks) s.0 s.1 s.2 s.3 in
+    let ended : let a = c.args in let s = c.scan-reached in Ends a.n a.l a.p (length a.values.now) (length a.precisions.now) (length a.marks.now) c.requires a.body.now (min a.declared (8 * length a.body.now)) s.result.bits s.result.left s.result.stop s.result.bad s.new.marks s.new.values (verdict a.n a.l a.p (bits_of (min a.declared (8 * length a.body.now)) a.body.now)) = let a = c.args in let s = c.scan-reached in let clear = c.clear in let f = sizes_so in ends a.n a.l a.p (length a.values.now) (length a.precisions.now) (length a.marks.now) c.requires a.body.now (min a.declared (8 * length a.body.now)) s.result.bits s.result.left s.result.stop s.result.bad s.new.marks s.new.values c.start.new.marks clear.new.dst (length c.start.new.marks) c.coarsest_of-coarsest.result all_so coarsest_so begun (clear.ensures ∙ ap (λ (k : ℕ). replicate k (pos 0)) c.requires.values_size) (scanned_so a.body.now (min a.declared (8 * length a.body.now)) c.coarsest_of-coarsest.result a.p c.start.new.marks clear.new.dst s.result s.new.marks s.new.values a.declared refl (clear.auto.dst ∙ c.requires.values_size ∙ sym all_so) (record { near = f.0; wide = f.1; room = f.2; tops = c.requires.planes }) s.ensures) in
+    let took : let a = c.args in let s = c.scan-reached in Judged a.n a.l a.p (bits_of (min a.declared (8 * length a.body.now)) a.body.now) taken × Took a.n a.l a.p (length a.values.now) (length a.precisions.now) (length a.marks.now) c.requires a.body.now (min a.declared (8 * length a.body.now)) s.result.bits s.result.left s.result.stop s.result.bad s.new.marks s.new.values = let a = c.args in let s = c.scan-reached in judged_taken a.n a.l a.p (length a.values.now) (length a.precisions.now) (length a.marks.now) c.requires a.body.now (min a.declared (8 * length a.body.now)) s.result.bits s.result.left s.result.stop s.result.bad s.new.marks s.new.values ended c.if-reached.false (viewed_past a.body.now s.result.bits a.declared _ (sym c.read.ensures ∙ c.in-NoMore.is)) in
+    let a = c.args in
     let s = c.scan-reached in
-    left_in a.n a.l a.p (length a.values.now) (length a.precisions.now) (length a.marks.now) c.requires a.body.now (min a.declared (8 * length a.body.now)) s.result.bits s.result.left s.result.stop s.result.bad s.new.marks s.new.values (took ⟪After-slice_known9⟫).1
+    left_in a.n a.l a.p (length a.values.now) (length a.precisions.now) (length a.marks.now) c.requires a.body.now (min a.declared (8 * length a.body.now)) s.result.bits s.result.left s.result.stop s.result.bad s.new.marks s.new.values took.1
 
 pub overflow_shl-result : goal.overflow_shl-result
-overflow_shl-result c = let a = c.args in
+overflow_shl-result c =
+    let all_so : length c.start.new.marks ≡ all_of c.args.n = c.start.auto.marks ∙ c.requires.marks_size in
+    let coarsest_so : c.coarsest_of-coarsest.result ≡ coarsest_of c.args.n c.args.l = c.coarsest_of-coarsest.ensures ∙ rw (c.requires.side, c.requires.levels) in
+    let sizes_so : let all = length c.start.new.marks in let coarsest = c.coarsest_of-coarsest.result in (all ≤ all_of most_n) × (4 ≤ coarsest) × (4 * coarsest ≤ all) × (coarsest % 4 ≡ 0) = sizes_near c.args.n c.args.l (length c.start.new.marks) c.coarsest_of-coarsest.result all_so coarsest_so c.requires.side c.requires.levels in
+    let begun : c.start.new.marks ≡ start_marks (length c.start.new.marks) c.coarsest_of-coarsest.result = let s = sizes_so in start_so _ _ c.args.marks.now _ c.start.ensures (sym c.start.auto.marks) s.0 s.1 s.2 s.3 in
+    let ended : let a = c.args in let s = c.scan-reached in Ends a.n a.l a.p (length a.values.now) (length a.precisions.now) (length a.marks.now) c.requires a.body.now (min a.declared (8 * length a.body.now)) s.result.bits s.result.left s.result.stop s.result.bad s.new.marks s.new.values (verdict a.n a.l a.p (bits_of (min a.declared (8 * length a.body.now)) a.body.now)) = let a = c.args in let s = c.scan-reached in let clear = c.clear in let f = sizes_so in ends a.n a.l a.p (length a.values.now) (length a.precisions.now) (length a.marks.now) c.requires a.body.now (min a.declared (8 * length a.body.now)) s.result.bits s.result.left s.result.stop s.result.bad s.new.marks s.new.values c.start.new.marks clear.new.dst (length c.start.new.marks) c.coarsest_of-coarsest.result all_so coarsest_so begun (clear.ensures ∙ ap (λ (k : ℕ). replicate k (pos 0)) c.requires.values_size) (scanned_so a.body.now (min a.declared (8 * length a.body.now)) c.coarsest_of-coarsest.result a.p c.start.new.marks clear.new.dst s.result s.new.marks s.new.values a.declared refl (clear.auto.dst ∙ c.requires.values_size ∙ sym all_so) (record { near = f.0; wide = f.1; room = f.2; tops = c.requires.planes }) s.ensures) in
+    let took : let a = c.args in let s = c.scan-reached in Judged a.n a.l a.p (bits_of (min a.declared (8 * length a.body.now)) a.body.now) taken × Took a.n a.l a.p (length a.values.now) (length a.precisions.now) (length a.marks.now) c.requires a.body.now (min a.declared (8 * length a.body.now)) s.result.bits s.result.left s.result.stop s.result.bad s.new.marks s.new.values = let a = c.args in let s = c.scan-reached in judged_taken a.n a.l a.p (length a.values.now) (length a.precisions.now) (length a.marks.now) c.requires a.body.now (min a.declared (8 * length a.body.now)) s.result.bits s.result.left s.result.stop s.result.bad s.new.marks s.new.values ended c.if-reached.false (viewed_past a.body.now s.result.bits a.declared _ (sym c.read.ensures ∙ c.in-NoMore.is)) in
+    let a = c.args in
     let s = c.scan-reached in
-    omega (arith, left_in a.n a.l a.p (length a.values.now) (length a.precisions.now) (length a.marks.now) c.requires a.body.now (min a.declared (8 * length a.body.now)) s.result.bits s.result.left s.result.stop s.result.bad s.new.marks s.new.values (took ⟪After-slice_known9⟫).1, c.requires.planes)
+    omega (arith, left_in a.n a.l a.p (length a.values.now) (length a.precisions.now) (length a.marks.now) c.requires a.body.now (min a.declared (8 * length a.body.now)) s.result.bits s.result.left s.result.stop s.result.bad s.new.marks s.new.values took.1, c.requires.planes)
 
 pub overflow_sub-result-in-NoMore : goal.overflow_sub-result-in-NoMore
-overflow_sub-result-in-NoMore c = let a = c.args in
+overflow_sub-result-in-NoMore c =
+    let all_so : length c.start.new.marks ≡ all_of c.args.n = c.start.auto.marks ∙ c.requires.marks_size in
+    let coarsest_so : c.coarsest_of-coarsest.result ≡ coarsest_of c.args.n c.args.l = c.coarsest_of-coarsest.ensures ∙ rw (c.requires.side, c.requires.levels) in
+    let sizes_so : let all = length c.start.new.marks in let coarsest = c.coarsest_of-coarsest.result in (all ≤ all_of most_n) × (4 ≤ coarsest) × (4 * coarsest ≤ all) × (coarsest % 4 ≡ 0) = sizes_near c.args.n c.args.l (length c.start.new.marks) c.coarsest_of-coarsest.result all_so coarsest_so c.requires.side c.requires.levels in
+    let begun : c.start.new.marks ≡ start_marks (length c.start.new.marks) c.coarsest_of-coarsest.result = let s = sizes_so in start_so _ _ c.args.marks.now _ c.start.ensures (sym c.start.auto.marks) s.0 s.1 s.2 s.3 in
+    let ended : let a = c.args in let s = c.scan-reached in Ends a.n a.l a.p (length a.values.now) (length a.precisions.now) (length a.marks.now) c.requires a.body.now (min a.declared (8 * length a.body.now)) s.result.bits s.result.left s.result.stop s.result.bad s.new.marks s.new.values (verdict a.n a.l a.p (bits_of (min a.declared (8 * length a.body.now)) a.body.now)) = let a = c.args in let s = c.scan-reached in let clear = c.clear in let f = sizes_so in ends a.n a.l a.p (length a.values.now) (length a.precisions.now) (length a.marks.now) c.requires a.body.now (min a.declared (8 * length a.body.now)) s.result.bits s.result.left s.result.stop s.result.bad s.new.marks s.new.values c.start.new.marks clear.new.dst (length c.start.new.marks) c.coarsest_of-coarsest.result all_so coarsest_so begun (clear.ensures ∙ ap (λ (k : ℕ). replicate k (pos 0)) c.requires.values_size) (scanned_so a.body.now (min a.declared (8 * length a.body.now)) c.coarsest_of-coarsest.result a.p c.start.new.marks clear.new.dst s.result s.new.marks s.new.values a.declared refl (clear.auto.dst ∙ c.requires.values_size ∙ sym all_so) (record { near = f.0; wide = f.1; room = f.2; tops = c.requires.planes }) s.ensures) in
+    let took : let a = c.args in let s = c.scan-reached in Judged a.n a.l a.p (bits_of (min a.declared (8 * length a.body.now)) a.body.now) taken × Took a.n a.l a.p (length a.values.now) (length a.precisions.now) (length a.marks.now) c.requires a.body.now (min a.declared (8 * length a.body.now)) s.result.bits s.result.left s.result.stop s.result.bad s.new.marks s.new.values = let a = c.args in let s = c.scan-reached in judged_taken a.n a.l a.p (length a.values.now) (length a.precisions.now) (length a.marks.now) c.requires a.body.now (min a.declared (8 * length a.body.now)) s.result.bits s.result.left s.result.stop s.result.bad s.new.marks s.new.values ended c.if-reached.false (viewed_past a.body.now s.result.bits a.declared _ (sym c.read.ensures ∙ c.in-NoMore.is)) in
+    let a = c.args in
     let s = c.scan-reached in
-    power_one a.n a.l a.p (length a.values.now) (length a.precisions.now) (length a.marks.now) c.requires a.body.now (min a.declared (8 * length a.body.now)) s.result.bits s.result.left s.result.stop s.result.bad s.new.marks s.new.values (took ⟪After-slice_known9⟫).1
+    power_one a.n a.l a.p (length a.values.now) (length a.precisions.now) (length a.marks.now) c.requires a.body.now (min a.declared (8 * length a.body.now)) s.result.bits s.result.left s.result.stop s.result.bad s.new.marks s.new.values took.1
 
 pub returns-in-Bit : goal.returns-in-Bit
 returns-in-Bit c =
+    let all_so : length c.start.new.marks ≡ all_of c.args.n = c.start.auto.marks ∙ c.requires.marks_size in
+    let coarsest_so : c.coarsest_of-coarsest.result ≡ coarsest_of c.args.n c.args.l = c.coarsest_of-coarsest.ensures ∙ rw (c.requires.side, c.requires.levels) in
+    let sizes_so : let all = length c.start.new.marks in let coarsest = c.coarsest_of-coarsest.result in (all ≤ all_of most_n) × (4 ≤ coarsest) × (4 * coarsest ≤ all) × (coarsest % 4 ≡ 0) = sizes_near c.args.n c.args.l (length c.start.new.marks) c.coarsest_of-coarsest.result all_so coarsest_so c.requires.side c.requires.levels in
+    let begun : c.start.new.marks ≡ start_marks (length c.start.new.marks) c.coarsest_of-coarsest.result = let s = sizes_so in start_so _ _ c.args.marks.now _ c.start.ensures (sym c.start.auto.marks) s.0 s.1 s.2 s.3 in
+    let ended : let a = c.args in let s = c.scan-reached in Ends a.n a.l a.p (length a.values.now) (length a.precisions.now) (length a.marks.now) c.requires a.body.now (min a.declared (8 * length a.body.now)) s.result.bits s.result.left s.result.stop s.result.bad s.new.marks s.new.values (verdict a.n a.l a.p (bits_of (min a.declared (8 * length a.body.now)) a.body.now)) = let a = c.args in let s = c.scan-reached in let clear = c.clear in let f = sizes_so in ends a.n a.l a.p (length a.values.now) (length a.precisions.now) (length a.marks.now) c.requires a.body.now (min a.declared (8 * length a.body.now)) s.result.bits s.result.left s.result.stop s.result.bad s.new.marks s.new.values c.start.new.marks clear.new.dst (length c.start.new.marks) c.coarsest_of-coarsest.result all_so coarsest_so begun (clear.ensures ∙ ap (λ (k : ℕ). replicate k (pos 0)) c.requires.values_size) (scanned_so a.body.now (min a.declared (8 * length a.body.now)) c.coarsest_of-coarsest.result a.p c.start.new.marks clear.new.dst s.result s.new.marks s.new.values a.declared refl (clear.auto.dst ∙ c.requires.values_size ∙ sym all_so) (record { near = f.0; wide = f.1; room = f.2; tops = c.requires.planes }) s.ensures) in
     let values_so : length c.scan-reached.new.values ≡ all_of c.args.n = c.scan-reached.auto.values ∙ c.clear.auto.dst ∙ c.requires.values_size in
     let marks_so : length c.scan-reached.new.marks ≡ all_of c.args.n = c.scan-reached.auto.marks ∙ c.start.auto.marks ∙ c.requires.marks_size in
     let a = c.args in
     let s = c.scan-reached in
     let k = c.clear-in-Bit in
-    refused_13 a.n a.l a.p (length a.values.now) (length a.precisions.now) (length a.marks.now) c.requires a.body.now (min a.declared (8 * length a.body.now)) s.result.bits s.result.left s.result.stop s.result.bad s.new.marks s.new.values (ended ⟪After-slice_known8⟫) (rule_of a.rule) (ending a.declared a.body.now) (tables a.values.now a.precisions.now a.marks.now) c.requires.values_size c.requires.precisions_size c.requires.marks_size
+    refused_13 a.n a.l a.p (length a.values.now) (length a.precisions.now) (length a.marks.now) c.requires a.body.now (min a.declared (8 * length a.body.now)) s.result.bits s.result.left s.result.stop s.result.bad s.new.marks s.new.values ended (rule_of a.rule) (ending a.declared a.body.now) (tables a.values.now a.precisions.now a.marks.now) c.requires.values_size c.requires.precisions_size c.requires.marks_size
     k.new.values k.new.precisions k.new.marks
-    (k.ensures.values_after ∙ ap (λ (x : ℕ). replicate x (pos 0)) (values_so))
+    (k.ensures.values_after ∙ ap (λ (x : ℕ). replicate x (pos 0)) values_so)
     (k.ensures.precisions_after ∙ ap (λ (x : ℕ). replicate x 0) c.requires.precisions_size)
-    (k.ensures.marks_after ∙ ap (λ (x : ℕ). replicate x 0) (marks_so))
+    (k.ensures.marks_after ∙ ap (λ (x : ℕ). replicate x 0) marks_so)
     c.if-reached.false (viewed_within a.body.now s.result.bits a.declared _ (sym c.read.ensures ∙ c.in-Bit.is))
 
 pub returns-in-NoMore : goal.returns-in-NoMore
 returns-in-NoMore c =
+    let all_so : length c.start.new.marks ≡ all_of c.args.n = c.start.auto.marks ∙ c.requires.marks_size in
+    let coarsest_so : c.coarsest_of-coarsest.result ≡ coarsest_of c.args.n c.args.l = c.coarsest_of-coarsest.ensures ∙ rw (c.requires.side, c.requires.levels) in
+    let sizes_so : let all = length c.start.new.marks in let coarsest = c.coarsest_of-coarsest.result in (all ≤ all_of most_n) × (4 ≤ coarsest) × (4 * coarsest ≤ all) × (coarsest % 4 ≡ 0) = sizes_near c.args.n c.args.l (length c.start.new.marks) c.coarsest_of-coarsest.result all_so coarsest_so c.requires.side c.requires.levels in
+    let begun : c.start.new.marks ≡ start_marks (length c.start.new.marks) c.coarsest_of-coarsest.result = let s = sizes_so in start_so _ _ c.args.marks.now _ c.start.ensures (sym c.start.auto.marks) s.0 s.1 s.2 s.3 in
+    let ended : let a = c.args in let s = c.scan-reached in Ends a.n a.l a.p (length a.values.now) (length a.precisions.now) (length a.marks.now) c.requires a.body.now (min a.declared (8 * length a.body.now)) s.result.bits s.result.left s.result.stop s.result.bad s.new.marks s.new.values (verdict a.n a.l a.p (bits_of (min a.declared (8 * length a.body.now)) a.body.now)) = let a = c.args in let s = c.scan-reached in let clear = c.clear in let f = sizes_so in ends a.n a.l a.p (length a.values.now) (length a.precisions.now) (length a.marks.now) c.requires a.body.now (min a.declared (8 * length a.body.now)) s.result.bits s.result.left s.result.stop s.result.bad s.new.marks s.new.values c.start.new.marks clear.new.dst (length c.start.new.marks) c.coarsest_of-coarsest.result all_so coarsest_so begun (clear.ensures ∙ ap (λ (k : ℕ). replicate k (pos 0)) c.requires.values_size) (scanned_so a.body.now (min a.declared (8 * length a.body.now)) c.coarsest_of-coarsest.result a.p c.start.new.marks clear.new.dst s.result s.new.marks s.new.values a.declared refl (clear.auto.dst ∙ c.requires.values_size ∙ sym all_so) (record { near = f.0; wide = f.1; room = f.2; tops = c.requires.planes }) s.ensures) in
+    let took : let a = c.args in let s = c.scan-reached in Judged a.n a.l a.p (bits_of (min a.declared (8 * length a.body.now)) a.body.now) taken × Took a.n a.l a.p (length a.values.now) (length a.precisions.now) (length a.marks.now) c.requires a.body.now (min a.declared (8 * length a.body.now)) s.result.bits s.result.left s.result.stop s.result.bad s.new.marks s.new.values = let a = c.args in let s = c.scan-reached in judged_taken a.n a.l a.p (length a.values.now) (length a.precisions.now) (length a.marks.now) c.requires a.body.now (min a.declared (8 * length a.body.now)) s.result.bits s.result.left s.result.stop s.result.bad s.new.marks s.new.values ended c.if-reached.false (viewed_past a.body.now s.result.bits a.declared _ (sym c.read.ensures ∙ c.in-NoMore.is)) in
     let marks_so : length c.scan-reached.new.marks ≡ all_of c.args.n = c.scan-reached.auto.marks ∙ c.start.auto.marks ∙ c.requires.marks_size in
     let a = c.args in
     let s = c.scan-reached in
-    let t = took ⟪After-ending_of⟫ in
+    let t = took in
     let f = c.finish in
     accepted a.n a.l a.p (length a.values.now) (length a.precisions.now) (length a.marks.now) c.requires a.body.now (min a.declared (8 * length a.body.now)) s.result.bits s.result.left s.result.stop s.result.bad s.new.marks s.new.values t.1 t.0 (rule_of a.rule) (ending a.declared a.body.now) c.ending_of.result
     (ending_said a.declared a.body.now s.result.bits s.result.left c.ending_of.result _ c.ending_of.ensures (sym c.in-NoMore.is ∙ c.read.ensures)) (tables a.values.now a.precisions.now a.marks.now) c.requires.values_size c.requires.precisions_size c.requires.marks_size
-    f.new.values f.new.precisions (length s.new.marks) (marks_so) f.ensures.values_after f.ensures.precisions_after
+    f.new.values f.new.precisions (length s.new.marks) marks_so f.ensures.values_after f.ensures.precisions_after

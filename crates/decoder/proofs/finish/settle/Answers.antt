@@ -19,6 +19,37 @@ use Rattle.decoder.specs.Finishing.{Stood}
 use Rattle.decoder.proofs.FinishLaws.{fill_row, whole}
 use Rattle.decoder.proofs.StoodLaws.{Walked, short, left_fits, mark_fits, walked_first, walked_one, walked_row, by_new, by_old, by_head, by_parent, by_row}
 use Rattle.decoder.proofs.finish.settle.Goals as goal
+use Rattle.decoder.proofs.finish.settle.Goals.{After-row-k}
+
+-- the row's precision: of MNk that of the parent, which is done
+row_so : (c : After-row-k) → c.row-k.result ≡ precision_by (length c.args.marks.now) c.args.marks.now c.args.left c.args.stop c.loop-place.place
+row_so c = c.row-k.ensures ∙ go (dec_lt 6 mark)
+  where
+    place : ℕ
+    place = c.loop-place.place
+
+    mark : ℕ
+    mark = get_or c.args.marks.now c.loop-place.place 0
+
+    s : Stood c.args.marks.now c.args.left c.args.stop
+    s = c.requires.2
+
+    some : 1 ≤ c.args.left
+    some = c.requires.1
+
+    w : Walked c.args.marks.now c.loop-place.place
+    w = c.loop-place.invariant.0
+
+    f : ℕ → ℕ
+    f i = precision_by (length c.args.marks.now) c.args.marks.now c.args.left c.args.stop i
+
+    go : Dec (6 < mark) → cond (ltb 6 mark) (get_or c.loop-place.precisions (c.loop-place.place / 4) 0) (down_to c.args.left c.reach-sets.result c.loop-place.place) ≡ f c.loop-place.place
+    go (yes h) =
+        let up = by_parent s some place c.loop-place-test.true w h in
+        rw (lt-ltb 6 mark h) (ap (λ (x : List ℕ). get_or x (place / 4) 0) c.loop-place.invariant.2 ∙ table_front place f (drop place c.args.precisions.now) (place / 4) 0 up.0 ∙ sym up.1)
+    go (no h) =
+        rw (le-ltb 6 mark (omega (arith, h)))
+        (ap (λ (n : ℕ). down_to c.args.left n c.loop-place.place) c.reach-sets.ensures ∙ sym (by_head s some place c.loop-place-test.true w c.if-mark-lt-MD.false (omega (arith, h))))
 
 pub overflow_mul-all : goal.overflow_mul-all
 overflow_mul-all c = record { fits = omega (arith, short c.requires.2) }
@@ -59,19 +90,17 @@ loop-place-preserved-then-mark-lt-MD c =    let a = c.args in
 pub overflow_add-end : goal.overflow_add-end
 overflow_add-end c =
     let skip_so : c.skip.result ≡ skip (get_or c.args.marks.now c.loop-place.place 0) = c.skip.ensures ∙ skip_is (get_or c.args.marks.now c.loop-place.place 0) (mark_fits c.requires.2 c.loop-place.place) in
-    let row_end : Walked c.args.marks.now (c.loop-place.place + c.skip.result) = let l = c.loop-place in subst (λ (d : ℕ). Walked c.args.marks.now (l.place + d)) (sym (skip_so)) (walked_row c.requires.2 c.requires.1 l.place c.loop-place-test.true l.invariant.0 c.if-mark-lt-MD.false) in
-    record { fits = omega (arith, (row_end).within, short c.requires.2) }
+    let row_end : Walked c.args.marks.now (c.loop-place.place + c.skip.result) = let l = c.loop-place in subst (λ (d : ℕ). Walked c.args.marks.now (l.place + d)) (sym skip_so) (walked_row c.requires.2 c.requires.1 l.place c.loop-place-test.true l.invariant.0 c.if-mark-lt-MD.false) in
+    record { fits = omega (arith, row_end.within, short c.requires.2) }
 
 pub row-k-requires : goal.row-k-requires
 row-k-requires c = (c.requires.1, left_fits c.requires.2, omega (arith, c.loop-place-test.true, c.loop-place.invariant.1, c.requires.0))
 
--- TODO
--- part-fill-start : tie.Need-slice-bounds-fill-start invariant-loop decreases-loop
--- part-fill-start c = search rules
-
--- TODO
--- part-fill-end : tie.Need-slice-bounds-fill-end invariant-loop decreases-loop
--- part-fill-end c = omega (arith, (row_end c.before.before).within, c.before.before.before.before.before.before.before.loop.invariant.1, c.before.before.before.before.before.before.before.before.before.before.before.before.requires.0)
+pub slice_bounds-fill-end : goal.slice_bounds-fill-end
+slice_bounds-fill-end c =
+    let skip_so : c.skip.result ≡ skip (get_or c.args.marks.now c.loop-place.place 0) = c.skip.ensures ∙ skip_is (get_or c.args.marks.now c.loop-place.place 0) (mark_fits c.requires.2 c.loop-place.place) in
+    let row_end : Walked c.args.marks.now (c.loop-place.place + c.skip.result) = let l = c.loop-place in subst (λ (d : ℕ). Walked c.args.marks.now (l.place + d)) (sym skip_so) (walked_row c.requires.2 c.requires.1 l.place c.loop-place-test.true l.invariant.0 c.if-mark-lt-MD.false) in
+    omega (arith, row_end.within, c.loop-place.invariant.1, c.requires.0)
 
 pub loop-place-smaller : goal.loop-place-smaller
 loop-place-smaller c =
@@ -81,17 +110,15 @@ loop-place-smaller c =
 pub loop-place-preserved : goal.loop-place-preserved
 loop-place-preserved c =
     let skip_so : c.skip.result ≡ skip (get_or c.args.marks.now c.loop-place.place 0) = c.skip.ensures ∙ skip_is (get_or c.args.marks.now c.loop-place.place 0) (mark_fits c.requires.2 c.loop-place.place) in
-    let row_end : Walked c.args.marks.now (c.loop-place.place + c.skip.result) = let l = c.loop-place in subst (λ (d : ℕ). Walked c.args.marks.now (l.place + d)) (sym (skip_so)) (walked_row c.requires.2 c.requires.1 l.place c.loop-place-test.true l.invariant.0 c.if-mark-lt-MD.false) in
-    let skip_so : c.skip.result ≡ skip (get_or c.args.marks.now c.loop-place.place 0) = c.skip.ensures ∙ skip_is (get_or c.args.marks.now c.loop-place.place 0) (mark_fits c.requires.2 c.loop-place.place) in
-    let row_so : c.row-k.result ≡ precision_by (length c.args.marks.now) c.args.marks.now c.args.left c.args.stop c.loop-place.place = c.row-k.ensures ∙ go (dec_lt 6 mark) where place : ℕ place = c.loop-place.place mark : ℕ mark = get_or c.args.marks.now c.loop-place.place 0 s : Stood c.args.marks.now c.args.left c.args.stop s = c.requires.2 some : 1 ≤ c.args.left some = c.requires.1 w : Walked c.args.marks.now c.loop-place.place w = c.loop-place.invariant.0 f : ℕ → ℕ f i = precision_by (length c.args.marks.now) c.args.marks.now c.args.left c.args.stop i go : Dec (6 < mark) → cond (ltb 6 mark) (get_or c.loop-place.precisions (c.loop-place.place / 4) 0) (down_to c.args.left c.reach-sets.result c.loop-place.place) ≡ f c.loop-place.place go (yes h) = let up = by_parent s some place c.loop-place-test.true w h in rw (lt-ltb 6 mark h) (ap (λ (x : List ℕ). get_or x (place / 4) 0) c.loop-place.invariant.2 ∙ table_front place f (drop place c.args.precisions.now) (place / 4) 0 up.0 ∙ sym up.1) go (no h) = rw (le-ltb 6 mark (omega (arith, h))) (ap (λ (n : ℕ). down_to c.args.left n c.loop-place.place) c.reach-sets.ensures ∙ sym (by_head s some place c.loop-place-test.true w c.if-mark-lt-MD.false (omega (arith, h)))) in
+    let row_end : Walked c.args.marks.now (c.loop-place.place + c.skip.result) = let l = c.loop-place in subst (λ (d : ℕ). Walked c.args.marks.now (l.place + d)) (sym skip_so) (walked_row c.requires.2 c.requires.1 l.place c.loop-place-test.true l.invariant.0 c.if-mark-lt-MD.false) in
     let a = c.args in
     let l = c.loop-place in
     let e = l.place + c.skip.result in
-    let within : e ≤ length l.precisions = omega (arith, (row_end).within, l.invariant.1, c.requires.0) in (
+    let within : e ≤ length l.precisions = omega (arith, row_end.within, l.invariant.1, c.requires.0) in (
       row_end,
       same_len_mid l.place (e - l.place) l.precisions c.fill.new.dst c.fill.auto.dst ∙ l.invariant.1,
       fill_row l.place e (λ i. precision_by (length a.marks.now) a.marks.now a.left a.stop i) a.precisions.now l.precisions c.fill.new.dst c.row-k.result (omega arith) within l.invariant.2
-          c.fill.ensures (λ d k. by_row c.requires.2 c.requires.1 l.place c.loop-place-test.true l.invariant.0 c.if-mark-lt-MD.false d (omega (arith, k, skip_so)) ∙ sym (row_so)),
+          c.fill.ensures (λ d k. by_row c.requires.2 c.requires.1 l.place c.loop-place-test.true l.invariant.0 c.if-mark-lt-MD.false d (omega (arith, k, skip_so)) ∙ sym (row_so (goal.at.loop-place-preserved c).After-row-k)),
     )
 
 pub returns : goal.returns

@@ -1,14 +1,24 @@
+use Prim.Native.Nat.{◌/◌}
+use mathlib.Core.List.{[]}
 use native.Mathlib.Omega.{arith}
 use borrow.Author.Tests.{not-true, not-false}
 use Rattle.marking.proofs.Laws.{split_desc_so}
+use Rattle.nls.specs.Scan.{in_desc}
+use Rattle.marking.specs.Marking.{desc_split_marks}
 use Rattle.encoder.proofs.WriteLaws.{tested_none, tested_zero, tested_one}
 use Rattle.encoder.proofs.writing.test_desc.Goals as goal
 
 pub returns-then-budget-n : goal.returns-then-budget-n
-returns-then-budget-n c = tested_none _ _ _ _ _ _ _ _ _ _ _ _ c.if-budget-n.true (omega arith)
+returns-then-budget-n c =
+    let a = c.args in
+    tested_none [] a.desc.now [] a.budget a.b a.place (in_desc (a.place / 4) a.b) 4 (desc_split_marks a.all a.place a.marks.now) a.marks.now a.out.now a.n c.if-budget-n.true (omega arith)
 
 pub returns-then-not-x : goal.returns-then-not-x
-returns-then-not-x c = tested_zero _ _ _ _ _ _ _ _ _ _ _ _ _ c.bit_of-x.ensures c.if-budget-n.false _ c.put.ensures (not-true _ c.if-not-x.true-raw)
+returns-then-not-x c =
+    let a = c.args in
+    tested_zero [] a.desc.now [] a.budget a.b a.place (in_desc (a.place / 4) a.b) 4 (desc_split_marks a.all a.place a.marks.now) a.marks.now a.out.now a.n _ c.bit_of-x.ensures c.if-budget-n.false _ c.put.ensures (not-true _ c.if-not-x.true-raw)
 
 pub returns : goal.returns
-returns c = tested_one _ _ _ _ _ _ _ _ _ _ _ _ _ c.bit_of-x.ensures c.if-budget-n.false _ c.put.ensures _ (not-false _ c.if-not-x.false-raw) (split_desc_so _ _ c.args.marks.now _ c.split_desc.ensures c.requires.1 c.requires.2 c.requires.0)
+returns c =
+    let a = c.args in
+    tested_one [] a.desc.now [] a.budget a.b a.place (in_desc (a.place / 4) a.b) 4 (desc_split_marks a.all a.place a.marks.now) a.marks.now a.out.now a.n _ c.bit_of-x.ensures c.if-budget-n.false _ c.put.ensures _ (not-false _ c.if-not-x.false-raw) (split_desc_so _ _ c.args.marks.now _ c.split_desc.ensures c.requires.1 c.requires.2 c.requires.0)

@@ -1,12 +1,12 @@
-use mathlib.Core.Logic.{⊎_elim}
-use mathlib.Core.Path.{sym, ◌∙◌}
-use Prim.Native.Nat.{◌/◌, ◌%◌}
+use mathlib.Core.Path.{◌≡◌, sym, ◌∙◌}
+use Prim.Native.Nat.{◌*◌, ◌/◌, ◌%◌, ◌<◌}
 use native.Mathlib.Omega.{arith}
 use Rattle.bits.specs.Bits.{bit}
 use Rattle.fours.specs.Tables.{in_byte}
 use Rattle.reading.proofs.SiblingLaws.{end4_le}
 use Rattle.reading.proofs.SiblingSteps.{stays, desc_none, desc_so, found_lt, minus_lt}
 use Rattle.reading.proofs.siblings.test_desc.Goals as goal
+use Rattle.reading.proofs.siblings.test_desc.Goals.{then-h-eq0+else-all-place, else-h-eq0}
 
 pub returns-then-desc_clash : goal.returns-then-desc_clash
 returns-then-desc_clash c = stays _ _ _ _ _ _ _ _ _ _ _ c.requires.0 _
@@ -36,4 +36,7 @@ pub overflow_add-result-4 : goal.overflow_add-result-4
 overflow_add-result-4 c = record { fits = omega (arith, c.requires.0.below, c.requires.0.near) }
 
 pub returns : goal.returns
-returns c = desc_so _ _ _ _ _ _ _ _ _ _ _ c.requires.0 c.requires.7 _ c.window-w.ensures c.requires.5 c.if-w-lt32768.false c.requires.6 c.if-place-ne0.false _ _ _ _ c.listen-h.ensures.0 c.listen-h.ensures.1 c.listen-h.ensures.2 (⊎_elim (λ x. λ z. x.1.left) (λ y. λ z. absurd (y.left z)) c.if-h-eq0.branch) c.spread.ensures _ _ _ c.split_desc.ensures c.set_word.ensures c.found_four.ensures
+returns c =
+    let some : c.listen-h.result.found ≡ 0 → 4 * c.args.place < c.args.all =
+      elim c.if-h-eq0.branch [ then-h-eq0+else-all-place w ↦ λ z. w.if-all-place.false | else-h-eq0 w ↦ λ z. absurd (w.if-h-eq0.false z) ] in
+    desc_so _ _ _ _ _ _ _ _ _ _ _ c.requires.0 c.requires.7 _ c.window-w.ensures c.requires.5 c.if-w-lt32768.false c.requires.6 c.if-place-ne0.false _ _ _ _ c.listen-h.ensures.0 c.listen-h.ensures.1 c.listen-h.ensures.2 some c.spread.ensures _ _ _ c.split_desc.ensures c.set_word.ensures c.found_four.ensures

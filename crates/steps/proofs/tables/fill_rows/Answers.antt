@@ -12,13 +12,10 @@ overflow_add-at c =
     let ends : c.loop-at.at + c.loop-at.wide ≤ length c.loop-at.precisions = row_ends c.loop-at.invariant.row (omega (arith, c.loop-at-test.true, c.loop-at.invariant.same)) in
     record { fits = omega (arith, ends, row_short c.loop-at.invariant.row) }
 
--- TODO
--- part-fill-start : tie.Need-slice-bounds-fill-start invariant-loop decreases-loop
--- part-fill-start c = search rules
-
--- TODO
--- part-fill-end : tie.Need-slice-bounds-fill-end invariant-loop decreases-loop
--- part-fill-end c = ends c
+pub slice_bounds-fill-end : goal.slice_bounds-fill-end
+slice_bounds-fill-end c =
+    let ends : c.loop-at.at + c.loop-at.wide ≤ length c.loop-at.precisions = row_ends c.loop-at.invariant.row (omega (arith, c.loop-at-test.true, c.loop-at.invariant.same)) in
+    ends
 
 pub overflow_mul-at : goal.overflow_mul-at
 overflow_mul-at c =
@@ -37,7 +34,7 @@ pub loop-at-preserved : goal.loop-at-preserved
 loop-at-preserved c =
     let ends : c.loop-at.at + c.loop-at.wide ≤ length c.loop-at.precisions = row_ends c.loop-at.invariant.row (omega (arith, c.loop-at-test.true, c.loop-at.invariant.same)) in
     let l = c.loop-at in
-    filling_next l.at l.wide c.args.plane l.precisions c.fill.new.dst (ends) c.fill.ensures l.invariant (omega (arith, c.loop-at-test.true, l.invariant.same))
+    filling_next l.at l.wide c.args.plane l.precisions c.fill.new.dst ends c.fill.ensures l.invariant (omega (arith, c.loop-at-test.true, l.invariant.same))
 
 pub returns : goal.returns
 returns c = filling_last c.loop-at.at c.loop-at.wide c.loop-at.precisions c.loop-at.invariant (omega (arith, c.loop-at-test.false, c.loop-at.invariant.same))
