@@ -1,5 +1,4 @@
 -- What is proved of the stepped decoder: `Demands` states it in one place; the rest leads there.
-mod Lent
 pub mod RecordLaws
 pub mod Standing
 pub mod JoinLaws

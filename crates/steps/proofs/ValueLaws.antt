@@ -168,18 +168,15 @@ module _ (v : List ℤ) (i : ℕ) (q : Asked) where
   pub unheard_more : (l : ℕ) (r : ℤ) → q ≡ More → r ≡ coarser l (to_z w32 (of_z w32 (at v i))) → SFits w32 (at v i) → SFits w32 r → set v i (to_z w32 (of_z w32 r)) ≡ unheard q i l v
   unheard_more l r d e g f = rw d (ap (λ (z : ℤ). set v i z) (to_z-of_z f ∙ e ∙ ap (λ (z : ℤ). coarser l z) (to_z-of_z g)))
 
--- the variants of `Asked` by which no value changes: all but Sign and More
-abbrev pub others : List ℕ
-others = 0 ∷ 2 ∷ 4 ∷ 5 ∷ []
-
 module _ (v : List ℤ) (i b : ℕ) (a : Bool) where
-  pub heard_other : (q : Asked) → OneOf others (tag_of the_type q) → v ≡ heard q i b a v
-  heard_other Nothing o = refl
-  heard_other Sign o = absurd (miss others 1 tt o)
-  heard_other Bit o = refl
-  heard_other More o = absurd (miss others 3 tt o)
-  heard_other Desc o = refl
-  heard_other Grand o = refl
+  -- no value changes but by Sign and More
+  pub heard_other : (q : Asked) → (q ≡ Sign → ⊥) → (q ≡ More → ⊥) → v ≡ heard q i b a v
+  heard_other Nothing s m = refl
+  heard_other Sign s m = absurd (s refl)
+  heard_other Bit s m = refl
+  heard_other More s m = absurd (m refl)
+  heard_other Desc s m = refl
+  heard_other Grand s m = refl
 
   -- past the end nothing is written
   pub heard_past : (q : Asked) → length v ≤ i → v ≡ heard q i b a v
@@ -191,13 +188,14 @@ module _ (v : List ℤ) (i b : ℕ) (a : Bool) where
   heard_past Grand h = refl
 
 module _ (v : List ℤ) (i l : ℕ) where
-  pub unheard_other : (q : Asked) → OneOf others (tag_of the_type q) → v ≡ unheard q i l v
-  unheard_other Nothing o = refl
-  unheard_other Sign o = absurd (miss others 1 tt o)
-  unheard_other Bit o = refl
-  unheard_other More o = absurd (miss others 3 tt o)
-  unheard_other Desc o = refl
-  unheard_other Grand o = refl
+  -- no value changes but by Sign and More
+  pub unheard_other : (q : Asked) → (q ≡ Sign → ⊥) → (q ≡ More → ⊥) → v ≡ unheard q i l v
+  unheard_other Nothing s m = refl
+  unheard_other Sign s m = absurd (s refl)
+  unheard_other Bit s m = refl
+  unheard_other More s m = absurd (m refl)
+  unheard_other Desc s m = refl
+  unheard_other Grand s m = refl
 
   pub unheard_past : (q : Asked) → length v ≤ i → v ≡ unheard q i l v
   unheard_past Nothing h = refl

@@ -1,4 +1,4 @@
-use mathlib.Core.List.{◌∷◌}
+use mathlib.Core.List.{[], ◌∷◌}
 use Rattle.decoder.specs.Body.{tables}
 use Rattle.steps.proofs.CallLaws.{start_ready, start_done, start_refused}
 use Rattle.steps.proofs.by_value.take_start.Goals as goal
