@@ -31,13 +31,13 @@ returns-then-all_within c = let a = c.args.a.now in
 pub returns-then-not-is_within : goal.returns-then-not-is_within
 returns-then-not-is_within c = let a = c.args.a.now in
     let i = c.loop-i.i in
-    let w : within (at a i) ≡ false = rw (read_back (at a i) c.x-1.given) at (sym c.is_within.ensures ∙ not-true c.is_within.result c.if-not-is_within.true-raw) in
+    let w : within (at a i) ≡ false = rw (read_back (at a i) c.x-1.given) at (sym c.is_within.ensures ∙ c.if-not-is_within.true) in
     omega (arith, stop a i c.loop-i-test.true w)
 
 pub loop-i-preserved : goal.loop-i-preserved
 loop-i-preserved c = let a = c.args.a.now in
     let i = c.loop-i.i in
-    let w : within (at a i) ≡ true = rw (read_back (at a i) c.x-1.given) at (sym c.is_within.ensures ∙ not-false c.is_within.result c.if-not-is_within.false-raw) in
+    let w : within (at a i) ≡ true = rw (read_back (at a i) c.x-1.given) at (sym c.is_within.ensures ∙ c.if-not-is_within.false) in
     rw add-one (omega (arith, step a i c.loop-i-test.true w))
 
 pub returns : goal.returns

@@ -13,13 +13,13 @@ use Rattle.coef.proofs.part_of.Goals as goal
 pub returns-then-not-is_within : goal.returns-then-not-is_within
 returns-then-not-is_within c =
     let told : c.is_within.result ≡ within c.args.x = c.is_within.ensures ∙ ap within (to_z-of_z c.ranges.x) in
-    rw (sym (told) ∙ not-true c.is_within.result c.if-not-is_within.true-raw)
+    rw (sym (told) ∙ c.if-not-is_within.true)
 
 pub negated_if_below-size-requires : goal.negated_if_below-size-requires
 negated_if_below-size-requires c =
     let told : c.is_within.result ≡ within c.args.x = c.is_within.ensures ∙ ap within (to_z-of_z c.ranges.x) in
     let x = c.args.x in
-    rw (to_z-of_z c.ranges.x) (omega (arith, within_le x (sym (told) ∙ not-false c.is_within.result c.if-not-is_within.false-raw)))
+    rw (to_z-of_z c.ranges.x) (omega (arith, within_le x (sym (told) ∙ c.if-not-is_within.false)))
 
 pub returns : goal.returns
 returns c =
@@ -28,6 +28,6 @@ returns c =
     let f = c.ranges.x in
     let m = c.negated_if_below-size.result in
     let e : m ≡ magnitude x = c.negated_if_below-size.ensures ∙ ap magnitude (to_z-of_z f) in
-    let w : within x ≡ true = sym (told) ∙ not-false c.is_within.result c.if-not-is_within.false-raw in
+    let w : within x ≡ true = sym (told) ∙ c.if-not-is_within.false in
     rw w
     (ap (λ (n : Bool). Is (record { negative = n; magnitude = m })) (lt_zero x f) ∙ ap (λ (k : ℕ). Is (record { negative = negative x; magnitude = k })) e)

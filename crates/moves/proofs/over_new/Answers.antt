@@ -23,10 +23,10 @@ pub loop-at-init : goal.loop-at-init
 loop-at-init c = passed_none
 
 pub returns-then-not-is_new : goal.returns-then-not-is_new
-returns-then-not-is_new c = rw (new_same c.loop-at.at c.loop-at.marks c.is_new.result _ (c.is_new.ensures.value, c.is_new.ensures.marks_after) (not-true _ c.if-not-is_new.true-raw)) (passed_on c.loop-marks.invariant c.loop-at.invariant)
+returns-then-not-is_new c = rw (new_same c.loop-at.at c.loop-at.marks c.is_new.result _ (c.is_new.ensures.value, c.is_new.ensures.marks_after) c.if-not-is_new.true) (passed_on c.loop-marks.invariant c.loop-at.invariant)
 
 pub loop-at-preserved : goal.loop-at-preserved
-loop-at-preserved c = passed_on c.loop-at.invariant (new_one c.loop-at.at c.loop-at.marks c.is_new.result _ (c.is_new.ensures.value, c.is_new.ensures.marks_after) c.args.all (not-false _ c.if-not-is_new.false-raw) c.loop-at-test.true)
+loop-at-preserved c = passed_on c.loop-at.invariant (new_one c.loop-at.at c.loop-at.marks c.is_new.result _ (c.is_new.ensures.value, c.is_new.ensures.marks_after) c.args.all c.if-not-is_new.false c.loop-at-test.true)
 
 pub returns : goal.returns
 returns c = passed_on c.loop-marks.invariant c.loop-at.invariant

@@ -24,7 +24,7 @@ returns-then-not-has_room c =
     let room_so : let a = c.args in c.has_room.result ≡ leb (a.offset + bytes_for (min a.budget (worst_body a.n a.l a.p))) a.out = let a = c.args in c.has_room.ensures ∙ ap (λ (x : ℕ). leb (a.offset + bytes_for x) a.out) (c.smaller.ensures ∙ ap (λ (x : ℕ). min a.budget x) c.worst_of.ensures) in
     let a = c.args in
     no_output a.n a.l a.p a.marks a.out a.offset a.budget (omega (arith, c.if-marks-all_of.false, all_so))
-    (sym (room_so) ∙ not-true c.has_room.result c.if-not-has_room.true-raw)
+    (sym (room_so) ∙ c.if-not-has_room.true)
 
 pub returns : goal.returns
 returns c =
@@ -32,4 +32,4 @@ returns c =
     let room_so : let a = c.args in c.has_room.result ≡ leb (a.offset + bytes_for (min a.budget (worst_body a.n a.l a.p))) a.out = let a = c.args in c.has_room.ensures ∙ ap (λ (x : ℕ). leb (a.offset + bytes_for x) a.out) (c.smaller.ensures ∙ ap (λ (x : ℕ). min a.budget x) c.worst_of.ensures) in
     let a = c.args in
     room_well a.n a.l a.p a.marks a.out a.offset a.budget (omega (arith, c.if-marks-all_of.false, all_so))
-    (sym (room_so) ∙ not-false c.has_room.result c.if-not-has_room.false-raw)
+    (sym (room_so) ∙ c.if-not-has_room.false)

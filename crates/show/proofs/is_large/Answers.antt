@@ -12,19 +12,19 @@ pub returns-then-file-gt-MOST_SHOWN : goal.returns-then-file-gt-MOST_SHOWN
 returns-then-file-gt-MOST_SHOWN c = large_long c.args.file.now c.if-file-gt-MOST_SHOWN.true
 
 pub returns-then-not-letters_fit : goal.returns-then-not-letters_fit
-returns-then-not-letters_fit c = large_letters c.args.file.now c.if-file-gt-MOST_SHOWN.false (sym c.letters_fit.ensures ∙ not-true c.letters_fit.result c.if-not-letters_fit.true-raw)
+returns-then-not-letters_fit c = large_letters c.args.file.now c.if-file-gt-MOST_SHOWN.false (sym c.letters_fit.ensures ∙ c.if-not-letters_fit.true)
 
 pub returns-then-not-version_fits : goal.returns-then-not-version_fits
-returns-then-not-version_fits c = large_version c.args.file.now c.if-file-gt-MOST_SHOWN.false (sym c.letters_fit.ensures ∙ not-false c.letters_fit.result c.if-not-letters_fit.false-raw)
-    (sym c.version_fits.ensures ∙ not-true c.version_fits.result c.if-not-version_fits.true-raw)
+returns-then-not-version_fits c = large_version c.args.file.now c.if-file-gt-MOST_SHOWN.false (sym c.letters_fit.ensures ∙ c.if-not-letters_fit.false)
+    (sym c.version_fits.ensures ∙ c.if-not-version_fits.true)
 
 pub returns-then-h-le-MOST_SHOWN_N : goal.returns-then-h-le-MOST_SHOWN_N
-returns-then-h-le-MOST_SHOWN_N c = large_small c.args.file.now c.if-file-gt-MOST_SHOWN.false (sym c.letters_fit.ensures ∙ not-false c.letters_fit.result c.if-not-letters_fit.false-raw)
-    (sym c.version_fits.ensures ∙ not-false c.version_fits.result c.if-not-version_fits.false-raw)
+returns-then-h-le-MOST_SHOWN_N c = large_small c.args.file.now c.if-file-gt-MOST_SHOWN.false (sym c.letters_fit.ensures ∙ c.if-not-letters_fit.false)
+    (sym c.version_fits.ensures ∙ c.if-not-version_fits.false)
     (omega (arith, ap {B = ℕ} (λ (h : Header). h.n) c.header_of-h.ensures))
 
 pub returns : goal.returns
 returns c = let e : c.header_of-h.result.n ≡ _ = ap {B = ℕ} (λ (h : Header). h.n) c.header_of-h.ensures in
     ap (λ (n : ℕ). leb n most_n) e
-    ∙ large_most c.args.file.now c.if-file-gt-MOST_SHOWN.false (sym c.letters_fit.ensures ∙ not-false c.letters_fit.result c.if-not-letters_fit.false-raw)
-    (sym c.version_fits.ensures ∙ not-false c.version_fits.result c.if-not-version_fits.false-raw) (omega (arith, e))
+    ∙ large_most c.args.file.now c.if-file-gt-MOST_SHOWN.false (sym c.letters_fit.ensures ∙ c.if-not-letters_fit.false)
+    (sym c.version_fits.ensures ∙ c.if-not-version_fits.false) (omega (arith, e))

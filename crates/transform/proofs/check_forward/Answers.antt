@@ -19,7 +19,7 @@ returns-in-Refused c = let a = c.args in
 pub returns-then-not-has_room : goal.returns-then-not-has_room
 returns-then-not-has_room c = let a = c.args in
     let k = c.has_room in
-    no_room a.n a.l a.samples.now a.out a.work c.check_sizes-sized.ensures c.in_default.is (sym k.ensures ∙ not-true k.result c.if-not-has_room.true-raw)
+    no_room a.n a.l a.samples.now a.out a.work c.check_sizes-sized.ensures c.in_default.is (sym k.ensures ∙ c.if-not-has_room.true)
 
 pub overflow_cast-result : goal.overflow_cast-result
 overflow_cast-result c = let a = c.args in
@@ -31,9 +31,9 @@ returns-then-outside-samples c = let a = c.args in
     let k = c.has_room in
     let o = c.first_outside-outside.ensures in
     ap (λ (x : ℕ). Refused (Sample x)) o
-    ∙ no_sample a.n a.l a.samples.now a.out a.work c.check_sizes-sized.ensures c.in_default.is (sym k.ensures ∙ not-false k.result c.if-not-has_room.false-raw) (omega (arith, o, c.if-outside-samples.true))
+    ∙ no_sample a.n a.l a.samples.now a.out a.work c.check_sizes-sized.ensures c.in_default.is (sym k.ensures ∙ c.if-not-has_room.false) (omega (arith, o, c.if-outside-samples.true))
 
 pub returns : goal.returns
 returns c = let a = c.args in
     let k = c.has_room in
-    transform_well a.n a.l a.samples.now a.out a.work c.check_sizes-sized.ensures c.in_default.is (sym k.ensures ∙ not-false k.result c.if-not-has_room.false-raw) (omega (arith, c.first_outside-outside.ensures, c.if-outside-samples.false))
+    transform_well a.n a.l a.samples.now a.out a.work c.check_sizes-sized.ensures c.in_default.is (sym k.ensures ∙ c.if-not-has_room.false) (omega (arith, c.first_outside-outside.ensures, c.if-outside-samples.false))

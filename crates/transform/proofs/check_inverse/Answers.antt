@@ -30,9 +30,9 @@ returns-then-over-coefs c = let a = c.args in
 pub returns-then-not-has_room : goal.returns-then-not-has_room
 returns-then-not-has_room c = let a = c.args in
     let k = c.has_room in
-    no_room_back a.n a.l a.coefs.now a.out a.work c.check_sizes-sized.ensures c.in_default.is (omega (arith, c.first_over-over.ensures, c.if-over-coefs.false)) (sym k.ensures ∙ not-true k.result c.if-not-has_room.true-raw)
+    no_room_back a.n a.l a.coefs.now a.out a.work c.check_sizes-sized.ensures c.in_default.is (omega (arith, c.first_over-over.ensures, c.if-over-coefs.false)) (sym k.ensures ∙ c.if-not-has_room.true)
 
 pub returns : goal.returns
 returns c = let a = c.args in
     let k = c.has_room in
-    entry_well a.n a.l a.coefs.now a.out a.work c.check_sizes-sized.ensures c.in_default.is (omega (arith, c.first_over-over.ensures, c.if-over-coefs.false)) (sym k.ensures ∙ not-false k.result c.if-not-has_room.false-raw)
+    entry_well a.n a.l a.coefs.now a.out a.work c.check_sizes-sized.ensures c.in_default.is (omega (arith, c.first_over-over.ensures, c.if-over-coefs.false)) (sym k.ensures ∙ c.if-not-has_room.false)

@@ -13,13 +13,13 @@ use Rattle.transform.proofs.first_outside.Goals as goal
 pub returns-then-not-is_sample : goal.returns-then-not-is_sample
 returns-then-not-is_sample c = let a = c.args.a.now in
     let i = c.loop-i.i in
-    let w : is_sample (at a i) ≡ false = rw (read_back (at a i) c.x-1.given) at (sym c.is_sample.ensures ∙ not-true c.is_sample.result c.if-not-is_sample.true-raw) in
+    let w : is_sample (at a i) ≡ false = rw (read_back (at a i) c.x-1.given) at (sym c.is_sample.ensures ∙ c.if-not-is_sample.true) in
     omega (arith, outside_stop a i c.loop-i-test.true w)
 
 pub loop-i-preserved : goal.loop-i-preserved
 loop-i-preserved c = let a = c.args.a.now in
     let i = c.loop-i.i in
-    let w : is_sample (at a i) ≡ true = rw (read_back (at a i) c.x-1.given) at (sym c.is_sample.ensures ∙ not-false c.is_sample.result c.if-not-is_sample.false-raw) in
+    let w : is_sample (at a i) ≡ true = rw (read_back (at a i) c.x-1.given) at (sym c.is_sample.ensures ∙ c.if-not-is_sample.false) in
     rw add-one (omega (arith, outside_step a i c.loop-i-test.true w))
 
 pub returns : goal.returns

@@ -22,13 +22,13 @@ returns-then-not-padding_fits c =
     let bytes_so : length (body_of c.args.file.now) ≤ bytes_for c.args.h.declared = omega (arith, c.if-bytes_for-file.false, c.bytes_for.ensures, length-drop header_size c.args.file.now) in
     let a = c.args in
     no_padding a.h (body_of a.file.now) a.values a.precisions a.marks (bytes_so)
-    (sym c.padding_fits.ensures ∙ not-true c.padding_fits.result c.if-not-padding_fits.true-raw)
+    (sym c.padding_fits.ensures ∙ c.if-not-padding_fits.true)
 
 -- the room is asked for the entries of a side in range
 pub returns : goal.returns
 returns c =
     let bytes_so : length (body_of c.args.file.now) ≤ bytes_for c.args.h.declared = omega (arith, c.if-bytes_for-file.false, c.bytes_for.ensures, length-drop header_size c.args.file.now) in
-    let padding_so : padding_fits c.args.h.declared (body_of c.args.file.now) ≡ true = sym c.padding_fits.ensures ∙ not-false c.padding_fits.result c.if-not-padding_fits.false-raw in
+    let padding_so : padding_fits c.args.h.declared (body_of c.args.file.now) ≡ true = sym c.padding_fits.ensures ∙ c.if-not-padding_fits.false in
     let a = c.args in
     c.check_tables.ensures
     ∙ ap (λ (all : ℕ). first_failing (table_checks all a.values a.precisions a.marks)) (c.all_of.ensures ∙ rw c.requires.1)

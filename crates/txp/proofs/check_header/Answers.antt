@@ -7,13 +7,13 @@ use Rattle.txp.proofs.check_header.Goals as goal
 
 pub returns-then-not-letters_fit : goal.returns-then-not-letters_fit
 unfolding first_failing
-returns-then-not-letters_fit c = rw (sym c.letters_fit.ensures ∙ not-true c.letters_fit.result c.if-not-letters_fit.true-raw)
+returns-then-not-letters_fit c = rw (sym c.letters_fit.ensures ∙ c.if-not-letters_fit.true)
 
 pub returns-then-not-version_fits : goal.returns-then-not-version_fits
 unfolding first_failing
-returns-then-not-version_fits c = rw (sym c.letters_fit.ensures ∙ not-false c.letters_fit.result c.if-not-letters_fit.false-raw, sym c.version_fits.ensures ∙ not-true c.version_fits.result c.if-not-version_fits.true-raw)
+returns-then-not-version_fits c = rw (sym c.letters_fit.ensures ∙ c.if-not-letters_fit.false, sym c.version_fits.ensures ∙ c.if-not-version_fits.true)
 
 pub returns : goal.returns
 unfolding first_failing
-returns c = rw (sym c.letters_fit.ensures ∙ not-false c.letters_fit.result c.if-not-letters_fit.false-raw, sym c.version_fits.ensures ∙ not-false c.version_fits.result c.if-not-version_fits.false-raw)
+returns c = rw (sym c.letters_fit.ensures ∙ c.if-not-letters_fit.false, sym c.version_fits.ensures ∙ c.if-not-version_fits.false)
     (c.check_worst.ensures ∙ ap (λ (h : Header). first_failing (worst_checks h.n h.l h.p)) c.header_of-h.ensures)

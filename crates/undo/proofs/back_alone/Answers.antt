@@ -19,7 +19,7 @@ pub loop-at-smaller : goal.loop-at-smaller
 loop-at-smaller c = omega arith
 
 pub loop-at-preserved : goal.loop-at-preserved
-loop-at-preserved c = (omega arith, omega arith, λ _. both_left _ _ (sym c.old_four.ensures ∙ not-false _ c.if-not-old_four.false-raw), λ P l big h. hushed_on _ _ P big l (c.loop-at.invariant.3 P l big h) (alone_four _ _ P big l h _ c.loop-at.at (omega arith) c.loop-at.invariant.1 (omega arith) (omega arith) c.loop-at.invariant.2 (sym c.old_four.ensures ∙ not-false _ c.if-not-old_four.false-raw)))
+loop-at-preserved c = (omega arith, omega arith, λ _. both_left _ _ (sym c.old_four.ensures ∙ c.if-not-old_four.false), λ P l big h. hushed_on _ _ P big l (c.loop-at.invariant.3 P l big h) (alone_four _ _ P big l h _ c.loop-at.at (omega arith) c.loop-at.invariant.1 (omega arith) (omega arith) c.loop-at.invariant.2 (sym c.old_four.ensures ∙ c.if-not-old_four.false)))
 
 pub returns : goal.returns
 returns c = c.loop-at.invariant.3

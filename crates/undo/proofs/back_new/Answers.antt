@@ -41,7 +41,7 @@ pub shape_of-marks-then-not-was_new : goal.shape_of-marks-then-not-was_new
 shape_of-marks-then-not-was_new c = c.was_new.auto.marks ∙ c.loop-at.invariant.0 ∙ c.loop-marks.invariant.0
 
 pub returns-then-not-was_new : goal.returns-then-not-was_new
-returns-then-not-was_new c = λ D P h. hushed_on _ D P _ _ (c.loop-marks.invariant.2 _ D P (omega arith) h) (hushed_on _ D P _ _ (c.loop-at.invariant.2 _ D P (omega arith) h) (back_none _ D P _ _ h _ _ _ (c.loop-at.at - 1) (sym c.was_new.ensures.value ∙ not-true _ c.if-not-was_new.true-raw) c.was_new.ensures.marks_after))
+returns-then-not-was_new c = λ D P h. hushed_on _ D P _ _ (c.loop-marks.invariant.2 _ D P (omega arith) h) (hushed_on _ D P _ _ (c.loop-at.invariant.2 _ D P (omega arith) h) (back_none _ D P _ _ h _ _ _ (c.loop-at.at - 1) (sym c.was_new.ensures.value ∙ c.if-not-was_new.true) c.was_new.ensures.marks_after))
 
 pub overflow_sub-at-in-loop-at-2 : goal.overflow_sub-at-in-loop-at-2
 overflow_sub-at-in-loop-at-2 c = omega arith
@@ -50,7 +50,7 @@ pub loop-at-smaller : goal.loop-at-smaller
 loop-at-smaller c = omega arith
 
 pub loop-at-preserved : goal.loop-at-preserved
-loop-at-preserved c = (c.was_new.auto.marks ∙ c.loop-at.invariant.0, omega arith, λ I D P h k. hushed_on I D P _ _ (c.loop-at.invariant.2 I D P h k) (back_one I D P _ _ k _ _ _ _ (omega arith) (omega arith) (sym c.was_new.ensures.value ∙ not-false _ c.if-not-was_new.false-raw) c.was_new.ensures.marks_after))
+loop-at-preserved c = (c.was_new.auto.marks ∙ c.loop-at.invariant.0, omega arith, λ I D P h k. hushed_on I D P _ _ (c.loop-at.invariant.2 I D P h k) (back_one I D P _ _ k _ _ _ _ (omega arith) (omega arith) (sym c.was_new.ensures.value ∙ c.if-not-was_new.false) c.was_new.ensures.marks_after))
 
 pub shape_of-marks : goal.shape_of-marks
 shape_of-marks c = c.loop-at.invariant.0 ∙ c.loop-marks.invariant.0

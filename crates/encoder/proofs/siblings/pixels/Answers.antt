@@ -23,7 +23,7 @@ returns-then-not-low c = leave _ _ _ _ _ _ _ _ _ _ _ c.requires.0 0
 
 pub returns-then-k-eq0 : goal.returns-then-k-eq0
 returns-then-k-eq0 c =
-    let low_so : FourLow c.args.marks.now c.args.place = low_four _ _ _ _ _ _ _ _ _ c.requires.0 _ c.word_at-w.ensures.value (c.word_at-w.ensures.four_bytes (four_there _ _ _ _ _ _ _ _ _ c.requires.0)) _ c.low.ensures (not-false _ c.if-not-low.false-raw) in
+    let low_so : FourLow c.args.marks.now c.args.place = low_four _ _ _ _ _ _ _ _ _ c.requires.0 _ c.word_at-w.ensures.value (c.word_at-w.ensures.four_bytes (four_there _ _ _ _ _ _ _ _ _ c.requires.0)) _ c.low.ensures c.if-not-low.false in
     no_pixels _ _ _ _ _ _ _ _ _ _ _ c.requires.0 _ c.word_at-w.ensures.value (c.word_at-w.ensures.four_bytes (four_there _ _ _ _ _ _ _ _ _ c.requires.0)) (low_so) (sym c.ones-k.ensures ∙ c.if-k-eq0.true)
 
 pub key_of-x-requires : goal.key_of-x-requires
@@ -44,11 +44,11 @@ put_entry-t-requires c =
 
 pub overflow_add-w : goal.overflow_add-w
 overflow_add-w c =
-    let low_so : FourLow c.args.marks.now c.args.place = low_four _ _ _ _ _ _ _ _ _ c.requires.0 _ c.word_at-w.ensures.value (c.word_at-w.ensures.four_bytes (four_there _ _ _ _ _ _ _ _ _ c.requires.0)) _ c.low.ensures (not-false _ c.if-not-low.false-raw) in
+    let low_so : FourLow c.args.marks.now c.args.place = low_four _ _ _ _ _ _ _ _ _ c.requires.0 _ c.word_at-w.ensures.value (c.word_at-w.ensures.four_bytes (four_there _ _ _ _ _ _ _ _ _ c.requires.0)) _ c.low.ensures c.if-not-low.false in
     omega (arith, c.spread.ensures, c.word_at-w.ensures.value, low_fits c.args.marks.now c.args.place (four_there _ _ _ _ _ _ _ _ _ c.requires.0) (low_so) (c.key_of-x.result / 16))
 
 pub returns : goal.returns
 returns c =
     let asked_few : c.ones-k.result < 16 = which_lt 1 c.word_at-w.result _ c.ones-k.ensures in
-    let low_so : FourLow c.args.marks.now c.args.place = low_four _ _ _ _ _ _ _ _ _ c.requires.0 _ c.word_at-w.ensures.value (c.word_at-w.ensures.four_bytes (four_there _ _ _ _ _ _ _ _ _ c.requires.0)) _ c.low.ensures (not-false _ c.if-not-low.false-raw) in
+    let low_so : FourLow c.args.marks.now c.args.place = low_four _ _ _ _ _ _ _ _ _ c.requires.0 _ c.word_at-w.ensures.value (c.word_at-w.ensures.four_bytes (four_there _ _ _ _ _ _ _ _ _ c.requires.0)) _ c.low.ensures c.if-not-low.false in
     found_pixels _ _ _ _ _ _ _ _ _ _ _ c.requires.0 _ _ _ _ c.requires.1 (asked_few) c.key_of-x.ensures refl _ c.word_at-w.ensures.value (low_so) c.ones-k.ensures c.if-safe-s.false _ _ c.put_entry-t.ensures _ c.spread.ensures _ c.set_word.ensures

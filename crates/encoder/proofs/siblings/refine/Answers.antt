@@ -48,5 +48,5 @@ put_entry-t-requires c =
 pub returns : goal.returns
 returns c =
     let asked_few : c.threes.result < 16 = which_lt 3 c.word_at-w.result _ c.threes.ensures in
-    let low_so : FourLow c.args.marks.now c.args.place = low_four _ _ _ _ _ _ _ _ _ c.requires.0 _ c.word_at-w.ensures.value (c.word_at-w.ensures.four_bytes (four_there _ _ _ _ _ _ _ _ _ c.requires.0)) _ c.low.ensures (not-false _ c.if-not-low.false-raw) in
+    let low_so : FourLow c.args.marks.now c.args.place = low_four _ _ _ _ _ _ _ _ _ c.requires.0 _ c.word_at-w.ensures.value (c.word_at-w.ensures.four_bytes (four_there _ _ _ _ _ _ _ _ _ c.requires.0)) _ c.low.ensures c.if-not-low.false in
     found_refined _ _ _ _ _ _ _ _ _ _ _ c.requires.0 _ c.threes.result _ c.args.picked.now c.requires.1 (asked_few) c.word_at-w.ensures.value c.threes.ensures (ap (λ (y : ℕ). get_or c.args.picked.now (16 * c.threes.result + y) 0) c.four_bits.ensures) (low_so) c.if-safe-s.false _ _ c.put_entry-t.ensures _ (c.set_word.ensures ∙ ap (with_word c.args.marks.now c.args.place) c.refined.ensures)

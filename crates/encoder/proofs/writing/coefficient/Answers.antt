@@ -7,10 +7,10 @@ pub returns-then-budget-n : goal.returns-then-budget-n
 returns-then-budget-n c = coefficient_none _ _ _ _ _ _ _ c.if-budget-n.true (omega arith)
 
 pub returns-then-not-x : goal.returns-then-not-x
-returns-then-not-x c = coefficient_zero _ _ _ _ _ _ _ _ c.bit_at-x.ensures c.if-budget-n.false _ c.put.ensures (not-true _ c.if-not-x.true-raw)
+returns-then-not-x c = coefficient_zero _ _ _ _ _ _ _ _ c.bit_at-x.ensures c.if-budget-n.false _ c.put.ensures c.if-not-x.true
 
 pub returns-then-budget-k : goal.returns-then-budget-k
-returns-then-budget-k c = coefficient_cut _ _ _ _ _ _ _ _ c.bit_at-x.ensures c.if-budget-n.false _ c.put.ensures (not-false _ c.if-not-x.false-raw) c.if-budget-k.true
+returns-then-budget-k c = coefficient_cut _ _ _ _ _ _ _ _ c.bit_at-x.ensures c.if-budget-n.false _ c.put.ensures c.if-not-x.false c.if-budget-k.true
 
 pub returns : goal.returns
-returns c = coefficient_one _ _ _ _ _ _ _ _ c.bit_at-x.ensures c.if-budget-n.false _ c.put.ensures (not-false _ c.if-not-x.false-raw) c.if-budget-k.false _ c.negative_at.ensures _ c.put-2.ensures
+returns c = coefficient_one _ _ _ _ _ _ _ _ c.bit_at-x.ensures c.if-budget-n.false _ c.put.ensures c.if-not-x.false c.if-budget-k.false _ c.negative_at.ensures _ c.put-2.ensures

@@ -16,9 +16,9 @@ returns-then-budget-n c =
 pub returns-then-not-x : goal.returns-then-not-x
 returns-then-not-x c =
     let a = c.args in
-    tested_zero [] a.desc.now [] a.budget a.b a.place (in_desc (a.place / 4) a.b) 4 (desc_split_marks a.all a.place a.marks.now) a.marks.now a.out.now a.n _ c.bit_of-x.ensures c.if-budget-n.false _ c.put.ensures (not-true _ c.if-not-x.true-raw)
+    tested_zero [] a.desc.now [] a.budget a.b a.place (in_desc (a.place / 4) a.b) 4 (desc_split_marks a.all a.place a.marks.now) a.marks.now a.out.now a.n _ c.bit_of-x.ensures c.if-budget-n.false _ c.put.ensures c.if-not-x.true
 
 pub returns : goal.returns
 returns c =
     let a = c.args in
-    tested_one [] a.desc.now [] a.budget a.b a.place (in_desc (a.place / 4) a.b) 4 (desc_split_marks a.all a.place a.marks.now) a.marks.now a.out.now a.n _ c.bit_of-x.ensures c.if-budget-n.false _ c.put.ensures _ (not-false _ c.if-not-x.false-raw) (split_desc_so _ _ c.args.marks.now _ c.split_desc.ensures c.requires.1 c.requires.2 c.requires.0)
+    tested_one [] a.desc.now [] a.budget a.b a.place (in_desc (a.place / 4) a.b) 4 (desc_split_marks a.all a.place a.marks.now) a.marks.now a.out.now a.n _ c.bit_of-x.ensures c.if-budget-n.false _ c.put.ensures _ c.if-not-x.false (split_desc_so _ _ c.args.marks.now _ c.split_desc.ensures c.requires.1 c.requires.2 c.requires.0)

@@ -16,9 +16,9 @@ returns-then-budget-n c =
 pub returns-then-not-x : goal.returns-then-not-x
 returns-then-not-x c =
     let a = c.args in
-    tested_zero [] [] a.grand.now a.budget a.b a.place (in_grand (a.place / 16) a.b) 16 (grand_split_marks a.all a.place a.marks.now) a.marks.now a.out.now a.n _ c.bit_of-x.ensures c.if-budget-n.false _ c.put.ensures (not-true _ c.if-not-x.true-raw)
+    tested_zero [] [] a.grand.now a.budget a.b a.place (in_grand (a.place / 16) a.b) 16 (grand_split_marks a.all a.place a.marks.now) a.marks.now a.out.now a.n _ c.bit_of-x.ensures c.if-budget-n.false _ c.put.ensures c.if-not-x.true
 
 pub returns : goal.returns
 returns c =
     let a = c.args in
-    tested_one [] [] a.grand.now a.budget a.b a.place (in_grand (a.place / 16) a.b) 16 (grand_split_marks a.all a.place a.marks.now) a.marks.now a.out.now a.n _ c.bit_of-x.ensures c.if-budget-n.false _ c.put.ensures _ (not-false _ c.if-not-x.false-raw) (split_grand_so _ _ c.args.marks.now _ c.split_grand.ensures c.requires.1 c.requires.2 c.requires.0)
+    tested_one [] [] a.grand.now a.budget a.b a.place (in_grand (a.place / 16) a.b) 16 (grand_split_marks a.all a.place a.marks.now) a.marks.now a.out.now a.n _ c.bit_of-x.ensures c.if-budget-n.false _ c.put.ensures _ c.if-not-x.false (split_grand_so _ _ c.args.marks.now _ c.split_grand.ensures c.requires.1 c.requires.2 c.requires.0)

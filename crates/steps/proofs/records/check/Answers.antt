@@ -15,17 +15,17 @@ use Rattle.steps.proofs.records.check.Goals as goal
 
 pub returns-then-not-in_range : goal.returns-then-not-in_range
 returns-then-not-in_range c = let a = c.args in
-    sym (first_fails (in_range a.dial && leb a.dial.used a.most) refusal.Record _ (rw (sym c.in_range.ensures, not-true c.in_range.result c.if-not-in_range.true-raw)))
+    sym (first_fails (in_range a.dial && leb a.dial.used a.most) refusal.Record _ (rw (sym c.in_range.ensures, c.if-not-in_range.true)))
 
 pub returns-then-most-dial : goal.returns-then-most-dial
 returns-then-most-dial c =
-    let range_so : in_range c.args.dial ≡ true = sym c.in_range.ensures ∙ not-false c.in_range.result c.if-not-in_range.false-raw in
+    let range_so : in_range c.args.dial ≡ true = sym c.in_range.ensures ∙ c.if-not-in_range.false in
     let a = c.args in
     sym (first_fails (in_range a.dial && leb a.dial.used a.most) refusal.Record _ (rw (range_so) (lt-leb a.dial.used a.most c.if-most-dial.true)))
 
 pub returns : goal.returns
 returns c =
-    let range_so : in_range c.args.dial ≡ true = sym c.in_range.ensures ∙ not-false c.in_range.result c.if-not-in_range.false-raw in
+    let range_so : in_range c.args.dial ≡ true = sym c.in_range.ensures ∙ c.if-not-in_range.false in
     let a = c.args in
     let range = range_so in
     let all : c.all_of.result ≡ all_of a.dial.n = c.all_of.ensures ∙ rw (range_sizes a.dial range).0 in

@@ -9,19 +9,19 @@ pub returns-in-More : goal.returns-in-More
 returns-in-More c = rw c.in-More.is c.store-in-More.ensures
 
 pub returns-then-not-bit : goal.returns-then-not-bit
-returns-then-not-bit c = rw (c.in-Bit.is, not-true c.args.bit c.if-not-bit.true-raw) c.store-then-not-bit.ensures
+returns-then-not-bit c = rw (c.in-Bit.is, c.if-not-bit.true) c.store-then-not-bit.ensures
 
 pub returns-else-not-bit : goal.returns-else-not-bit
-returns-else-not-bit c = rw (c.in-Bit.is, not-false c.args.bit c.if-not-bit.false-raw) refl
+returns-else-not-bit c = rw (c.in-Bit.is, c.if-not-bit.false) refl
 
 pub returns-then-not-bit-2 : goal.returns-then-not-bit-2
-returns-then-not-bit-2 c = rw (c.in-Desc.is, not-true c.args.bit c.if-not-bit-2.true-raw) c.note_desc.ensures
+returns-then-not-bit-2 c = rw (c.in-Desc.is, c.if-not-bit-2.true) c.note_desc.ensures
 
 pub returns-else-not-bit-2 : goal.returns-else-not-bit-2
-returns-else-not-bit-2 c = rw (c.in-Desc.is, not-false c.args.bit c.if-not-bit-2.false-raw) refl
+returns-else-not-bit-2 c = rw (c.in-Desc.is, c.if-not-bit-2.false) refl
 
 pub returns-then-not-bit-3 : goal.returns-then-not-bit-3
-returns-then-not-bit-3 c = rw (c.in-Grand.is, not-true c.args.bit c.if-not-bit-3.true-raw) c.note_grand.ensures
+returns-then-not-bit-3 c = rw (c.in-Grand.is, c.if-not-bit-3.true) c.note_grand.ensures
 
 pub returns-else-not-bit-3 : goal.returns-else-not-bit-3
-returns-else-not-bit-3 c = rw (c.in-Grand.is, not-false c.args.bit c.if-not-bit-3.false-raw) refl
+returns-else-not-bit-3 c = rw (c.in-Grand.is, c.if-not-bit-3.false) refl
