@@ -7,7 +7,7 @@ use native.Mathlib.Decide.{dec_lt}
 use native.Mathlib.Omega.{arith}
 use borrow.Author.Tests.{lt-ltb, le-ltb, lt-leb, le-leb}
 use denote.Ref.{Bor}
-use lib.Dec.{ltb, leb}
+use lib.Dec.{leb}
 use lib.ListN.{length}
 use lib.Seq.{append_snoc}
 use Rattle.sizes.specs.Tables.{table}
@@ -15,7 +15,7 @@ use Rattle.bits.specs.declared.Next.{Next}
 use Rattle.bits.specs.declared.Next.TheVariants.{Bit, NoMore}
 use Rattle.bits.specs.declared.Why.{Why}
 use Rattle.bits.specs.declared.Why.TheVariants.{Declared, Short}
-use Rattle.bits.specs.Bits.{bit_at, bits_of, fetched}
+use Rattle.bits.specs.Bits.{bit_at, bits_of}
 use Rattle.bits.proofs.Laws.{bits_of_suc}
 use Rattle.view.specs.declared.BitView.{BitView}
 use Rattle.view.specs.View.{viewed, next_after, moved_to, view_of, past}

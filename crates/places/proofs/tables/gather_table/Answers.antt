@@ -4,8 +4,6 @@ use mathlib.Core.Path.{refl}
 use Rattle.sizes.specs.Tables.{table}
 use Rattle.places.specs.Order.{row_of, col_of}
 use Rattle.places.specs.Gather.{gatherer}
-use Rattle.places.proofs.tables.gather_table.Statement.{statement}
-use Rattle.places.proofs.tables.gather_table.Tie as tie
 
 pub returns : goal.returns
 unfolding table row_of col_of gatherer

@@ -3,8 +3,6 @@ use Rattle.places.proofs.tables.spread_table.Goals as goal
 use mathlib.Core.Path.{refl}
 use Rattle.sizes.specs.Tables.{table}
 use Rattle.places.specs.Spread.{spread, spreader}
-use Rattle.places.proofs.tables.spread_table.Statement.{statement}
-use Rattle.places.proofs.tables.spread_table.Tie as tie
 
 pub returns : goal.returns
 unfolding table spread spreader
