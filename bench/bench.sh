@@ -15,7 +15,7 @@
 # and a coder with lists too, counts mispredicted branches, and holds the library to bars.
 set -eu
 cd "$(dirname "$0")/.."
-rt staticlib ctxp >&2
+tests/build.sh library >&2
 room=$(mktemp -d)
 trap 'rm -rf "$room"' EXIT
 cc=gcc

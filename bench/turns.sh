@@ -22,7 +22,7 @@ time whole fast-O3 0.9
 insns whole plain 0.9
 time cut fast 0.85'
 if [ -z "${LIB:-}" ]; then
-    rt staticlib ctxp >&2
+    tests/build.sh library >&2
     LIB=target/staticlib/libctxp.a
 fi
 room=$(mktemp -d)

@@ -1,9 +1,10 @@
 #!/usr/bin/env python3
-"""Holds include/txp.h to the source of the library: crates/ctxp, and the crates that state its numbers.
+"""Holds include/txp.h to the source of the library: crates/ctxp_c, whose exports call crates/ctxp, and the crates that state its numbers.
 
   header.py [DIR]     DIR is the repository, by default the one that this file is in
 
-Compared: the exported functions, their order, the name, width, sign and order of each parameter, the result; the answer's fields
+Compared: the exported functions, their order, the name, width, sign and order of each parameter, the result, and the call of `ctxp`
+that each makes, which has the same parameters, result and clauses; the answer's fields
 with the source's struct, with the order in which they are put and with the definitions `Entry`, `entry_of` and `entries`; the record's
 fields with the source's struct and with the order in which the calls take and put them; the refusals' numbers, and those of why the
 bits ended, with as many texts; the limits and the sizes to lend; the declarations of examples/rust with the header; and that each
@@ -50,7 +51,7 @@ def in_c(name, kind, lengths):
 
 
 def rattle_functions(text, lengths):
-    for m in re.finditer(r'#\[no_mangle\]\s+pub extern "C" fn (\w+)\((.*?)\)\s*(?:->\s*(\w+))?\s*ensures', text, re.S):
+    for m in re.finditer(r'#\[unsafe\(no_mangle\)\]\s+pub extern "C" fn (\w+)\((.*?)\)\s*(?:->\s*(\w+))?\s*ensures', text, re.S):
         params = []
         for p in re.split(r",(?![^\[]*\])", m[2]):
             if p.strip():
@@ -67,9 +68,9 @@ def c_functions(text):
 def functions(header, lengths):
     marked = 0
     ours = []
-    folder = os.path.join(ROOT, "crates", "ctxp", "src")
+    folder = os.path.join(ROOT, "crates", "ctxp_c", "src")
     for file in ["lib.rt"] + sorted(set(os.listdir(folder)) - {"lib.rt"}):
-        text = source("crates", "ctxp", "src", file)
+        text = source("crates", "ctxp_c", "src", file)
         marked += text.count("no_mangle") + text.count("extern \"C\"")
         ours += list(rattle_functions(text, lengths))
     same("exported functions that this test can read", 2 * len(ours), marked)
@@ -80,7 +81,29 @@ def functions(header, lengths):
         if name in declared:
             same(f"{name}'s result", declared[name][1], result)
             same(f"{name}'s parameters", declared[name][2], params)
+    exports()
     return len(ours)
+
+
+def declared_in(crate):
+    """The functions of a crate's root file: how each is declared, by its name, and its body."""
+    head = r'^((?:#\[unsafe\(no_mangle\)\]\n)?(?:pub )?(?:extern "C" )?)fn (\w+)\((.*?)\) -> (\w+)\n(.*?)^\{\n(.*?)^\}'
+    for m in re.finditer(head, source("crates", crate, "src", "lib.rt"), re.S | re.M):
+        params = [p.strip() for p in re.split(r",(?![^\[]*\])", m[3]) if p.strip()]
+        yield m[2], (m[1], params, m[4], m[5]), " ".join(m[6].split())
+
+
+def exports():
+    """Each export has the parameters, the result and the clauses of the call of `ctxp` of its name, and is that call. The clauses' words are the same definitions."""
+    base = {name: form for name, form, _ in declared_in("ctxp")}
+    for name, form, body in declared_in("ctxp_c"):
+        same(f"{name}, as ctxp_c and as ctxp", form, ('#[unsafe(no_mangle)]\npub extern "C" ', *base.get(name, ["no function"])[1:]))
+        if re.sub(r"\(\s+|,?\s+\)$|,\)$", lambda m: m[0].strip(", "), body) != f"ctxp::{name}({', '.join(p.split(':')[0] for p in form[1])})":
+            wrong.append(f"{name} is not the call of ctxp of its name: {body}")
+    words = source("crates", "ctxp", "src", "lib.rt")
+    for line in re.findall(r"^ghost use .*", source("crates", "ctxp_c", "src", "lib.rt"), re.M):
+        if line not in words:
+            wrong.append(f"ctxp_c has words that ctxp has not: {line}")
 
 
 def fields(header):
@@ -99,7 +122,7 @@ def fields(header):
          re.findall(r"(\w+) ↦ (\d+)", re.search(r"^entry_of e = elim e \[(.*?)\]", spec, re.S | re.M)[1]))
     same("the numbers of an answer that says nothing", len(names), int(re.search(r"^says \[\] = replicate (\d+) 0", spec, re.M)[1]))
     inner = read("crates", "ctxp", "specs", "Inner.antt")
-    same("the struct's fields, entry after entry", names, re.findall(r"a \.(\w+)", re.search(r"^entries a =(.*?)\[\]", inner, re.S | re.M)[1]))
+    same("the struct's fields, entry after entry", names, re.findall(r"\ba\.(\w+)", re.search(r"^entries a =(.*?)\[\]", inner, re.S | re.M)[1]))
     return len(names)
 
 
@@ -226,7 +249,7 @@ def base():
         if not os.path.exists(os.path.join(ROOT, *path)):
             continue
         text = source(*path)
-        names = re.findall(r"^pub fn (\w+)", text, re.M) + [n for n in re.findall(r"^pub use \w+::(\w+);", text, re.M) if n[0].islower()]
+        names = re.findall(r"^pub fn (\w+)", text, re.M) + [n for n in re.findall(r"\w+", " ".join(a or b for a, b in re.findall(r"^pub use \w+::(?:(\w+)|\{(.*?)\});", text, re.S | re.M))) if n[0].islower()]
         for name in names:
             count += 1
             if not re.search(rf"\b{crate}::{name}\(", made) and f"`{crate}::{name}`" not in said:

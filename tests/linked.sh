@@ -7,7 +7,7 @@ set -eu
 mapfile -t dirs < <(realpath "$@")
 cd "$(dirname "$0")/.."
 mkdir -p target
-rt staticlib ctxp > target/staticlib.log 2>&1 || { tail -20 target/staticlib.log; exit 1; }
+tests/build.sh library > target/staticlib.log 2>&1 || { tail -20 target/staticlib.log; exit 1; }
 ${CC:-cc} -std=c11 -O2 -Wall -Wextra -pedantic -Iinclude tests/linked.c target/staticlib/libctxp.a -o target/linked
 for dir in "${dirs[@]}"; do
     ${RUN:-} target/linked < "$dir/stdin" > target/linked.out

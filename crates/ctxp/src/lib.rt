@@ -1,4 +1,4 @@
-// The calls of the base for programs in C: `include/txp.h` declares them.
+// The calls of the base for programs in C. `ctxp_c` exports each under its name, and `include/txp.h` declares them.
 // Each gives back the number of the refusal, 0 where it was done, and puts every other number into the lent answer.
 #![tactic(auto)]
 
@@ -29,8 +29,7 @@ use answers::put;
 // ---- the file
 
 // Writes the file of a linear array of coefficients.
-#[unsafe(no_mangle)]
-pub extern "C" fn txp_encode(
+pub fn txp_encode(
     n: u32,
     l: u32,
     coefs: &[i32],
@@ -48,8 +47,7 @@ pub extern "C" fn txp_encode(
 }
 
 // Reads a file, whole or cut: known bits stand for themselves.
-#[unsafe(no_mangle)]
-pub extern "C" fn txp_decode(
+pub fn txp_decode(
     file: &[u8],
     values: &mut [i32],
     precisions: &mut [u8],
@@ -63,8 +61,7 @@ pub extern "C" fn txp_decode(
 }
 
 // The same, values by the midpoint.
-#[unsafe(no_mangle)]
-pub extern "C" fn txp_decode_midpoint(
+pub fn txp_decode_midpoint(
     file: &[u8],
     values: &mut [i32],
     precisions: &mut [u8],
@@ -78,8 +75,7 @@ pub extern "C" fn txp_decode_midpoint(
 }
 
 // What the header of a file says.
-#[unsafe(no_mangle)]
-pub extern "C" fn txp_header(file: &[u8], answer: &mut [u32; 16]) -> u32
+pub fn txp_header(file: &[u8], answer: &mut [u32; 16]) -> u32
     ensures { Answers result answer.new (of_header (header_answer (first_failing (header_checks file.now)) (header_of file.now))) }
 {
     let done = txp::read_header(file);
@@ -89,8 +85,7 @@ pub extern "C" fn txp_header(file: &[u8], answer: &mut [u32; 16]) -> u32
 // ---- the body
 
 // The most bits that a body of this N, L and P can have.
-#[unsafe(no_mangle)]
-pub extern "C" fn txp_worst_body(n: u32, l: u32, p: u32, answer: &mut [u32; 16]) -> u32
+pub fn txp_worst_body(n: u32, l: u32, p: u32, answer: &mut [u32; 16]) -> u32
     ensures { Answers result answer.new (of_worst (room.worst_answer n l p (first_failing (room.worst_checks n l p)))) }
 {
     let done = room::worst_body(n, l, p);
@@ -98,8 +93,7 @@ pub extern "C" fn txp_worst_body(n: u32, l: u32, p: u32, answer: &mut [u32; 16])
 }
 
 // Writes the body of a linear array of coefficients from `offset` on.
-#[unsafe(no_mangle)]
-pub extern "C" fn txp_encode_body(
+pub fn txp_encode_body(
     n: u32,
     l: u32,
     coefs: &[i32],
@@ -118,8 +112,7 @@ pub extern "C" fn txp_encode_body(
 }
 
 // Reads the first `declared` bits of a body, or all that it has: known bits stand for themselves.
-#[unsafe(no_mangle)]
-pub extern "C" fn txp_decode_body(
+pub fn txp_decode_body(
     n: u32,
     l: u32,
     p: u32,
@@ -137,8 +130,7 @@ pub extern "C" fn txp_decode_body(
 }
 
 // The same, values by the midpoint.
-#[unsafe(no_mangle)]
-pub extern "C" fn txp_decode_body_midpoint(
+pub fn txp_decode_body_midpoint(
     n: u32,
     l: u32,
     p: u32,
@@ -158,8 +150,7 @@ pub extern "C" fn txp_decode_body_midpoint(
 // ---- the stepped decoder
 
 // The record and the tables before the first bit of a body.
-#[unsafe(no_mangle)]
-pub extern "C" fn txp_start(
+pub fn txp_start(
     dial: &mut [u32; 8],
     n: u32,
     l: u32,
@@ -180,8 +171,7 @@ pub extern "C" fn txp_start(
 }
 
 // One bit forward.
-#[unsafe(no_mangle)]
-pub extern "C" fn txp_forward(
+pub fn txp_forward(
     dial: &mut [u32; 8],
     body: &[u8],
     declared: u32,
@@ -201,8 +191,7 @@ pub extern "C" fn txp_forward(
 }
 
 // One bit back.
-#[unsafe(no_mangle)]
-pub extern "C" fn txp_back(
+pub fn txp_back(
     dial: &mut [u32; 8],
     body: &[u8],
     declared: u32,
@@ -222,8 +211,7 @@ pub extern "C" fn txp_back(
 }
 
 // To a number of bits used, forward or back.
-#[unsafe(no_mangle)]
-pub extern "C" fn txp_turn(
+pub fn txp_turn(
     dial: &mut [u32; 8],
     body: &[u8],
     declared: u32,
@@ -246,8 +234,7 @@ pub extern "C" fn txp_turn(
 // ---- the transform
 
 // The coefficients of a square of samples.
-#[unsafe(no_mangle)]
-pub extern "C" fn txp_transform(
+pub fn txp_transform(
     n: u32,
     l: u32,
     samples: &[i32],
@@ -262,8 +249,7 @@ pub extern "C" fn txp_transform(
 }
 
 // The samples that these coefficients are of.
-#[unsafe(no_mangle)]
-pub extern "C" fn txp_restore(
+pub fn txp_restore(
     n: u32,
     l: u32,
     coefs: &[i32],
@@ -280,8 +266,7 @@ pub extern "C" fn txp_restore(
 // ---- summaries and figures
 
 // Fills DESC and GRAND.
-#[unsafe(no_mangle)]
-pub extern "C" fn txp_summaries(
+pub fn txp_summaries(
     n: u32,
     l: u32,
     coefs: &[i32],
@@ -298,8 +283,7 @@ pub extern "C" fn txp_summaries(
 }
 
 // The figures of one plane. Fills DESC and GRAND on the way.
-#[unsafe(no_mangle)]
-pub extern "C" fn txp_figures(
+pub fn txp_figures(
     n: u32,
     l: u32,
     values: &[i32],
@@ -317,8 +301,7 @@ pub extern "C" fn txp_figures(
 }
 
 // The figures of all planes, 0 to 23: the summaries are filled once.
-#[unsafe(no_mangle)]
-pub extern "C" fn txp_figures_all(
+pub fn txp_figures_all(
     n: u32,
     l: u32,
     values: &[i32],
@@ -339,8 +322,7 @@ pub extern "C" fn txp_figures_all(
 // ---- places
 
 // A whole raster array in linear order.
-#[unsafe(no_mangle)]
-pub extern "C" fn txp_to_linear(n: u32, from: &[i32], to: &mut [i32], answer: &mut [u32; 16]) -> u32
+pub fn txp_to_linear(n: u32, from: &[i32], to: &mut [i32], answer: &mut [u32; 16]) -> u32
     ensures answer { Answers result answer.new (of_outcome (first_failing (reorder_checks n (length from.now) (length to.old)))) }
     ensures reordered { to.new ≡ lent_after (first_failing (reorder_checks n (length from.now) (length to.old))) (order.linearly n from.now) to.old }
 {
@@ -349,8 +331,7 @@ pub extern "C" fn txp_to_linear(n: u32, from: &[i32], to: &mut [i32], answer: &m
 }
 
 // A whole linear array in raster order.
-#[unsafe(no_mangle)]
-pub extern "C" fn txp_to_raster(n: u32, from: &[i32], to: &mut [i32], answer: &mut [u32; 16]) -> u32
+pub fn txp_to_raster(n: u32, from: &[i32], to: &mut [i32], answer: &mut [u32; 16]) -> u32
     ensures answer { Answers result answer.new (of_outcome (first_failing (reorder_checks n (length from.now) (length to.old)))) }
     ensures reordered { to.new ≡ lent_after (first_failing (reorder_checks n (length from.now) (length to.old))) (order.rasterly n from.now) to.old }
 {
@@ -359,8 +340,7 @@ pub extern "C" fn txp_to_raster(n: u32, from: &[i32], to: &mut [i32], answer: &m
 }
 
 // The linear place of a raster place.
-#[unsafe(no_mangle)]
-pub extern "C" fn txp_linear_place(n: u32, place: u32, answer: &mut [u32; 16]) -> u32
+pub fn txp_linear_place(n: u32, place: u32, answer: &mut [u32; 16]) -> u32
     ensures { Answers result answer.new (of_linear (linear_if (first_failing (place_checks n place)) (order.to_linear n place))) }
 {
     match places::raster_at(n, place) {
@@ -373,8 +353,7 @@ pub extern "C" fn txp_linear_place(n: u32, place: u32, answer: &mut [u32; 16]) -
 }
 
 // The raster place of a linear place.
-#[unsafe(no_mangle)]
-pub extern "C" fn txp_raster_place(n: u32, place: u32, answer: &mut [u32; 16]) -> u32
+pub fn txp_raster_place(n: u32, place: u32, answer: &mut [u32; 16]) -> u32
     ensures { Answers result answer.new (of_raster (raster_if (first_failing (place_checks n place)) (order.to_raster n place))) }
 {
     match places::linear_at(n, place) {
@@ -389,8 +368,7 @@ pub extern "C" fn txp_raster_place(n: u32, place: u32, answer: &mut [u32; 16]) -
 // ---- coefficients
 
 // The planes of an array.
-#[unsafe(no_mangle)]
-pub extern "C" fn txp_planes(coefs: &[i32], answer: &mut [u32; 16]) -> u32
+pub fn txp_planes(coefs: &[i32], answer: &mut [u32; 16]) -> u32
     ensures { Answers result answer.new (of_planes (coefficient.planes_of coefs.now)) }
 {
     let done = coef::planes(coefs);
@@ -398,8 +376,7 @@ pub extern "C" fn txp_planes(coefs: &[i32], answer: &mut [u32; 16]) -> u32
 }
 
 // Whether x is below 0: 1 or 0.
-#[unsafe(no_mangle)]
-pub extern "C" fn txp_is_negative(x: i32, answer: &mut [u32; 16]) -> u32
+pub fn txp_is_negative(x: i32, answer: &mut [u32; 16]) -> u32
     ensures { Answers result answer.new (of_value (digit (coefficient.negative x))) }
 {
     let done = coef::is_negative(x);
@@ -407,8 +384,7 @@ pub extern "C" fn txp_is_negative(x: i32, answer: &mut [u32; 16]) -> u32
 }
 
 // The magnitude of any number.
-#[unsafe(no_mangle)]
-pub extern "C" fn txp_magnitude(x: i32, answer: &mut [u32; 16]) -> u32
+pub fn txp_magnitude(x: i32, answer: &mut [u32; 16]) -> u32
     ensures { Answers result answer.new (of_value (coefficient.magnitude x)) }
 {
     let done = coef::magnitude(x);
@@ -416,8 +392,7 @@ pub extern "C" fn txp_magnitude(x: i32, answer: &mut [u32; 16]) -> u32
 }
 
 // Sign and magnitude of a coefficient.
-#[unsafe(no_mangle)]
-pub extern "C" fn txp_part(x: i32, answer: &mut [u32; 16]) -> u32
+pub fn txp_part(x: i32, answer: &mut [u32; 16]) -> u32
     ensures { Answers result answer.new (of_parted (coefficient.parted_of x)) }
 {
     let done = coef::part_of(x);
@@ -425,13 +400,7 @@ pub extern "C" fn txp_part(x: i32, answer: &mut [u32; 16]) -> u32
 }
 
 // The coefficient with this sign and magnitude. Any `negative` but 0 says that it is below 0.
-#[unsafe(no_mangle)]
-pub extern "C" fn txp_join(
-    negative: u32,
-    magnitude: u32,
-    to: &mut i32,
-    answer: &mut [u32; 16],
-) -> u32
+pub fn txp_join(negative: u32, magnitude: u32, to: &mut i32, answer: &mut [u32; 16]) -> u32
     ensures answer { Answers result answer.new (of_joined (coefficient.joined_of (signed_of negative magnitude))) }
     ensures joined { to.new ≡ joined_in (coefficient.joined_of (signed_of negative magnitude)) to.old }
 {
@@ -448,8 +417,7 @@ pub extern "C" fn txp_join(
 }
 
 // A coefficient as a float, which is exactly that whole number.
-#[unsafe(no_mangle)]
-pub extern "C" fn txp_float(x: i32, to: &mut f32, answer: &mut [u32; 16]) -> u32
+pub fn txp_float(x: i32, to: &mut f32, answer: &mut [u32; 16]) -> u32
     ensures answer { Answers result answer.new (of_float (coefficient.float_of x)) }
     ensures floated { to.new ≡ float_in (coefficient.float_of x) to.old }
 {
@@ -465,8 +433,7 @@ pub extern "C" fn txp_float(x: i32, to: &mut f32, answer: &mut [u32; 16]) -> u32
 // ---- bits
 
 // Bit b of x: 1 or 0.
-#[unsafe(no_mangle)]
-pub extern "C" fn txp_bit(x: u32, b: u32, answer: &mut [u32; 16]) -> u32
+pub fn txp_bit(x: u32, b: u32, answer: &mut [u32; 16]) -> u32
     ensures { Answers result answer.new (of_value (digit (bit x b))) }
 {
     let done = bits::bit_of(x, b);
@@ -474,13 +441,7 @@ pub extern "C" fn txp_bit(x: u32, b: u32, answer: &mut [u32; 16]) -> u32
 }
 
 // The bit with number `at` of a body of `declared` bits, or why there is none.
-#[unsafe(no_mangle)]
-pub extern "C" fn txp_read_bit(
-    body: &[u8],
-    at: usize,
-    declared: usize,
-    answer: &mut [u32; 16],
-) -> u32
+pub fn txp_read_bit(body: &[u8], at: usize, declared: usize, answer: &mut [u32; 16]) -> u32
     ensures { Answers result answer.new (of_next (viewed body.now at declared)) }
 {
     let done = view::read(body, at, declared);
@@ -488,8 +449,7 @@ pub extern "C" fn txp_read_bit(
 }
 
 // Puts a bit at number `at` and clears what lies below it in its byte. Any `x` but 0 is a 1.
-#[unsafe(no_mangle)]
-pub extern "C" fn txp_put_bit(body: &mut [u8], at: usize, x: u32, answer: &mut [u32; 16]) -> u32
+pub fn txp_put_bit(body: &mut [u8], at: usize, x: u32, answer: &mut [u32; 16]) -> u32
     ensures answer { Answers result answer.new blank }
     ensures written { body.new ≡ with_bit body.old at (as_bool x) }
 {
@@ -500,8 +460,7 @@ pub extern "C" fn txp_put_bit(body: &mut [u8], at: usize, x: u32, answer: &mut [
 // ---- sizes
 
 // Whether N is in range: 1 or 0.
-#[unsafe(no_mangle)]
-pub extern "C" fn txp_side_fits(n: u32, answer: &mut [u32; 16]) -> u32
+pub fn txp_side_fits(n: u32, answer: &mut [u32; 16]) -> u32
     ensures { Answers result answer.new (of_value (digit (side_fits n))) }
 {
     let done = sizes::side_fits(n);
@@ -519,8 +478,7 @@ fn sizes_fit(n: u32, l: u32) -> bool
 }
 
 // Whether N and L are in range: 1 or 0.
-#[unsafe(no_mangle)]
-pub extern "C" fn txp_levels_fit(n: u32, l: u32, answer: &mut [u32; 16]) -> u32
+pub fn txp_levels_fit(n: u32, l: u32, answer: &mut [u32; 16]) -> u32
     ensures { Answers result answer.new (of_value (digit (side_fits n && levels_fit n l))) }
 {
     let done = sizes_fit(n, l);
@@ -528,8 +486,7 @@ pub extern "C" fn txp_levels_fit(n: u32, l: u32, answer: &mut [u32; 16]) -> u32
 }
 
 // I, the number of coefficients; 0 for an N out of range.
-#[unsafe(no_mangle)]
-pub extern "C" fn txp_all(n: u32, answer: &mut [u32; 16]) -> u32
+pub fn txp_all(n: u32, answer: &mut [u32; 16]) -> u32
     ensures { Answers result answer.new (of_value (cond (side_fits n) (all_of n) 0)) }
 {
     let done = sizes::all_of(n);
@@ -537,8 +494,7 @@ pub extern "C" fn txp_all(n: u32, answer: &mut [u32; 16]) -> u32
 }
 
 // D, the size of the coarsest band; 0 for sizes out of range.
-#[unsafe(no_mangle)]
-pub extern "C" fn txp_coarsest(n: u32, l: u32, answer: &mut [u32; 16]) -> u32
+pub fn txp_coarsest(n: u32, l: u32, answer: &mut [u32; 16]) -> u32
     ensures { Answers result answer.new (of_value (cond (side_fits n && levels_fit n l) (coarsest_of n l) 0)) }
 {
     let done = sizes::coarsest_of(n, l);

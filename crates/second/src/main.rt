@@ -10,7 +10,7 @@ mod transforming;
 ghost use Rattle.std.specs.Prelude.{◌≤◌};
 
 use calls::Case;
-use libc::{STDIN_FILENO, STDOUT_FILENO};
+use std::io::Read;
 
 // More lines than are read.
 const MANY: usize = 1000000;
@@ -75,19 +75,20 @@ struct Line {
     held: usize,
 }
 
-fn say(text: &[u8]) {
-    io::write_all(STDOUT_FILENO, text);
+// A write that fails says nothing.
+fn say(to: &impl Print, text: &[u8]) {
+    let _ = to.write_all(text);
 }
 
-fn say_number(x: usize) {
-    io::print_decimal(STDOUT_FILENO, x as u64);
+fn say_number(to: &impl Print, x: usize) {
+    let _ = to.print(x);
 }
 
 // A line that ends with a number, or the end of one.
-fn tell(what: &[u8], number: usize) {
-    say(what);
-    say_number(number);
-    say(b"\n");
+fn tell(to: &impl Print, what: &[u8], number: usize) {
+    say(to, what);
+    say_number(to, number);
+    say(to, b"\n");
 }
 
 // A length within a room.
@@ -277,16 +278,16 @@ fn count(counts: &mut [usize; 512], k: usize) {
 }
 
 // Counts a line: the cases of each letter, behind them those that agree, and malformed lines at 0.
-fn tally(counts: &mut [usize; 512], became: Verdict, number: usize) {
+fn tally(to: &impl Print, counts: &mut [usize; 512], became: Verdict, number: usize) {
     match became {
         Verdict::Remark => {}
         Verdict::Malformed => {
             count(counts, 0);
-            tell(b"malformed line ", number);
+            tell(to, b"malformed line ", number);
         }
         Verdict::Differs(letter) => {
             count(counts, letter as usize);
-            tell(b"differs line ", number);
+            tell(to, b"differs line ", number);
         }
         Verdict::Agrees(letter) => {
             count(counts, letter as usize);
@@ -322,8 +323,25 @@ fn one(
     judged(line, made.result, last)
 }
 
+// Reads until the room is full, the input ends or a read fails. The answer is how many bytes were read.
+fn read_full(input: &mut impl Read, room: &mut [u8]) -> usize {
+    let mut done = 0;
+    while done < room.len() {
+        match input.read(&mut room[done..]) {
+            Ok(more) => {
+                if more == 0 {
+                    return done;
+                }
+                done += more;
+            }
+            Err(_) => return done,
+        }
+    }
+    done
+}
+
 // Drops what stands before a place of the text held, and reads on behind the rest. The answer is what is held then.
-fn refill(window: &mut [u8], from: usize, held: usize) -> usize {
+fn refill(input: &mut impl Read, window: &mut [u8], from: usize, held: usize) -> usize {
     if held < from {
         return 0;
     }
@@ -333,7 +351,7 @@ fn refill(window: &mut [u8], from: usize, held: usize) -> usize {
     shift(window, from);
     let rest = held - from;
     let room = window.len() - rest;
-    let more = io::read_full(STDIN_FILENO, &mut window[rest..]);
+    let more = read_full(input, &mut window[rest..]);
     rest + least(more, room)
 }
 
@@ -350,12 +368,12 @@ fn shift(window: &mut [u8], from: usize) {
 }
 
 // The next line, from a place on. Where no newline stands there, more is read first.
-fn next(window: &mut [u8], at: usize, held: usize) -> Line {
+fn next(input: &mut impl Read, window: &mut [u8], at: usize, held: usize) -> Line {
     let end = text::line_end(window, at, held);
     if end < held {
         return Line { at, end, held };
     }
-    let more = refill(window, at, held);
+    let more = refill(input, window, at, held);
     Line {
         at: 0,
         end: text::line_end(window, 0, more),
@@ -365,6 +383,8 @@ fn next(window: &mut [u8], at: usize, held: usize) -> Line {
 
 // Every line that is read. Lines are numbered from 1.
 fn run(
+    input: &mut impl Read,
+    to: &impl Print,
     window: &mut [u8],
     counts: &mut [usize; 512],
     list: &mut [u32; ALL],
@@ -381,7 +401,7 @@ fn run(
     let mut number = 0;
     while number < MANY {
         number += 1;
-        let line = next(window, at, held);
+        let line = next(input, window, at, held);
         held = line.held;
         let end = least(line.end, window.len());
         if end == held {
@@ -399,34 +419,34 @@ fn run(
             places,
             values,
         );
-        tally(counts, became, number);
+        tally(to, counts, became, number);
         at = end + 1;
     }
 }
 
 // A letter, its cases and its agreements, if it has cases.
-fn say_kind(letter: u8, counts: &[usize; 512]) {
+fn say_kind(to: &impl Print, letter: u8, counts: &[usize; 512]) {
     let k = letter as usize;
     if counts[k] == 0 {
         return;
     }
     let name = [letter];
-    say(&name);
-    say(b" ");
-    say_number(counts[k]);
-    tell(b" agree ", counts[256 + k]);
+    say(to, &name);
+    say(to, b" ");
+    say_number(to, counts[k]);
+    tell(to, b" agree ", counts[256 + k]);
 }
 
-fn say_counts(counts: &[usize; 512]) {
+fn say_counts(to: &impl Print, counts: &[usize; 512]) {
     let mut letter = b'A';
     while letter <= b'z' {
-        say_kind(letter, counts);
+        say_kind(to, letter, counts);
         letter += 1;
     }
-    tell(b"malformed ", counts[0]);
+    tell(to, b"malformed ", counts[0]);
 }
 
-fn main() {
+fn main(rt: HostRuntime) {
     let mut window = [0u8; FEW];
     let mut counts = [0usize; 512];
     let mut list = [0u32; ALL];
@@ -460,6 +480,8 @@ fn main() {
         &mut values,
     );
     run(
+        &mut rt.stdin(),
+        &rt,
         &mut window,
         &mut counts,
         &mut list,
@@ -471,5 +493,5 @@ fn main() {
         &mut places,
         &mut values,
     );
-    say_counts(&counts);
+    say_counts(&rt, &counts);
 }

@@ -4,7 +4,7 @@
 ghost use Rattle.std.specs.Prelude.{length};
 ghost use Rattle.txpshow.specs.Input.{Within};
 
-use libc::{STDIN_FILENO, STDOUT_FILENO};
+use std::io::Read;
 
 // The bytes that were read up to the end of standard input or of the room for them; or that a read failed.
 #[derive(Clone, Copy)]
@@ -14,37 +14,37 @@ enum Input {
 }
 
 // Reads until the room is full, the input ends or a read fails.
-fn read_input(bytes: &mut [u8]) -> Input
+fn read_input(from: &mut impl Read, bytes: &mut [u8]) -> Input
     ensures { Within (length bytes.old) result }
 {
     let mut got: usize = 0;
     while got < bytes.len() {
-        let answer = libc::read(STDIN_FILENO, &mut bytes[got..]);
-        if answer < 0 {
-            return Input::Failed;
+        match from.read(&mut bytes[got..]) {
+            Ok(more) => {
+                if more == 0 {
+                    return Input::Read(got);
+                }
+                got += more;
+            }
+            Err(_) => return Input::Failed,
         }
-        let more = io::count(answer, &bytes[got..]);
-        if more == 0 {
-            return Input::Read(got);
-        }
-        got += more;
     }
     Input::Read(got)
 }
 
-// Writes the text of a file, which is never longer than the buffer for it.
-fn show_file(file: &[u8]) {
+// Writes the text of a file, which is never longer than the buffer for it. A write that fails says nothing.
+fn show_file(to: &impl Print, file: &[u8]) {
     let mut text = [0u8; 65536];
     let length = show::render(file, &mut text);
-    io::write_all(STDOUT_FILENO, &text[..length]);
+    let _ = to.write_all(&text[..length]);
 }
 
 // A byte more than is shown tells a file that is too large.
-fn main() {
+fn main(rt: HostRuntime) {
     let mut bytes = [0u8; 16385];
-    let input = read_input(&mut bytes);
+    let input = read_input(&mut rt.stdin(), &mut bytes);
     match input {
-        Input::Read(got) => show_file(&bytes[..got]),
+        Input::Read(got) => show_file(&rt, &bytes[..got]),
         Input::Failed => {}
     }
 }

@@ -1,10 +1,8 @@
-use Prim.Native.Nat.{◌-◌, ◌≤◌}
-use mathlib.Core.Path.{◌≡◌}
-use lib.ListN.{length}
+use Rattle.std.proofs.Common.{◌≡◌, ◌-◌, ◌≤◌, length}
 use Rattle.second.proofs.run.Given as goal
 
 abbrev pub invariant-loop-number : goal.invariant-loop-number
-invariant-loop-number l = (l.number ≤ 1000000) × (length l.window ≡ length l.initial.window)
+invariant-loop-number g l = (l.number ≤ 1000000) × (length l.window ≡ length l.initial.window)
 
 abbrev pub decreases-loop-number : goal.decreases-loop-number
-decreases-loop-number l = 1000000 - l.number
+decreases-loop-number g l = 1000000 - l.number

@@ -1,11 +1,9 @@
-use mathlib.Core.Path.{◌≡◌}
-use Prim.Native.Nat.{◌-◌, ◌≤◌}
-use lib.ListN.{length}
+use Rattle.std.proofs.Common.{◌≡◌, ◌-◌, ◌≤◌, length}
 use Rattle.txpshow.proofs.read_input.Given as goal
 
 -- what was read is within the room
 abbrev pub invariant-loop-got : goal.invariant-loop-got
-invariant-loop-got l = (length l.bytes ≡ length l.initial.bytes) × (l.got ≤ length l.bytes)
+invariant-loop-got g l = (length l.bytes ≡ length l.initial.bytes) × (l.got ≤ length l.bytes)
 
 abbrev pub decreases-loop-got : goal.decreases-loop-got
-decreases-loop-got l = length l.bytes - l.got
+decreases-loop-got g l = length l.bytes - l.got
