@@ -1,9 +1,7 @@
 use mathlib.Core.Path.{◌≡◌, ◌∙◌, sym}
 use mathlib.Core.Bool.{true, false}
-use Prim.Native.Nat.{◌-◌}
 use native.Mathlib.Omega.{arith}
 use native.Mathlib.Numerals.{add-one}
-use borrow.Author.Tests.{not-true, not-false}
 use Rattle.transform.specs.Answers.{is_sample}
 use Rattle.coef.specs.Coef.{at}
 use Rattle.transform.proofs.Outside.{outside_stop, outside_step, outside_end}

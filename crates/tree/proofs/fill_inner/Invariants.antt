@@ -1,5 +1,5 @@
 use mathlib.Core.Path.{◌≡◌}
-use Prim.Native.Nat.{◌≤◌, ◌/◌, ◌-◌}
+use Prim.Native.Nat.{◌≤◌, ◌/◌}
 use lib.ListN.{length}
 use Rattle.sizes.specs.Sizes.{all_of, coarsest_of}
 use Rattle.tree.specs.Summaries.{desc_table, grand_table}
