@@ -12,7 +12,6 @@ use lib.IntN.{ℤ}
 use lib.ListN.{length, length-take}
 use lib.Seq.{take_all}
 use Rattle.sizes.specs.Sizes.{all_of, Sized}
-use Rattle.bits.specs.Bits.{bit_at}
 use Rattle.bits.specs.declared.Next.{Next}
 use Rattle.bits.specs.declared.Next.TheVariants.{Bit, NoMore}
 use Rattle.bits.specs.declared.Why.TheVariants.{Declared, Short}

@@ -1,5 +1,5 @@
 -- The call that reads a body: what it answers, and what the tables lent to it hold afterwards (document 01, "Numbers for no"). What it checks is in crate `room`.
-use Rattle.std.specs.Prelude.{ℕ, ◌+◌}
+use Rattle.std.specs.Prelude.{ℕ}
 use mathlib.Core.{Path.◌≡◌, Bool.Bool, List.List, List.◌++◌}
 use lib.{IntN.ℤ, IntN.pos, ListN.length, ListN.drop, ListN.replicate}
 use Rattle.refusals.specs.{Checks.first_failing, declared.Refusal.TheVariants.Contradiction, declared.Refusal.TheVariants.Beyond, declared.Outcome.Outcome}

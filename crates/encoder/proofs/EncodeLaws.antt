@@ -1,5 +1,5 @@
 -- What the encoder's scan leaves, from the summaries and the start table on.
-use Prim.Native.Nat.{ℕ, ◌+◌, ◌-◌, ◌*◌, ◌/◌, ◌≤◌, ◌<◌, min}
+use Prim.Native.Nat.{ℕ, ◌+◌, ◌-◌, ◌*◌, ◌/◌, ◌≤◌, min}
 use mathlib.Core.Path.{◌≡◌, sym, ap, ◌∙◌}
 use mathlib.Core.List.{List, [], ◌++◌, append-nil}
 use native.Mathlib.Omega.{arith}
@@ -10,9 +10,8 @@ use Rattle.refusals.specs.Checks.{first_failing, lent_after}
 use Rattle.refusals.specs.declared.Outcome.{Outcome}
 use Rattle.refusals.proofs.Laws.{lent_done}
 use Rattle.sizes.specs.Sizes.{most_planes, all_of, coarsest_of, Sized}
-use Rattle.sizes.specs.Tables.{table}
 use Rattle.sizes.proofs.Laws.{side_least, side_most, sized, coarsest_least, all_sixteen}
-use Rattle.sizes.proofs.Tables.{table_length, table_front}
+use Rattle.sizes.proofs.Tables.{table_front}
 use Rattle.bits.specs.Bits.{bytes_for, packed}
 use Rattle.coef.specs.Coef.{planes_of}
 use Rattle.coef.proofs.Laws.{first_all, planes_most, planes_of_lem}

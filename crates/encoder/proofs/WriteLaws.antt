@@ -1,17 +1,17 @@
 -- What each way through a visit of the encoder leaves, from what the code's calls have done.
-use Prim.Native.Nat.{ℕ, ◌+◌, ◌*◌, ◌/◌, ◌≤◌, ◌<◌}
+use Prim.Native.Nat.{ℕ, ◌+◌, ◌/◌, ◌≤◌, ◌<◌}
 use mathlib.Core.Path.{◌≡◌, refl, sym, ap, subst, ◌∙◌}
 use mathlib.Core.Bool.{Bool, true, false}
 use mathlib.Core.List.{List, []}
 use native.Mathlib.Omega.{arith}
-use lib.IntN.{ℤ, pos}
+use lib.IntN.{ℤ}
 use lib.ListN.{set, get_or}
 use Rattle.bits.specs.Bits.{bit, with_bit}
-use Rattle.coef.specs.Coef.{at, magnitude, mag_at, negative}
-use Rattle.nls.specs.Scan.{Question, bit_of, sign_of, in_desc, in_grand, Pass, pixels, sets, refining}
-use Rattle.walk.specs.Scans.{Seen, halt, refuse, move}
+use Rattle.coef.specs.Coef.{at, mag_at, negative}
+use Rattle.nls.specs.Scan.{Question, in_desc, in_grand, pixels, sets}
+use Rattle.walk.specs.Scans.{Seen, halt}
 use Rattle.marking.specs.Marking.{skip_of, set_skip_of, desc_split_marks, grand_split_marks}
-use Rattle.walk.specs.Visits.{Source, got, Sv, sv, one_seen, test_seen, pixels_seen, sets_seen, refining_seen, visit_seen}
+use Rattle.walk.specs.Visits.{Source, Sv, one_seen, test_seen, pixels_seen, sets_seen, refining_seen, visit_seen}
 use Rattle.encoder.specs.Writing.{Bytes, bytes, replies, writer, plain, st, Does}
 use Rattle.encoder.specs.declared.Step.{Step}
 use Rattle.encoder.specs.declared.Step.TheVariants.{Stop, Go}

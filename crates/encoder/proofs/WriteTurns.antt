@@ -7,7 +7,7 @@ use lib.IntN.{ℤ}
 use lib.ListN.{length}
 use Rattle.walk.specs.Scans.{Seen, halt, refuse, move, Scan, Ran, Leads, Resumes, left_at, pass_at}
 use Rattle.walk.specs.Visits.{Sv, visit_seen, scan_of}
-use Rattle.encoder.specs.Writing.{Bytes, bytes, writer, st, left_by, step_of, Falls, Clean, Does, Holds}
+use Rattle.encoder.specs.Writing.{Bytes, writer, st, left_by, step_of, Falls, Clean, Does, Holds}
 use Rattle.encoder.specs.declared.Step.{Step}
 use Rattle.encoder.specs.declared.Step.TheVariants.{Stop, Go}
 use Rattle.walk.proofs.Turns.{at_go, resume_stop, Carries}

@@ -1,6 +1,6 @@
 -- Demand 3: how many bits the stream of an array has, in all and plane by plane; its bound, and an array that reaches it;
 -- the sizes of the parts that stand.
-use Prim.Native.Nat.{ℕ, zero, suc, ◌+◌, ◌*◌, ◌-◌, ◌^◌, ◌/◌, ◌≤◌, ◌<◌}
+use Prim.Native.Nat.{ℕ, zero, suc, ◌+◌, ◌*◌, ◌-◌, ◌^◌, ◌≤◌, ◌<◌}
 use mathlib.Core.Path.{◌≡◌, refl, ap, sym, ◌∙◌}
 use mathlib.Core.Bool.{Bool, true, false}
 use mathlib.Core.List.{List, [], ◌∷◌}
@@ -11,7 +11,7 @@ use borrow.Author.Tests.{leb-true, le-leb, lt-leb}
 use lib.IntN.{ℤ, pos}
 use lib.ListN.{length, replicate, length-append, length-replicate, get_or-replicate, get_or-eq_default}
 use lib.Pow.{pow-lt, pow_mono, pow_pos}
-use Rattle.sizes.specs.Sizes.{all_of, coarsest_of, Sized}
+use Rattle.sizes.specs.Sizes.{all_of, Sized}
 use Rattle.bits.specs.Bits.{digit}
 use Rattle.coef.specs.Coef.{mag_at, IsPlanes}
 use Rattle.tree.specs.Tree.{desc, grand, any_in}

@@ -15,7 +15,7 @@ use Rattle.nls.specs.Marks.{no_mark}
 use Rattle.nls.specs.Scan.{Question, State, silent, look, ask}
 use Rattle.nls.specs.Stream.{answers, begin, after, stream, during, worst_body}
 use Rattle.nls.specs.Parts.{sum_to, parts, part_sizes, splits, splits_in, found_in, nonzeros}
-use Rattle.nls.specs.Reading.{lower, midpoint, known, value_by, Between, high_bits, last_plane, precision_at, values_by, precisions, planes_finished, worst_error, completes, CompletedBy}
+use Rattle.nls.specs.Reading.{lower, midpoint, value_by, Between, high_bits, last_plane, precision_at, values_by, precisions, planes_finished, worst_error, completes, CompletedBy}
 use Rattle.nls.specs.Turns.{precision_of}
 use Rattle.nls.specs.Judging.{Begins, Fits, Verdict, taken, Judged}
 use Rattle.nls.proofs.Streams as streams

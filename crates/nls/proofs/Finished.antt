@@ -9,7 +9,7 @@ use native.Mathlib.Omega.{arith}
 use borrow.Author.Tests.{leb-true, le-leb, ne_eqb, eqb-true, eqb-false}
 use lib.Dec.{eqb, leb, ltb}
 use lib.IntN.{ℤ, pos}
-use lib.ListN.{length, get_or, drop, take-append-drop, get_or-eq_default}
+use lib.ListN.{length, drop, take-append-drop, get_or-eq_default}
 use lib.Pow.{shr-shr}
 use Rattle.sizes.specs.Sizes.{all_of, coarsest_of, Sized}
 use Rattle.sizes.proofs.Tables.{table_at, table_length}

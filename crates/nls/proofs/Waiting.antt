@@ -7,7 +7,7 @@ use native.Mathlib.Omega.{arith}
 use lib.ListN.{get_or}
 use lib.Dec.{ltb, eqb}
 use Rattle.sizes.specs.Sizes.{all_of}
-use Rattle.nls.specs.Scan.{State, Pass, pixels, sets, refining, look, look_at, look_pixels, look_sets, look_refining, tell, tell_at, tell_sets, settle, next, reach}
+use Rattle.nls.specs.Scan.{State, Pass, pixels, sets, refining, look_at, look_pixels, look_sets, look_refining, tell, tell_at, tell_sets, settle, next, reach}
 use Rattle.nls.specs.Stream.{begin, after}
 use Rattle.nls.proofs.Kept.{AfterMove, settle_keeps}
 use Rattle.nls.proofs.Machine.Run.{reach_append}

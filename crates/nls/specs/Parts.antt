@@ -1,6 +1,6 @@
 -- Parts that stand (document 01), after plane b, from the magnitudes of A alone.
 use Rattle.std.specs.Prelude.{ℕ, zero, suc, ◌+◌, ◌-◌, ◌/◌, ◌^◌}
-use mathlib.Core.{Bool.Bool, Bool.true, Bool.false, Bool.not, Bool.◌&&◌, Bool.◌||◌, Bool.cond, List.List}
+use mathlib.Core.{Bool.Bool, Bool.not, Bool.◌&&◌, Bool.◌||◌, Bool.cond, List.List}
 use lib.{Dec.ltb, Dec.leb, IntN.ℤ, ListN.length}
 use Rattle.sizes.specs.Sizes.{all_of, coarsest_of}
 use Rattle.bits.specs.Bits.{digit}

@@ -1,9 +1,9 @@
 -- The stream of an array: the answers that it gives to the scan's questions.
-use mathlib.Core.{Bool.Bool, Option.Option, Option.none, Option.some, List.List, List.[], List.◌∷◌, Bool.cond}
+use mathlib.Core.{Bool.Bool, Option.none, Option.some, List.List, List.[], List.◌∷◌, Bool.cond}
 use Rattle.std.specs.Prelude.{ℕ, zero, suc, ◌+◌, ◌*◌, ◌-◌, ◌/◌}
 use lib.{Dec.eqb, IntN.ℤ}
 use Rattle.sizes.specs.Sizes.{all_of, coarsest_of}
-use Rattle.bits.specs.Bits.{bit, digit}
+use Rattle.bits.specs.Bits.{bit}
 use Rattle.coef.specs.Coef.{at, mag_at, negative}
 use Rattle.tree.specs.Summaries.{desc_or, grand_or}
 use Rattle.nls.specs.Scan.{Question, bit_of, sign_of, in_desc, in_grand, State, ask, next, reach, start}

@@ -2,11 +2,10 @@
 use Prim.Native.Nat.{ℕ, suc, ◌+◌, ◌*◌, ◌-◌, ◌/◌, ◌%◌, ◌^◌, ◌≤◌, ◌<◌}
 use mathlib.Core.Path.{◌≡◌, refl, sym, ap, ◌∙◌}
 use mathlib.Core.Bool.{Bool, true, false}
-use mathlib.Core.List.{List, [], ◌∷◌}
+use mathlib.Core.List.{List}
 use native.Mathlib.Nat.{div-mul-le_self}
 use native.Mathlib.Omega.{arith}
 use borrow.Author.Tests.{lt-ltb, le-ltb, eq-eqb, ne_eqb}
-use denote.Enum.Declared.{tag_of}
 use lib.Dec.{eqb}
 use lib.IntN.{ℤ, pos}
 use lib.ListN.{length, get_or, set}
@@ -16,7 +15,6 @@ use lib.Signed.{nat_abs-le}
 use mir.Facts.{to_z-of_z}
 use mir.Syntax.{w32}
 use mir.Val.{SFits, Fits, of_z, to_z}
-use types.Run.{OneOf, miss}
 use Rattle.sizes.specs.Sizes.{most_planes}
 use Rattle.coef.specs.Coef.{at, magnitude, negative}
 use Rattle.nls.specs.Marks.{MIP, MNP, MSP, MCP, MD, MG}
@@ -27,7 +25,6 @@ use Rattle.reading.proofs.ValueLaws.{level_one}
 use Rattle.steps.specs.Moved.{kind_of, asked_in, joined_or0, found_in, finer, coarser, heard, unheard}
 use Rattle.steps.specs.declared.Asked.{Asked}
 use Rattle.steps.specs.declared.Asked.TheVariants.{Nothing, Sign, Bit, More, Desc, Grand}
-use Rattle.steps.specs.contracts.Asked.{the_type}
 
 -- ---- what is asked
 

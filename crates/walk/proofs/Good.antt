@@ -1,8 +1,8 @@
 -- What the scan's machine keeps, the visits keep: for any source of answers, and any P over the machine's state and the source's.
-use Prim.Native.Nat.{ℕ, suc, ◌+◌, ◌-◌, ◌*◌, ◌/◌, ◌^◌, ◌≤◌, ◌<◌}
+use Prim.Native.Nat.{ℕ, suc, ◌+◌, ◌*◌, ◌/◌, ◌^◌, ◌≤◌, ◌<◌}
 use mathlib.Core.Path.{◌≡◌, refl, sym, ap, subst, ◌∙◌}
 use mathlib.Core.List.{List}
-use mathlib.Core.Bool.{Bool, true, false, not, cond}
+use mathlib.Core.Bool.{Bool, true, false, cond}
 use native.Mathlib.Omega.{arith}
 use lib.ListN.{set, get_or}
 use lib.Seq.{set-get_or}
@@ -11,7 +11,7 @@ use borrow.Author.Tests.{lt-ltb, ltb-true, ltb-false, eqb-true}
 use Rattle.sizes.specs.Sizes.{least_n, most_n, all_of}
 use Rattle.sizes.proofs.Laws.{all_most}
 use Rattle.nls.specs.Marks.{skip, set_skip, split_grand}
-use Rattle.nls.specs.Scan.{Question, bit_of, sign_of, in_desc, in_grand, Pass, pixels, sets, refining, State, state_at, over, silent, asks, look, tell}
+use Rattle.nls.specs.Scan.{Question, bit_of, sign_of, in_desc, in_grand, Pass, pixels, sets, refining, State, state_at, silent, asks, look, tell}
 use Rattle.nls.specs.Turns.{standing}
 use Rattle.nls.proofs.Machine.Run.{skip_pos, sskip_pos}
 use Rattle.nls.proofs.Joined.Codes.{Codes, set_low, codes_desc, codes_grand, far}

@@ -1,12 +1,12 @@
 -- Each way through a visit, as an equation.
 use Prim.Native.Nat.{ℕ, ◌+◌, ◌/◌, ◌≤◌, ◌<◌}
-use mathlib.Core.Path.{◌≡◌, refl}
+use mathlib.Core.Path.{◌≡◌}
 use mathlib.Core.Bool.{Bool, true, false}
 use mathlib.Core.List.{List}
 use borrow.Author.Tests.{lt-ltb, le-ltb, eq-eqb, ne_eqb}
 use lib.ListN.{set, get_or}
 use Rattle.nls.specs.Scan.{Question, bit_of, sign_of, in_desc, in_grand, Pass, pixels, sets, refining}
-use Rattle.walk.specs.Scans.{Seen, halt, refuse, move}
+use Rattle.walk.specs.Scans.{halt, refuse, move}
 use Rattle.marking.specs.Marking.{skip_of, set_skip_of, desc_split_marks, grand_split_marks}
 use Rattle.walk.specs.Visits.{Source, got, Sv, sv, one_seen, test_seen, pixels_seen, sets_seen, refining_seen, visit_seen}
 

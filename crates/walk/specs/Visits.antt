@@ -1,6 +1,6 @@
 -- Words of the inner contracts, which no promise to a caller uses: the visit of one place, over any source of answers.
 -- The encoder asks an array and the decoder asks a body; all else that they do at a place is the same.
-use Rattle.std.specs.Prelude.{ℕ, ◌+◌, ◌*◌, ◌/◌, Bool, true, false, cond, List, ltb, eqb, set, get_or}
+use Rattle.std.specs.Prelude.{ℕ, ◌+◌, ◌/◌, Bool, false, cond, List, ltb, eqb, set, get_or}
 use Rattle.nls.specs.Marks.{MIP, MNP, MSP, MCP, MD, MG}
 use Rattle.nls.specs.Scan.{Question, bit_of, sign_of, in_desc, in_grand, Pass, pixels, sets, refining}
 use Rattle.marking.specs.Marking.{skip_of, set_skip_of, desc_split_marks, grand_split_marks}

@@ -3,12 +3,9 @@ use Rattle.fours.proofs.count.Goals as goal
 use mathlib.Core.Path.{◌≡◌, refl, ◌∙◌}
 use Prim.Native.Nat.{ℕ, ◌*◌, ◌/◌, ◌%◌, ◌^◌}
 use native.Mathlib.Omega.{arith}
-use borrow.Author.Rules.{rules}
 use Rattle.sizes.specs.Tables.{table}
 use Rattle.fours.specs.Words.{count_of}
 use Rattle.fours.proofs.Laws.{same_at, count_low}
-use Rattle.fours.proofs.count.Statement.{statement}
-use Rattle.fours.proofs.count.Tie as tie
 
 abbrev computed : ℕ → ℕ
 computed k = 4841987667533046032 / 2 ^ (4 * k) % 16

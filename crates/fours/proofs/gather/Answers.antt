@@ -2,13 +2,10 @@ use Rattle.fours.proofs.gather.Goals as goal
 -- Each word of four bytes of 0 or 1 is tested here, by computation.
 use mathlib.Core.Path.{◌≡◌, refl, ap, ◌∙◌}
 use Prim.Native.Nat.{ℕ, ◌*◌, ◌/◌, ◌%◌}
-use borrow.Author.Rules.{rules}
 use Rattle.sizes.specs.Tables.{table}
 use Rattle.bits.specs.Bits.{bit, digit}
 use Rattle.fours.specs.Words.{word_of, nibble_of}
 use Rattle.fours.proofs.Laws.{same_choices}
-use Rattle.fours.proofs.gather.Statement.{statement}
-use Rattle.fours.proofs.gather.Tie as tie
 
 abbrev computed : ℕ → ℕ
 computed x = x * 16909320 / 16777216 % 16

@@ -9,8 +9,6 @@ use Rattle.sizes.specs.Tables.{table}
 use Rattle.bits.specs.Bits.{digit}
 use Rattle.fours.specs.Words.{word_of}
 use Rattle.fours.proofs.Laws.{same_fours, and_threes, refined_lt}
-use Rattle.fours.proofs.refined.Statement.{statement}
-use Rattle.fours.proofs.refined.Tie as tie
 
 abbrev computed : ℕ → ℕ
 computed v = bit_and (bit_and (v / 2) (4294967295 - v)) 16843009

@@ -3,13 +3,10 @@ use Rattle.fours.proofs.spread.Goals as goal
 use mathlib.Core.Path.{◌≡◌, refl, ◌∙◌}
 use Prim.Native.Nat.{ℕ, ◌*◌, ◌%◌}
 use native.Mathlib.Omega.{arith}
-use borrow.Author.Rules.{rules}
 use lib.Bits.{bit_and}
 use Rattle.sizes.specs.Tables.{table}
 use Rattle.fours.specs.Words.{spread_of}
 use Rattle.fours.proofs.Laws.{same_at, spread_low}
-use Rattle.fours.proofs.spread.Statement.{statement}
-use Rattle.fours.proofs.spread.Tie as tie
 
 abbrev computed : ℕ → ℕ
 computed a = bit_and (a * 2113665) 16843009

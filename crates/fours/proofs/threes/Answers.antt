@@ -3,15 +3,12 @@ use Rattle.fours.proofs.threes.Goals as goal
 use mathlib.Core.Path.{◌≡◌, refl, ap, ◌∙◌}
 use Prim.Native.Nat.{ℕ, ◌/◌, ◌%◌}
 use native.Mathlib.Omega.{arith}
-use borrow.Author.Rules.{rules}
 use lib.Bits.{bit_and}
 use lib.Dec.{eqb}
 use Rattle.sizes.specs.Tables.{table}
 use Rattle.bits.specs.Bits.{digit}
 use Rattle.fours.specs.Words.{word_of}
 use Rattle.fours.proofs.Laws.{same_fours, and_threes}
-use Rattle.fours.proofs.threes.Statement.{statement}
-use Rattle.fours.proofs.threes.Tie as tie
 
 abbrev computed : ℕ → ℕ
 computed v = bit_and (bit_and v (v / 2)) 16843009

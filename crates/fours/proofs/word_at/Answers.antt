@@ -4,11 +4,8 @@ use mathlib.Core.Path.{refl}
 use Prim.Native.Nat.{◌+◌}
 use native.Mathlib.Omega.{arith}
 use borrow.Author.Tests.{le-leb, lt-leb}
-use borrow.Author.Rules.{rules}
 use lib.ListN.{length}
 use Rattle.fours.specs.Words.{word_at, FourBytes}
-use Rattle.fours.proofs.word_at.Statement.{statement}
-use Rattle.fours.proofs.word_at.Tie as tie
 
 pub returns-then-all-lt4 : goal.returns-then-all-lt4
 unfolding word_at

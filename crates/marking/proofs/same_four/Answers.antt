@@ -2,7 +2,7 @@ use lib.ListN.{length}
 use Rattle.marking.proofs.Laws.{four_inside}
 use mathlib.Core.Path.{refl, sym, ◌∙◌}
 use native.Mathlib.Omega.{arith}
-use borrow.Author.Tests.{not-true, not-false, eq-eqb, ne_eqb}
+use borrow.Author.Tests.{eq-eqb, ne_eqb}
 use Rattle.marking.proofs.same_four.Goals as goal
 
 pub returns-then-not-four_in : goal.returns-then-not-four_in

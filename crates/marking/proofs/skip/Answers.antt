@@ -4,15 +4,12 @@ use mathlib.Core.Path.{◌≡◌, refl, sym, ap, ◌∙◌}
 use mathlib.Core.List.{List}
 use Prim.Native.Nat.{ℕ, ◌*◌, ◌/◌, ◌%◌, ◌^◌, ◌<◌}
 use native.Mathlib.Omega.{arith}
-use borrow.Author.Rules.{rules}
 use lib.ListN.{get_or}
 use Rattle.sizes.specs.Tables.{table}
 use Rattle.sizes.proofs.Tables.{table_at}
 use Rattle.nls.specs.Marks.{skip}
 use Rattle.marking.specs.Marking.{skip_of}
 use Rattle.marking.proofs.Laws.{skip_high}
-use Rattle.marking.proofs.skip.Statement.{statement}
-use Rattle.marking.proofs.skip.Tie as tie
 
 abbrev power : ℕ → ℕ → ℕ
 power digits k = 1 * 2 ^ (2 * (digits / 2 ^ (4 * k) % 16)) % 18446744073709551616

@@ -1,4 +1,3 @@
-use Prim.Native.Nat.{◌-◌}
 use Rattle.moves.proofs.Looks.{passed_none, passed_on, alone_one}
 use Rattle.moves.proofs.over_alone.Goals as goal
 

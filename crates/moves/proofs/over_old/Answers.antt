@@ -1,5 +1,4 @@
 use mathlib.Core.Path.{sym, ◌∙◌}
-use Prim.Native.Nat.{◌-◌}
 use native.Mathlib.Omega.{arith}
 use Rattle.nls.specs.Marks.{MSP}
 use Rattle.marking.proofs.Laws.{four_told}

@@ -11,7 +11,7 @@ use lib.Dec.{T, ltb, leb, eqb, lt→ltb, T_not, not_T}
 use Rattle.bits.specs.Bits.{bit}
 use Rattle.nls.proofs.Booleans.{T_or, T_false, T_true, of_true, of_false}
 use Rattle.nls.proofs.Counting.Sums.{each, each_at, each_cons, each_none, each_jump, order}
-use Rattle.nls.proofs.Counting.Tree.{Size, D, Q, I, desc, grand, desc_none, grand_none}
+use Rattle.nls.proofs.Counting.Tree.{Size, D, Q, I, desc_none, grand_none}
 use Rattle.nls.proofs.Counting.Parts.{ι, big, coded, split_desc, split_grand, test_grand, test_desc, children, group}
 use Rattle.nls.proofs.Counting.Count.{desc_shrinks, grand_shrinks, desc_known, child_splits, desc_splits, bit_big}
 use Rattle.nls.proofs.Counting.Summary.{has_desc, has_grand, has_desc_is, has_grand_is}

@@ -6,7 +6,7 @@ use mathlib.Core.List.{List, ◌++◌}
 use native.Mathlib.Omega.{arith}
 use borrow.Author.Tests.{lt-ltb, eqb-true, eqb-false, lt-leb}
 use lib.Dec.{T, ltb, eqb, ltb→lt}
-use Rattle.nls.proofs.Counting.Tree.{Size, D, Q, I, desc, grand, desc_zero, grand_zero}
+use Rattle.nls.proofs.Counting.Tree.{Size, D, Q, I, desc_zero, grand_zero}
 use Rattle.nls.proofs.Counting.Parts.{ι, big, split_desc, split_grand, plane}
 use Rattle.nls.proofs.Counting.Bound.{none_big}
 use Rattle.nls.proofs.Counting.Tiles.{down}

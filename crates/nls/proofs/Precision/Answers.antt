@@ -8,7 +8,7 @@ use Prim.Native.Nat.{ℕ, zero, suc, ◌+◌, ◌-◌, ◌≤◌, ◌<◌}
 use native.Mathlib.Omega.{arith}
 use native.Mathlib.Decide.{ℕ_discrete}
 use lib.IntN.{ℤ}
-use lib.ListN.{length, get_or, set, take, drop, length-replicate, get_or-replicate}
+use lib.ListN.{length, get_or, take, drop, length-replicate, get_or-replicate}
 use lib.Seq.{split_at}
 use Rattle.sizes.specs.Sizes.{all_of, Sized}
 use Rattle.nls.specs.Scan.{Question, State, Pass, look_at, ask, asked, next, reach}

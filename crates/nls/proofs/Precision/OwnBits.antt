@@ -28,7 +28,6 @@ use Rattle.nls.proofs.Tiled.{Tiled, tiled}
 use Rattle.nls.proofs.Arrays.{Bits, bits_of_arr, told, Fit}
 use Rattle.nls.proofs.Lists.{arr_of}
 use Rattle.nls.proofs.Streams.{begins_iff}
-use Rattle.nls.proofs.Machine.Table.{alone}
 use Rattle.nls.proofs.Machine.Cover.{is_alone, is_desc_at, is_grand_at, Desc_at, Grand_at}
 use Rattle.nls.proofs.Machine.Steps.{Good, Good_at, Good_look, good_look}
 use Rattle.nls.proofs.Machine.Start as first

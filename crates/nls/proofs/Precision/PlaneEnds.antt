@@ -13,15 +13,14 @@ use lib.ListN.{length, get_or, set}
 use lib.Seq.{get_or-set_same}
 use borrow.Author.Tests.{ltb-true, eqb-true, eq-eqb}
 use Rattle.sizes.specs.Sizes.{all_of, coarsest_of, Sized}
-use Rattle.bits.specs.Bits.{bit}
 use Rattle.tree.specs.Tree.{desc, grand, any_in}
 use Rattle.tree.proofs.Members.{desc_has, grand_has}
 use Rattle.nls.specs.Scan.{State, Look, over, silent, asks, Question, bit_of, Pass, pixels, sets, refining, look, look_at, look_pixels, look_sets, look_refining, tell, ask, asked, next, reach}
 use Rattle.nls.specs.Stream.{begin, after}
-use Rattle.nls.specs.Reading.{Known, nothing, noted, learn, learn_at, learned, known, last_plane, precision_at, precisions}
+use Rattle.nls.specs.Reading.{Known, nothing, learn, learn_at, learned, known, last_plane, precision_at, precisions}
 use Rattle.nls.specs.Judging.{Begins}
 use Rattle.nls.proofs.Tiled.{Tiled, tiled}
-use Rattle.nls.proofs.Arrays.{Bits, bits_of_arr, below, ◌⊑◌, told, Fit}
+use Rattle.nls.proofs.Arrays.{Bits, bits_of_arr, ◌⊑◌, told, Fit}
 use Rattle.nls.proofs.Machine.Cover.{Under, is_desc_at, is_grand_at}
 use Rattle.nls.proofs.Machine.Steps.{Fam, Good, Good_at, from_good, Learned, On_ask, good_tell, good_settle, good_mono}
 use Rattle.nls.proofs.Machine.Start.{good_start}

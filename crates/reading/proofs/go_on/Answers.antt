@@ -1,6 +1,4 @@
-use Prim.Native.Nat.{◌-◌}
 use mathlib.Core.Path.{refl, ◌∙◌}
-use mathlib.Core.Bool.{false}
 use native.Mathlib.Omega.{arith}
 use Rattle.walk.proofs.Turns.{carry_next}
 use Rattle.reading.proofs.ReadTurns.{stops_here, falls_go}

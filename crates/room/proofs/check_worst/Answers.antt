@@ -1,6 +1,5 @@
 use mathlib.Core.Path.{◌≡◌, sym, ◌∙◌}
 use mathlib.Core.Bool.{true}
-use borrow.Author.Tests.{not-true, not-false}
 use Rattle.sizes.specs.Sizes.{side_fits, levels_fit}
 use Rattle.room.proofs.Laws.{worst_side, worst_levels, worst_planes, worst_well}
 use Rattle.room.proofs.check_worst.Goals as goal

@@ -1,5 +1,4 @@
 use mathlib.Core.Path.{sym, ap, ◌∙◌}
-use borrow.Author.Tests.{not-true, not-false}
 use Rattle.refusals.specs.Checks.{first_failing}
 use Rattle.room.specs.Room.{worst_checks}
 use Rattle.txp.specs.declared.Header.{Header}

@@ -1,6 +1,5 @@
 use mathlib.Core.Path.{sym, ◌∙◌}
 use native.Mathlib.Omega.{arith}
-use borrow.Author.Tests.{not-false}
 use Rattle.sizes.proofs.Laws.{both_left}
 use Rattle.nls.specs.Scan.{sets}
 use Rattle.undo.proofs.Runs.{hushed_none, hushed_on, alone_four}

@@ -1,7 +1,6 @@
 use Prim.Native.Nat.{◌-◌}
 use mathlib.Core.Path.{refl, sym, ◌∙◌}
 use native.Mathlib.Omega.{arith}
-use borrow.Author.Tests.{not-true, not-false}
 use Rattle.sizes.proofs.Laws.{both_left}
 use Rattle.nls.specs.Scan.{refining}
 use Rattle.undo.proofs.Runs.{four_before, hushed_none, hushed_on, back_one, back_none, new_four}

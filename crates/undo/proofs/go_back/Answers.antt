@@ -1,17 +1,16 @@
-use borrow.Author.Tests.{not-true, not-false}
 use mathlib.Core.Bool.{false}
 use mathlib.Core.Path.{sym, ◌∙◌}
 use Rattle.undo.proofs.Ways.{stand_told, room_told, pending_stood, plain_stood, table_refused, stand_refused, went}
 use Rattle.undo.proofs.go_back.Goals as goal
 
 pub returns-then-not-table_fits : goal.returns-then-not-table_fits
-returns-then-not-table_fits c = 
+returns-then-not-table_fits c =
     let a = c.args in
     let g = table_refused a.marks.now a.values.now a.coarsest a.planes a.from (sym c.table_fits.ensures ∙ c.if-not-table_fits.true) in
     record { value = g.0; marks_after = g.1 }
 
 pub returns-then-not-stand_fits : goal.returns-then-not-stand_fits
-returns-then-not-stand_fits c = 
+returns-then-not-stand_fits c =
     let a = c.args in
     let g = stand_refused a.marks.now a.values.now a.coarsest a.planes a.from (sym c.table_fits.ensures ∙ c.if-not-table_fits.false) (sym c.stand_fits.ensures ∙ c.if-not-stand_fits.true) in
     record { value = g.0; marks_after = g.1 }

@@ -61,7 +61,7 @@ pub down_to-k-requires : goal.down_to-k-requires
 down_to-k-requires c = (c.requires.1, left_fits c.requires.2)
 
 pub loop-place-preserved-then-mark-lt-MSP : goal.loop-place-preserved-then-mark-lt-MSP
-loop-place-preserved-then-mark-lt-MSP c =    let a = c.args in
+loop-place-preserved-then-mark-lt-MSP c = let a = c.args in
     let l = c.loop-place in
     let s = c.requires.2 in
     let some = c.requires.1 in
@@ -76,7 +76,7 @@ pub down_to-k-requires-then-mark-lt-MD : goal.down_to-k-requires-then-mark-lt-MD
 down_to-k-requires-then-mark-lt-MD c = (c.requires.1, left_fits c.requires.2)
 
 pub loop-place-preserved-then-mark-lt-MD : goal.loop-place-preserved-then-mark-lt-MD
-loop-place-preserved-then-mark-lt-MD c =    let a = c.args in
+loop-place-preserved-then-mark-lt-MD c = let a = c.args in
     let l = c.loop-place in
     let s = c.requires.2 in
     let some = c.requires.1 in
@@ -122,7 +122,7 @@ loop-place-preserved c =
     )
 
 pub returns : goal.returns
-returns c =    let a = c.args in
+returns c = let a = c.args in
     let l = c.loop-place in
     let e : l.place ≡ length a.marks.now = omega (arith, l.invariant.0.within, c.loop-place-test.false) in
     l.invariant.2 ∙ rw e (whole (length a.marks.now) _ a.precisions.now c.requires.0)

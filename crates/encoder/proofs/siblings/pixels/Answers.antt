@@ -1,7 +1,6 @@
 use Prim.Native.Nat.{◌/◌, ◌<◌}
 use mathlib.Core.Path.{refl, sym, ◌∙◌}
 use native.Mathlib.Omega.{arith}
-use borrow.Author.Tests.{not-false}
 use lib.ListN.{get_or}
 use Rattle.marking.proofs.Laws.{skip_in}
 use Rattle.fours.specs.Words.{FourLow}

@@ -1,7 +1,6 @@
 use Prim.Native.Nat.{ℕ, ◌+◌, ◌*◌, ◌<◌}
 use mathlib.Core.Path.{ap, ◌∙◌}
 use native.Mathlib.Omega.{arith}
-use borrow.Author.Tests.{not-false}
 use lib.ListN.{get_or}
 use Rattle.marking.proofs.Laws.{skip_in}
 use Rattle.fours.specs.Words.{FourLow, with_word}

@@ -1,5 +1,4 @@
 use native.Mathlib.Omega.{arith}
-use borrow.Author.Tests.{not-true, not-false}
 use Rattle.encoder.proofs.WriteLaws.{coefficient_none, coefficient_zero, coefficient_cut, coefficient_one}
 use Rattle.encoder.proofs.writing.coefficient.Goals as goal
 

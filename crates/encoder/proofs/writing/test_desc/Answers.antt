@@ -1,7 +1,6 @@
 use Prim.Native.Nat.{◌/◌}
 use mathlib.Core.List.{[]}
 use native.Mathlib.Omega.{arith}
-use borrow.Author.Tests.{not-true, not-false}
 use Rattle.marking.proofs.Laws.{split_desc_so}
 use Rattle.nls.specs.Scan.{in_desc}
 use Rattle.marking.specs.Marking.{desc_split_marks}

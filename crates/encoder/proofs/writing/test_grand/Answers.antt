@@ -1,7 +1,6 @@
 use Prim.Native.Nat.{◌/◌}
 use mathlib.Core.List.{[]}
 use native.Mathlib.Omega.{arith}
-use borrow.Author.Tests.{not-true, not-false}
 use Rattle.marking.proofs.Laws.{split_grand_so}
 use Rattle.nls.specs.Scan.{in_grand}
 use Rattle.marking.specs.Marking.{grand_split_marks}

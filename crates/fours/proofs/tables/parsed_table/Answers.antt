@@ -4,8 +4,6 @@ use mathlib.Core.Path.{refl}
 use Rattle.sizes.specs.Tables.{table}
 use Rattle.bits.specs.Bits.{bit}
 use Rattle.fours.specs.Tables.{parsed_table}
-use Rattle.fours.proofs.tables.parsed_table.Statement.{statement}
-use Rattle.fours.proofs.tables.parsed_table.Tie as tie
 
 pub returns : goal.returns
 unfolding table bit parsed_table

@@ -4,8 +4,6 @@ use mathlib.Core.Path.{refl}
 use Rattle.sizes.specs.Tables.{table}
 use Rattle.bits.specs.Bits.{bit}
 use Rattle.fours.specs.Tables.{value_of, picked_table}
-use Rattle.fours.proofs.tables.picked_table.Statement.{statement}
-use Rattle.fours.proofs.tables.picked_table.Tie as tie
 
 pub returns : goal.returns
 unfolding table bit value_of picked_table

@@ -4,8 +4,6 @@ use mathlib.Core.Path.{refl}
 use Rattle.sizes.specs.Tables.{table}
 use Rattle.bits.specs.Bits.{bit}
 use Rattle.fours.specs.Tables.{placed_table}
-use Rattle.fours.proofs.tables.placed_table.Statement.{statement}
-use Rattle.fours.proofs.tables.placed_table.Tie as tie
 
 pub returns : goal.returns
 unfolding table bit placed_table

@@ -4,8 +4,6 @@ use mathlib.Core.Path.{refl}
 use Rattle.sizes.specs.Tables.{table}
 use Rattle.bits.specs.Bits.{bit}
 use Rattle.fours.specs.Tables.{value_of, sent_table}
-use Rattle.fours.proofs.tables.sent_table.Statement.{statement}
-use Rattle.fours.proofs.tables.sent_table.Tie as tie
 
 pub returns : goal.returns
 unfolding table bit value_of sent_table

@@ -1,5 +1,4 @@
 use borrow.Author.Tests.{not-false}
-use Prim.Native.Nat.{◌-◌}
 use mathlib.Core.Path.{refl, ◌∙◌}
 use native.Mathlib.Omega.{arith}
 use Rattle.walk.proofs.Fours.{leads_none}

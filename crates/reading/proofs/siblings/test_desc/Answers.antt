@@ -38,5 +38,5 @@ overflow_add-result-4 c = record { fits = omega (arith, c.requires.0.below, c.re
 pub returns : goal.returns
 returns c =
     let some : c.listen-h.result.found ≡ 0 → 4 * c.args.place < c.args.all =
-      elim c.if-h-eq0.branch [ then-h-eq0+else-all-place w ↦ λ z. w.if-all-place.false | else-h-eq0 w ↦ λ z. absurd (w.if-h-eq0.false z) ] in
+    elim c.if-h-eq0.branch [ then-h-eq0+else-all-place w ↦ λ z. w.if-all-place.false | else-h-eq0 w ↦ λ z. absurd (w.if-h-eq0.false z) ] in
     desc_so _ _ _ _ _ _ _ _ _ _ _ c.requires.0 c.requires.7 _ c.window-w.ensures c.requires.5 c.if-w-lt32768.false c.requires.6 c.if-place-ne0.false _ _ _ _ c.listen-h.ensures.0 c.listen-h.ensures.1 c.listen-h.ensures.2 some c.spread.ensures _ _ _ c.split_desc.ensures c.set_word.ensures c.found_four.ensures

@@ -1,6 +1,6 @@
 use mathlib.Core.Path.{◌≡◌, sym, ◌∙◌}
 use mathlib.Core.Bool.{true, false}
-use borrow.Author.Tests.{not-true, not-false, le-leb, lt-leb}
+use borrow.Author.Tests.{le-leb, lt-leb}
 use Rattle.sizes.specs.Sizes.{side_fits, levels_fit, most_planes}
 use Rattle.steps.specs.Records.{in_range, is_end}
 use Rattle.steps.proofs.records.in_range.Goals as goal

@@ -1,5 +1,4 @@
 use mathlib.Core.Path.{refl}
-use borrow.Author.Tests.{not-true, not-false}
 use Rattle.steps.proofs.tables.note.Goals as goal
 
 pub returns-in-Sign : goal.returns-in-Sign
