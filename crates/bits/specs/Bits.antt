@@ -1,9 +1,9 @@
 -- Bits of a number, and of a body (document 01, "File TXP": "Body bits fill each byte from its highest bit; the last byte is padded with 0").
-use Rattle.std.specs.Prelude.{ℕ, zero, suc, ◌+◌, ◌*◌, ◌-◌, ◌/◌, ◌%◌, ◌^◌}
 use mathlib.Core.{Bool.Bool, Bool.true, Bool.false, Bool.cond, List.List, List.[], List.◌∷◌}
 use lib.{Bits.bit_or, Dec.ltb, Dec.eqb, ListN.length, ListN.get_or, ListN.set}
+use Rattle.std.specs.Prelude.{ℕ, zero, suc, ◌+◌, ◌*◌, ◌-◌, ◌/◌, ◌%◌, ◌^◌, Result, Ok, Err}
 use Rattle.sizes.specs.Tables.{table}
-use Rattle.bits.specs.{declared.Next.Next, declared.Next.TheVariants.Bit, declared.Next.TheVariants.NoMore, declared.Why.TheVariants.Short}
+use Rattle.bits.specs.{declared.Why.Why, declared.Why.TheVariants.Short}
 
 -- bit b of x
 unfoldable pub bit : ℕ → ℕ → Bool
@@ -39,9 +39,13 @@ number (suc n) f = number n f * 2 + digit (f n)
 unfoldable pub packed : List Bool → List ℕ
 packed u = table (bytes_for (length u)) (λ j. number 8 (λ k. get_or u (8 * j + k) false))
 
+-- a bit, or why there are no more
+abbrev pub Next : Type 0
+Next = Result Bool Why
+
 -- what a fetch answers: the bit, or that the body has no more (document 02, T-06: ".. or file short")
 abbrev pub fetched : List ℕ → ℕ → Next
-fetched body k = cond (ltb (k / 8) (length body)) (Bit (bit_at body k)) (NoMore Short)
+fetched body k = cond (ltb (k / 8) (length body)) (Ok (bit_at body k)) (Err Short)
 
 -- a byte with x put at its bit k, counted from the highest: what lies above it stays, what lies below is 0
 unfoldable pub byte_with : ℕ → ℕ → Bool → ℕ

@@ -11,13 +11,6 @@ pub enum Why {
     Short,
 }
 
-// What a fetch answers: a bit, or that there are no more, and why.
-#[derive(Clone, Copy)]
-pub enum Next {
-    Bit(bool),
-    NoMore(Why),
-}
-
 // Bit b of x.
 pub fn bit_of(x: u32, b: u32) -> bool
     ensures { result ≡ bit x b }
@@ -35,15 +28,15 @@ pub fn bit_in(byte: u8, at: usize) -> bool
     ((byte as u32) >> (7 - at % 8)) % 2 == 1
 }
 
-// The bit with number `at`. Past its last byte a body is short.
-pub fn fetch(body: &[u8], at: usize) -> Next
+// The bit with number `at`, or that there is none and why: past its last byte a body is short.
+pub fn fetch(body: &[u8], at: usize) -> Result<bool, Why>
     ensures { result ≡ fetched body.now at }
 {
     let byte = at / 8;
     if byte < body.len() {
-        return Next::Bit(bit_in(body[byte], at));
+        return Ok(bit_in(body[byte], at));
     }
-    Next::NoMore(Why::Short)
+    Err(Why::Short)
 }
 
 // The byte that holds the bit with number `at`, with x put there: what lies above stays, what lies below is 0.

@@ -8,10 +8,9 @@ use native.Mathlib.Omega.{arith}
 use lib.IntN.{ℤ, pos, nat_abs, ◌-ℤ◌}
 use lib.ListN.{length, get_or, take, drop, replicate, length-append, length-take, get_or-append}
 use lib.Seq.{take_all, length-take-le, drop_at}
-use Rattle.refusals.specs.Checks.{first_failing}
+use Rattle.std.specs.Prelude.{Ok, Err}
+use Rattle.refusals.specs.Checks.{first_failing, Outcome}
 use Rattle.refusals.specs.declared.Refusal.TheVariants.{Contradiction, Beyond}
-use Rattle.refusals.specs.declared.Outcome.{Outcome}
-use Rattle.refusals.specs.declared.Outcome.TheVariants as outcome
 use Rattle.sizes.specs.Sizes.{all_of, Sized}
 use Rattle.sizes.specs.Tables.{table}
 use Rattle.sizes.proofs.Laws.{sized}
@@ -28,18 +27,14 @@ use Rattle.nls.proofs.Verdicts.{judged_only}
 use Rattle.room.specs.Room.{read_checks, body_bits}
 use Rattle.room.specs.Ready.{EncodeReady}
 use Rattle.room.proofs.Laws.{encode_ready, decode_well}
-use Rattle.encoder.specs.Body.{sent_bits, write_answer, sent_marks, output_after, Loan, write_outcome, Writes}
-use Rattle.decoder.specs.Body.{read_answer, Tables, tables, own_tables, over, BodyRead, ReadsTo, Reads}
+use Rattle.encoder.specs.Body.{sent_bits, write_answer, sent_marks, output_after, Loan, write_outcome, Writes, WriteAnswer}
+use Rattle.encoder.specs.declared.body.Written.{Written}
+use Rattle.encoder.proofs.EncodeLaws.{planes_near}
+use Rattle.decoder.specs.Body.{read_answer, Tables, tables, own_tables, over, BodyRead, ReadsTo, Reads, ReadAnswer}
 use Rattle.decoder.specs.Ending.{ending}
 use Rattle.decoder.specs.declared.ending.Ending.{Ending}
 use Rattle.decoder.specs.declared.ending.Ending.TheVariants.{Whole, Budget}
-use Rattle.encoder.specs.declared.body.Written.{Written}
-use Rattle.encoder.specs.declared.body.WriteAnswer.{WriteAnswer}
-use Rattle.encoder.specs.declared.body.WriteAnswer.TheVariants as encode
 use Rattle.decoder.specs.declared.body.ReadTo.{ReadTo}
-use Rattle.decoder.specs.declared.body.ReadAnswer.{ReadAnswer}
-use Rattle.decoder.specs.declared.body.ReadAnswer.TheVariants as decode
-use Rattle.encoder.proofs.EncodeLaws.{planes_near}
 use Rattle.decoder.proofs.Endings.{ending_budget, some_left, all_whole}
 
 -- ---- a call of `decode` whose checks hold, or of `decode_midpoint`: any rule may be named
@@ -52,29 +47,29 @@ module _ (rule : ℕ → ℕ → ℕ) (word : ℕ → ℕ → Ending) (N L P : �
       (d.answered ∙ ap (λ (v : Verdict). read_answer word N L P u v) e, d.filled ∙ ap (λ (v : Verdict). over (all_of N) (own_tables rule N L P u v) held) e)
 
   -- REFUSED EXACTLY: a body is taken if and only if some array fits, and refused as 12 or 13 at the bit that document 01 says
-  pub done_fits : (r : ReadTo) → answer ≡ decode.Done r → Fits N L P u
+  pub done_fits : (r : ReadTo) → answer ≡ Ok r → Fits N L P u
   done_fits r e = go d.verdict d.judged (sym d.answered ∙ e)
     where
-      go : (v : Verdict) → Judged N L P u v → read_answer word N L P u v ≡ decode.Done r → Fits N L P u
+      go : (v : Verdict) → Judged N L P u v → read_answer word N L P u v ≡ Ok r → Fits N L P u
       go taken j f = j
       go (contradiction k) j f = absurd (let z : ◌≡◌ {A = ℕ} 0 1 = cc in omega arith)
       go (beyond k) j f = absurd (let z : ◌≡◌ {A = ℕ} 0 1 = cc in omega arith)
 
-  pub fits_done : Fits N L P u → answer ≡ decode.Done (record { used = length u; finished = planes_finished N L P u; error = worst_error N L P u; ending = word (length u) (last_plane N L P u) })
+  pub fits_done : Fits N L P u → answer ≡ Ok (record { used = length u; finished = planes_finished N L P u; error = worst_error N L P u; ending = word (length u) (last_plane N L P u) })
   fits_done f = (taken_so f).0
 
-  pub twelve : (k : ℕ) → answer ≡ decode.Refused (Contradiction k) → Contradicts N L P u k
+  pub twelve : (k : ℕ) → answer ≡ Err (Contradiction k) → Contradicts N L P u k
   twelve k e = go d.verdict d.judged (sym d.answered ∙ e)
     where
-      go : (v : Verdict) → Judged N L P u v → read_answer word N L P u v ≡ decode.Refused (Contradiction k) → Contradicts N L P u k
+      go : (v : Verdict) → Judged N L P u v → read_answer word N L P u v ≡ Err (Contradiction k) → Contradicts N L P u k
       go taken j f = absurd (let z : ◌≡◌ {A = ℕ} 0 1 = cc in omega arith)
       go (contradiction n) j f = let e : n ≡ k = cc in subst (λ (x : ℕ). Contradicts N L P u x) e j
       go (beyond n) j f = absurd (let z : ◌≡◌ {A = ℕ} 0 1 = cc in omega arith)
 
-  pub thirteen : (k : ℕ) → answer ≡ decode.Refused (Beyond k) → IsBeyond N L P u k
+  pub thirteen : (k : ℕ) → answer ≡ Err (Beyond k) → IsBeyond N L P u k
   thirteen k e = go d.verdict d.judged (sym d.answered ∙ e)
     where
-      go : (v : Verdict) → Judged N L P u v → read_answer word N L P u v ≡ decode.Refused (Beyond k) → IsBeyond N L P u k
+      go : (v : Verdict) → Judged N L P u v → read_answer word N L P u v ≡ Err (Beyond k) → IsBeyond N L P u k
       go taken j f = absurd (let z : ◌≡◌ {A = ℕ} 0 1 = cc in omega arith)
       go (contradiction n) j f = absurd (let z : ◌≡◌ {A = ℕ} 0 1 = cc in omega arith)
       go (beyond n) j f = let e : n ≡ k = cc in subst (λ (x : ℕ). IsBeyond N L P u x) e j
@@ -114,20 +109,20 @@ module _ (word : ℕ → ℕ → Ending) (N L P : ℕ) (z : Sized N L) (u : List
       rw (v, k) (demands.midpoint_half N L P z A u b i h (omega (arith, some, k)) (λ e. found (v ∙ e)))
 
 -- the word of an answer
-told_word : (answer : ReadAnswer) (d' d : ReadTo) → answer ≡ decode.Done d → answer ≡ decode.Done d' → d.ending ≡ d'.ending
+told_word : (answer : ReadAnswer) (d' d : ReadTo) → answer ≡ Ok d → answer ≡ Ok d' → d.ending ≡ d'.ending
 told_word answer d' d is so =
-    let same : decode.Done d ≡ decode.Done d' = sym is ∙ so in
+    let same : Ok d ≡ Ok d' = sym is ∙ so in
     cc
 
 -- ---- `decode` of what `encode` wrote
 
 module _ (N L : ℕ) (A : List ℤ) (offset budget : ℕ) (held left : Loan) (wrote : WriteAnswer) (writes : Writes N L A offset budget held wrote left)
-    (w : Written) (done : wrote ≡ encode.Done w) where
-  done_so : (o : Outcome) → write_answer N L A budget o ≡ encode.Done w → (o ≡ outcome.Done) × (w ≡ record { planes = planes_of A; bits = length (sent_bits N L A budget) })
-  done_so outcome.Done e = (refl, cc)
-  done_so (outcome.Refused why) e = absurd (let z : ◌≡◌ {A = ℕ} 0 1 = cc in omega arith)
+    (w : Written) (done : wrote ≡ Ok w) where
+  done_so : (o : Outcome) → write_answer N L A budget o ≡ Ok w → (o ≡ Ok tt) × (w ≡ record { planes = planes_of A; bits = length (sent_bits N L A budget) })
+  done_so (Ok tt) e = (refl, cc)
+  done_so (Err why) e = absurd (let z : ◌≡◌ {A = ℕ} 0 1 = cc in omega arith)
 
-  checked : (write_outcome N L A offset budget held ≡ outcome.Done) × (w ≡ record { planes = planes_of A; bits = length (sent_bits N L A budget) })
+  checked : (write_outcome N L A offset budget held ≡ Ok tt) × (w ≡ record { planes = planes_of A; bits = length (sent_bits N L A budget) })
   checked = done_so (write_outcome N L A offset budget held) (sym writes.answered ∙ done)
 
   ready : EncodeReady N L A (length held.descs) (length held.grands) (length held.out - offset) budget × (all_of N ≤ length held.marks) × (offset ≤ length held.out)
@@ -186,14 +181,14 @@ module _ (N L : ℕ) (A : List ℤ) (offset budget : ℕ) (held left : Loan) (wr
     so =
         let planes : w.planes ≡ P = ap (λ (x : Written). x.planes) checked.1 in
         let few = planes_near N L A (length held.descs) (length held.grands) (length held.out - offset) budget ready.0 in
-        let well : first_failing (read_checks N L P (length given.values) (length given.precisions) (length given.marks)) ≡ outcome.Done =
+        let well : first_failing (read_checks N L P (length given.values) (length given.precisions) (length given.marks)) ≡ Ok tt =
         sym (decode_well N L P (length given.values) (length given.precisions) (length given.marks) ready.0.side ready.0.levels few hv hp hm) in
         subst (λ (o : Outcome). ReadsTo o rule word N L P u given read after) well
         (subst (λ (b : List Bool). ReadsTo (first_failing (read_checks N L P (length given.values) (length given.precisions) (length given.marks))) rule word N L P b given read after) same_bits
         (subst (λ (p : ℕ). Reads rule N L p w.bits (drop offset left.out) given read after) planes decoded))
 
     -- IN STEP: what was written is taken, whatever the budget, and the decoder's marks are the encoder's
-    pub back : (read ≡ decode.Done (record {
+    pub back : (read ≡ Ok (record {
       used = length (sent_bits N L A budget);
       finished = planes_finished N L (planes_of A) (sent_bits N L A budget);
       error = worst_error N L (planes_of A) (sent_bits N L A budget);
@@ -204,7 +199,7 @@ module _ (N L : ℕ) (A : List ℤ) (offset budget : ℕ) (held left : Loan) (wr
 
     -- WHOLE: with a budget that does not cut, the array itself, to the last bit
     pub whole : Between rule → length (stream N L (planes_of A) A) ≤ budget
-        → (read ≡ decode.Done (record { used = length (stream N L (planes_of A) A); finished = planes_of A; error = 0; ending = Whole }))
+        → (read ≡ Ok (record { used = length (stream N L (planes_of A) A); finished = planes_of A; error = 0; ending = Whole }))
         × (after ≡ over (all_of N) (tables A (replicate (all_of N) 0) (sent_marks N L A budget)) given)
     whole fair h =
         let all : u ≡ S = take_all budget S h in
@@ -213,10 +208,10 @@ module _ (N L : ℕ) (A : List ℤ) (offset budget : ℕ) (held left : Loan) (wr
         let error : worst_error N L P u ≡ 0 = ap (λ (b : List Bool). worst_error N L P b) all ∙ demands.whole_error N L P z A size (planes_of_lem A) in
         let values : values_by N L P u rule ≡ A = ap (λ (b : List Bool). values_by N L P b rule) all ∙ demands.whole_by N L P z A size (planes_of_lem A) rule fair in
         let exact : precisions N L P u ≡ replicate (all_of N) 0 = ap (λ (b : List Bool). precisions N L P b) all ∙ demands.whole_precisions N L P z A size (planes_of_lem A) in (
-          back.0 ∙ (λ i. decode.Done (record { used = length (all i); finished = finished i; error = error i; ending = written_whole h i })),
+          back.0 ∙ (λ i. Ok (record { used = length (all i); finished = finished i; error = error i; ending = written_whole h i })),
           back.1 ∙ (λ i. over (all_of N) (tables (values i) (exact i) (sent_marks N L A budget)) given),
         )
 
     -- BUDGET: where it cut something, the answer says so
-    pub budget_word : budget < length (stream N L (planes_of A) A) → (d : ReadTo) → read ≡ decode.Done d → d.ending ≡ Budget
+    pub budget_word : budget < length (stream N L (planes_of A) A) → (d : ReadTo) → read ≡ Ok d → d.ending ≡ Budget
     budget_word h d is = told_word read _ d is back.0 ∙ written_budget h

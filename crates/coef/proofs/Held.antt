@@ -1,18 +1,17 @@
 -- What the machine does with a signed number. A local holds its bits, so that a goal speaks of `to_z w32 (of_z w32 z)`.
 use mathlib.Core.Path.{◌≡◌, refl, sym, ◌∙◌, ap, subst}
 use mathlib.Core.Bool.{Bool, true, false, true≢false, false≢true}
-use Prim.Native.Nat.{ℕ, zero, suc, ◌+◌, ◌-◌, ◌<◌, ◌≤◌, ◌^◌}
+use Prim.Native.Nat.{ℕ, zero, suc, ◌<◌, ◌≤◌, ◌^◌}
 use native.Mathlib.Omega.{arith}
-use borrow.Author.Tests.{ltb-true, ltb-false, le-leb, lt-leb}
 use lib.Dec.{T, leb-suc-zero, le→leb, lt→ltb}
 use lib.Ieee.{binary32, in_float}
 use lib.IntN.{ℤ, pos, negsuc, neg_ℤ, ◌-ℤ◌, +ℤ_idl}
-use lib.Signed.{lt_z, le_z, non_neg, mag}
+use lib.Signed.{lt_z, non_neg, mag}
 use mir.Facts.{to_z-of_z, to_z_pos}
 use mir.Syntax.{w32}
 use mir.Val.{SFits, Fits, of_z, to_z}
 use Rattle.sizes.specs.Sizes.{limit}
-use Rattle.coef.specs.Coef.{negative, magnitude, signed, within}
+use Rattle.coef.specs.Coef.{negative, magnitude, signed}
 
 -- an element of a `&[i32]`, as a read hands it over
 pub read_back : (z : ℤ) → mag z < 2 ^ 31 → to_z w32 (of_z w32 z) ≡ z
@@ -25,22 +24,6 @@ lt_zero z f = ap (λ (y : ℤ). lt_z y (pos 0)) (to_z-of_z f) ∙ go z
     go : (z : ℤ) → lt_z z (pos 0) ≡ negative z
     go (pos a) = leb-suc-zero a
     go (negsuc a) = refl
-
--- the tests against the least and the largest coefficient, which are the limit with a sign
-pub under_least : (z : ℤ) → SFits w32 z → lt_z (to_z w32 (of_z w32 z)) (signed true limit) ≡ true → within z ≡ false
-under_least z f e = go z (ap (λ (y : ℤ). lt_z y (signed true limit)) (sym (to_z-of_z f)) ∙ e)
-  where
-    go : (z : ℤ) → lt_z z (signed true limit) ≡ true → within z ≡ false
-    go (pos a) e = absurd (false≢true e)
-    go (negsuc a) e = lt-leb (suc a) limit (omega (arith, ltb-true 16777214 a e))
-
-pub up_to_most : (z : ℤ) → SFits w32 z → lt_z (to_z w32 (of_z w32 z)) (signed true limit) ≡ false → le_z (to_z w32 (of_z w32 z)) (signed false limit) ≡ within z
-up_to_most z f e =
-    ap (λ (y : ℤ). le_z y (signed false limit)) (to_z-of_z f) ∙ go z (ap (λ (y : ℤ). lt_z y (signed true limit)) (sym (to_z-of_z f)) ∙ e)
-  where
-    go : (z : ℤ) → lt_z z (signed true limit) ≡ false → le_z z (signed false limit) ≡ within z
-    go (pos a) e = refl
-    go (negsuc a) e = sym (le-leb (suc a) limit (omega (arith, ltb-false 16777214 a e)))
 
 -- a checked negation
 neg_fits : (z : ℤ) → magnitude z < 2 ^ 31 → SFits w32 (neg_ℤ z)
@@ -76,29 +59,6 @@ module _ (z : ℤ) (f : SFits w32 z) (h : magnitude z < 2 ^ 31) where
   neg_cast n =
       subst (λ (y : ℤ). T (non_neg y) × Fits w32 (magnitude y)) (sym negated)
       (neg_non_neg z n, record { fits = omega (arith, neg_size z) })
-
--- a number below 0 with every bit exchanged: one less than its magnitude
-module _ (z : ℤ) (f : SFits w32 z) (n : negative z ≡ true) where
-  exchanged : (y : ℤ) → SFits w32 y → negative y ≡ true → to_z w32 (4294967295 - of_z w32 y) ≡ pos (magnitude y - 1)
-  exchanged (pos a) g h = absurd (false≢true h)
-  exchanged (negsuc a) g h =
-      let e : 4294967295 - (4294967296 - suc a) ≡ a = omega (arith, g.sfits) in
-      let s : suc a - 1 ≡ a = omega arith in
-      ap (λ (k : ℕ). to_z w32 k) e ∙ to_z_pos w32 (omega (arith, g.sfits)) ∙ ap pos (sym s)
-
-  size_some : (y : ℤ) → SFits w32 y → negative y ≡ true → (0 < magnitude y) × (magnitude y ≤ 2147483648)
-  size_some (pos a) g h = absurd (false≢true h)
-  size_some (negsuc a) g h = (omega arith, omega (arith, g.sfits))
-
-  pub exchanged_cast : T (non_neg (to_z w32 (4294967295 - of_z w32 z))) × Fits w32 (magnitude (to_z w32 (4294967295 - of_z w32 z)))
-  exchanged_cast =
-      subst (λ (y : ℤ). T (non_neg y) × Fits w32 (magnitude y)) (sym (exchanged z f n)) (tt, record { fits = omega (arith, (size_some z f n).1) })
-
-  pub exchanged_size : magnitude (to_z w32 (4294967295 - of_z w32 z)) + 1 ≡ magnitude z
-  exchanged_size = let e = ap magnitude (exchanged z f n) in omega (arith, e, (size_some z f n).0)
-
-  pub exchanged_fits : magnitude (to_z w32 (4294967295 - of_z w32 z)) + 1 < 4294967296
-  exchanged_fits = omega (arith, exchanged_size, (size_some z f n).1)
 
 -- what the cast of a number that is not below 0 asks
 pub pos_cast : (z : ℤ) → SFits w32 z → negative z ≡ false

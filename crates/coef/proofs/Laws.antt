@@ -7,22 +7,23 @@ use Prim.Native.Nat.{ℕ, zero, suc, ◌-◌, ◌/◌, ◌≤◌, ◌<◌, ◌^�
 use native.Mathlib.Nat.{pow-suc, le_antisymm}
 use native.Mathlib.Decide.{dec_lt}
 use native.Mathlib.Omega.{arith}
-use borrow.Author.Tests.{leb-true, le-leb}
+use borrow.Author.Tests.{leb-true, le-leb, ltb-false}
+use lib.Bits.{bit_or, or_zero_r}
 use lib.Count.{count_leading_zeros, count_trailing_zeros}
-use lib.Dec.{lit<, leb}
+use lib.Dec.{lit<, leb, ltb}
 use lib.Ieee.{fin, binary32, of_int, round, size, units, odd, span, climb}
 use lib.Ieee.Back.{round_whole}
 use lib.Ieee.Exact.{HasValue}
 use lib.IntN.{ℤ, pos, negsuc}
 use lib.ListN.{length, get_or, get_or-eq_default, get_or-map}
 use lib.Pow.{pow_pos, pow_mono}
+use Rattle.std.specs.List.{fold}
+use Rattle.std.specs.Prelude.{Some, None, unwrap_or}
 use Rattle.sizes.specs.Sizes.{limit, most_planes}
 use Rattle.bits.specs.Bits.{or_all}
-use Rattle.bits.proofs.Laws.{or_below, zeros_below}
+use Rattle.bits.proofs.Laws.{or_assoc, or_below, zeros_below}
 use Rattle.coef.specs.Coef.{negative, magnitude, signed, within, at, mag_at, parted_of, joined_of, first_over, over_by, IsPlanes, largest, digits, planes_of}
 use Rattle.coef.specs.declared.Signed.{Signed}
-use Rattle.coef.specs.declared.Parted.TheVariants as parted
-use Rattle.coef.specs.declared.Joined.TheVariants as joined
 
 -- ---- sign and magnitude
 
@@ -50,11 +51,11 @@ within_le z e = leb-true (magnitude z) limit e
 abbrev pub signed_of : ℤ → Signed
 signed_of z = record { negative = negative z; magnitude = magnitude z }
 
-pub parted_is : (z : ℤ) → within z ≡ true → parted_of z ≡ parted.Is (signed_of z)
+pub parted_is : (z : ℤ) → within z ≡ true → parted_of z ≡ Some (signed_of z)
 parted_is z e = rw e
 
-pub joined_is : (z : ℤ) → within z ≡ true → joined_of (signed_of z) ≡ joined.Is z
-joined_is z e = rw e (ap joined.Is (signed_back z))
+pub joined_is : (z : ℤ) → within z ≡ true → joined_of (signed_of z) ≡ Some z
+joined_is z e = rw e (ap Some (signed_back z))
 
 -- ---- the first place over the limit
 
@@ -105,7 +106,21 @@ first_all A e i = tell (dec_lt i (length A))
     tell (yes l) = first_before A i (omega arith)
     tell (no l) = past_within A i (omega arith)
 
+-- a place, or the length where there is none: what `position` and `unwrap_or` give together
+pub place_or_length : (p n : ℕ) → p ≤ n → unwrap_or (cond (ltb p n) (Some p) None) n ≡ p
+place_or_length p n h = tell (ltb p n) refl
+  where
+    tell : (t : Bool) → ltb p n ≡ t → unwrap_or (cond t (Some p) None) n ≡ p
+    tell true e = refl
+    tell false e = omega (arith, ltb-false p n e)
+
 -- ---- planes
+
+-- a fold by OR over what g makes of each number
+pub or_folded : {X : Type 0} (g : X → ℕ) (A : List X) (n : ℕ) → fold (λ m x. bit_or m (g x)) n A ≡ bit_or n (or_all (map g A))
+unfolding or_all
+or_folded g [] n = sym (or_zero_r n)
+or_folded g (x ∷ A) n = or_folded g A (bit_or n (g x)) ∙ or_assoc n (g x) (or_all (map g A))
 
 module _ {A : List ℤ} {P : ℕ} (p : IsPlanes A P) where
   pub planes_one : {Q : ℕ} → IsPlanes A Q → P ≡ Q

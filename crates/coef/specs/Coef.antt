@@ -1,13 +1,10 @@
 -- Coefficients (document 01, "Sizes").
-use Rattle.std.specs.Prelude.{ℕ, zero, suc, max, ◌/◌, ◌≤◌, ◌<◌, ◌^◌}
 use mathlib.Core.{Bool.Bool, Bool.true, Bool.false, Bool.cond, List.List, List.[], List.◌∷◌}
-use lib.{Dec.leb, Dec.eqb, ListN.length, ListN.get_or, IntN.ℤ, IntN.pos, IntN.negsuc, IntN.nat_abs, IntN.neg_ℤ, Ieee.binary32, Ieee.of_int, Ieee.Exact.HasValue}
+use lib.{Dec.leb, Dec.eqb, ListN.length, ListN.get_or, IntN.ℤ, IntN.pos, IntN.negsuc, IntN.nat_abs, IntN.neg_ℤ, Ieee.binary32, Ieee.of_int, Ieee.Float, Ieee.Exact.HasValue}
+use Rattle.std.specs.Prelude.{ℕ, zero, suc, max, ◌/◌, ◌≤◌, ◌<◌, ◌^◌, Option, Some, None, Result, Ok, Err}
+use Rattle.refusals.specs.{Checks.Check, Checks.need, declared.Refusal.Refusal, declared.Refusal.TheVariants.Coefficient}
 use Rattle.sizes.specs.Sizes.{limit, most_planes}
-use Rattle.refusals.specs.{Checks.Check, Checks.need, declared.Refusal.TheVariants.Coefficient}
-use Rattle.coef.specs.{declared.Signed.Signed, declared.Parted.Parted, declared.Joined.Joined, declared.Float.Float}
-use Rattle.coef.specs.declared.Parted.TheVariants as parted
-use Rattle.coef.specs.declared.Joined.TheVariants as joined
-use Rattle.coef.specs.declared.Float.TheVariants as float
+use Rattle.coef.specs.declared.Signed.{Signed}
 
 -- sign and magnitude of a number, and back
 abbrev pub negative : ℤ → Bool
@@ -32,12 +29,19 @@ at A i = get_or A i (pos 0)
 abbrev pub mag_at : List ℤ → ℕ → ℕ
 mag_at A i = magnitude (at A i)
 
+-- sign and magnitude of a coefficient, or the coefficient of these: none where it is over the limit
+abbrev pub Parted : Type 0
+Parted = Option Signed
+
+abbrev pub Joined : Type 0
+Joined = Option ℤ
+
 -- "The least 32-bit signed number has no negative in its type and is refused as too large"
 abbrev pub parted_of : ℤ → Parted
-parted_of z = cond (within z) (parted.Is (record { negative = negative z; magnitude = magnitude z })) parted.TooLarge
+parted_of z = cond (within z) (Some (record { negative = negative z; magnitude = magnitude z })) None
 
 abbrev pub joined_of : Signed → Joined
-joined_of s = cond (leb s.magnitude limit) (joined.Is (signed s.negative s.magnitude)) joined.TooLarge
+joined_of s = cond (leb s.magnitude limit) (Some (signed s.negative s.magnitude)) None
 
 -- the first place of a coefficient over the limit, or the length where there is none; and refusal 4
 unfoldable pub first_over : List ℤ → ℕ
@@ -73,10 +77,14 @@ digits (suc n) (suc x) = suc (digits n (suc x / 2))
 unfoldable pub planes_of : List ℤ → ℕ
 planes_of A = digits (largest A) (largest A)
 
--- "Each coefficient handed to the audio engine as a 32-bit float equals its whole number exactly .. zero gives plus zero"
-abbrev pub float_of : ℤ → Float
-float_of z = cond (within z) (float.Is (of_int binary32 z)) (float.Refused (Coefficient 0))
+-- a float, or the refusal of a coefficient over the limit
+abbrev pub Floated : Type 0
+Floated = Result Float Refusal
 
-abbrev pub Exactly : ℤ → Float → Type 0
-Exactly z (float.Is v) = HasValue v (negative z) (magnitude z) 1
-Exactly z (float.Refused why) = Unit {0}
+-- "Each coefficient handed to the audio engine as a 32-bit float equals its whole number exactly .. zero gives plus zero"
+abbrev pub float_of : ℤ → Floated
+float_of z = cond (within z) (Ok (of_int binary32 z)) (Err (Coefficient 0))
+
+abbrev pub Exactly : ℤ → Floated → Type 0
+Exactly z (Ok v) = HasValue v (negative z) (magnitude z) 1
+Exactly z (Err why) = Unit {0}

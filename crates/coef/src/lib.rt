@@ -15,24 +15,6 @@ pub struct Signed {
     pub magnitude: u32,
 }
 
-#[derive(Clone, Copy)]
-pub enum Parted {
-    Is(Signed),
-    TooLarge,
-}
-
-#[derive(Clone, Copy)]
-pub enum Joined {
-    Is(i32),
-    TooLarge,
-}
-
-#[derive(Clone, Copy)]
-pub enum Float {
-    Is(f32),
-    Refused(Refusal),
-}
-
 // The least and the largest coefficient: the limit, with a sign.
 const LEAST_COEFFICIENT: i32 = -16777215;
 
@@ -46,6 +28,7 @@ pub fn is_negative(x: i32) -> bool
 }
 
 // The magnitude of a number that has a negative in its type.
+// Kept: document 01 names this form, a checked negation behind the limit (docs/DECISIONS.md, "Named forms").
 fn negated_if_below(x: i32) -> u32
     requires { magnitude x < 2 ^ 31 }
     ensures { result ≡ magnitude x }
@@ -56,36 +39,29 @@ fn negated_if_below(x: i32) -> u32
     x as u32
 }
 
-// The magnitude of any number. Below 0 it is one more than the number with every bit exchanged: nothing is negated, since the least
-// number has no negative in its type.
+// The magnitude of any number, also of the least one, which has no negative in its type.
 pub fn magnitude(x: i32) -> u32
     ensures { result ≡ magnitude x }
 {
-    if x < 0 {
-        return (!x) as u32 + 1;
-    }
-    x as u32
+    x.unsigned_abs()
 }
 
 // Whether a coefficient is within the limit. Nothing is negated, since the least number has no negative in its type.
 fn is_within(x: i32) -> bool
     ensures { result ≡ within x }
 {
-    if x < LEAST_COEFFICIENT {
-        return false;
-    }
-    x <= MOST_COEFFICIENT
+    (LEAST_COEFFICIENT..=MOST_COEFFICIENT).contains(&x)
 }
 
-// Sign and magnitude of a coefficient. What is over the limit is refused before any negation, the least number with it.
-pub fn part_of(x: i32) -> Parted
+// Sign and magnitude of a coefficient; none where it is over the limit, which is seen before any negation, of the least number too.
+pub fn part_of(x: i32) -> Option<Signed>
     ensures { result ≡ parted_of x }
 {
     if !is_within(x) {
-        return Parted::TooLarge;
+        return None;
     }
     let size = negated_if_below(x);
-    Parted::Is(Signed {
+    Some(Signed {
         negative: x < 0,
         magnitude: size,
     })
@@ -103,29 +79,22 @@ fn with_sign(below: bool, size: u32) -> i32
     value
 }
 
-// The coefficient with this sign and magnitude.
-pub fn join_of(s: Signed) -> Joined
+// The coefficient with this sign and magnitude; none where that is over the limit.
+pub fn join_of(s: Signed) -> Option<i32>
     ensures { result ≡ joined_of s }
 {
     let size = s.magnitude;
     if size <= LIMIT {
-        return Joined::Is(with_sign(s.negative, size));
+        return Some(with_sign(s.negative, size));
     }
-    Joined::TooLarge
+    None
 }
 
 // Whether every coefficient is within the limit. The walk has no early end and no branch, so that several entries are taken at a time.
 fn all_within(a: &[i32]) -> bool
     ensures { result ≡ eqb (first_over a.now) (length a.now) }
 {
-    let mut all = true;
-    let mut i = 0;
-    while i < a.len() {
-        let x = a[i];
-        all = all & is_within(x);
-        i += 1;
-    }
-    all
+    a.iter().fold(true, |all, &x| all & is_within(x))
 }
 
 // The first place of a coefficient over the limit, or the length where there is none.
@@ -135,15 +104,7 @@ pub fn first_over(a: &[i32]) -> usize
     if all_within(a) {
         return a.len();
     }
-    let mut i = 0;
-    while i < a.len() {
-        let x = a[i];
-        if !is_within(x) {
-            return i;
-        }
-        i += 1;
-    }
-    i
+    a.iter().position(|&x| !is_within(x)).unwrap_or(a.len())
 }
 
 // The same for an array whose planes are known: where they are at most those of the limit, no coefficient is looked at.
@@ -160,14 +121,7 @@ pub fn first_over_by(a: &[i32], planes: u32) -> usize
 fn magnitudes_or(a: &[i32]) -> u32
     ensures { result ≡ or_all (map (λ z. magnitude z) a.now) }
 {
-    let mut all = 0u32;
-    let mut i = 0;
-    while i < a.len() {
-        let x = a[i];
-        all = all | magnitude(x);
-        i += 1;
-    }
-    all
+    a.iter().fold(0, |all, &x| all | magnitude(x))
 }
 
 // The planes of an array: the least P with every magnitude below 2^P.
@@ -178,11 +132,11 @@ pub fn planes(a: &[i32]) -> u32
 }
 
 // A coefficient as a float, which is exactly that whole number; 0 gives plus zero.
-pub fn float_of(x: i32) -> Float
+pub fn float_of(x: i32) -> Result<f32, Refusal>
     ensures { (result ≡ float_of x) × Exactly x result }
 {
     if is_within(x) {
-        return Float::Is(x as f32);
+        return Ok(x as f32);
     }
-    Float::Refused(Refusal::Coefficient(0))
+    Err(Refusal::Coefficient(0))
 }

@@ -9,11 +9,10 @@ use lib.ListN.{get_or}
 use Rattle.refusals.proofs.Decided.{OneOutcome}
 use Rattle.transform.specs.Transform.{coefficients_of}
 use Rattle.transform.specs.Answers.{all_zero}
-use Rattle.encoder.specs.Body.{Loan, loan}
 use Rattle.nls.specs.Reading.{lower, midpoint}
-use Rattle.decoder.specs.Body.{Tables, tables}
+use Rattle.encoder.specs.Body.{Loan, loan}
+use Rattle.decoder.specs.Body.{Tables, tables, ReadAnswer}
 use Rattle.decoder.specs.Ending.{ending}
-use Rattle.decoder.specs.declared.body.ReadAnswer.{ReadAnswer}
 use Rattle.decoder.proofs.Decided.{reads_one}
 use Rattle.steps.specs.declared.Record.{Record}
 use Rattle.steps.proofs.One.{starts_one, forwards_one, backs_one, turns_one}

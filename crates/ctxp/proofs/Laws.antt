@@ -5,29 +5,21 @@ use mathlib.Core.List.{List}
 use Prim.Native.Nat.{ℕ, ◌<◌, ◌^◌, ◌-◌}
 use native.Mathlib.Omega.{arith}
 use lib.IntN.{ℤ}
-use Rattle.refusals.specs.Checks.{lent_after}
+use Rattle.std.specs.Prelude.{Ok, Err}
+use Rattle.refusals.specs.Checks.{lent_after, Outcome}
 use Rattle.refusals.specs.declared.Refusal.{Refusal}
-use Rattle.refusals.specs.declared.Outcome.{Outcome}
-use Rattle.refusals.specs.declared.Outcome.TheVariants.{Done, Refused}
 use Rattle.sizes.specs.Sizes.{side_fits, levels_fit, all_of, coarsest_of}
 use Rattle.sizes.proofs.Laws.{side_most, all_most, both_left}
-use Rattle.encoder.specs.Body.{Loan}
-use Rattle.encoder.proofs.EncodeLaws.{sent_most}
-use Rattle.decoder.specs.Body.{Tables}
-use Rattle.decoder.specs.declared.body.ReadAnswer.{ReadAnswer}
-use Rattle.steps.specs.declared.Record.{Record}
-use Rattle.places.specs.Answers.{raster_if, linear_if}
+use Rattle.places.specs.Answers.{raster_if, linear_if, LinearAnswer, RasterAnswer}
 use Rattle.places.specs.declared.Raster.{Raster}
 use Rattle.places.specs.declared.Linear.{Linear}
-use Rattle.places.specs.declared.RasterAnswer.{RasterAnswer}
-use Rattle.places.specs.declared.RasterAnswer.TheVariants as raster
-use Rattle.places.specs.declared.LinearAnswer.{LinearAnswer}
-use Rattle.places.specs.declared.LinearAnswer.TheVariants as linear
-use Rattle.figures.specs.Figures.{answered, outcome_of}
+use Rattle.figures.specs.Figures.{answered, outcome_of, FiguresAnswer}
 use Rattle.figures.specs.declared.Figures.{Figures}
-use Rattle.figures.specs.declared.FiguresAnswer.{FiguresAnswer}
-use Rattle.txp.specs.Calls.{encode_answer, encode_outcome, Encodes}
-use Rattle.txp.specs.declared.EncodeAnswer.{EncodeAnswer}
+use Rattle.encoder.specs.Body.{Loan}
+use Rattle.encoder.proofs.EncodeLaws.{sent_most}
+use Rattle.decoder.specs.Body.{Tables, ReadAnswer}
+use Rattle.steps.specs.declared.Record.{Record}
+use Rattle.txp.specs.Calls.{encode_answer, encode_outcome, Encodes, EncodeAnswer}
 use Rattle.ctxp.specs.Answers.{Answers, of_refusal, of_linear, of_raster}
 use Rattle.ctxp.specs.Inner.{Short}
 
@@ -37,15 +29,15 @@ answers_by r held {a} {b} e p = subst (λ (x : List ℕ). Answers r held x) e p
 -- a file's bytes fit 32 bits, as its budget does
 module _ (N L : ℕ) (A : List ℤ) (budget : ℕ) where
   short_by : budget < 2 ^ 32 → (o : Outcome) → Short (encode_answer N L A budget o)
-  short_by h Done = omega (arith, sent_most N L A budget)
-  short_by h (Refused why) = tt
+  short_by h (Ok tt) = omega (arith, sent_most N L A budget)
+  short_by h (Err why) = tt
 
   pub file_short : (held left : Loan) (r : EncodeAnswer) → budget < 2 ^ 32 → Encodes N L A budget held r left → Short r
   file_short held left r h e = subst (λ (x : EncodeAnswer). Short x) (sym e.answered) (short_by h (encode_outcome N L A budget held))
 
 figures_end : (o : Outcome) (f : Figures) → outcome_of (answered o f) ≡ o
-figures_end Done f = refl
-figures_end (Refused why) f = refl
+figures_end (Ok tt) f = refl
+figures_end (Err why) f = refl
 
 pub figures_ends : (f : Figures) (o : Outcome) {r : FiguresAnswer} → r ≡ answered o f → outcome_of r ≡ o
 figures_ends f o e = ap outcome_of e ∙ figures_end o f
@@ -71,36 +63,36 @@ coarsest_short N L = tell (side_fits N && levels_fit N L) refl
 
 -- a place that was checked has the number that was given, and both orders refuse alike
 abbrev is_raster : RasterAnswer → Bool
-is_raster (raster.Place p) = true
-is_raster (raster.Refused why) = false
+is_raster (Ok p) = true
+is_raster (Err why) = false
 
 abbrev is_linear : LinearAnswer → Bool
-is_linear (linear.Place q) = true
-is_linear (linear.Refused why) = false
+is_linear (Ok q) = true
+is_linear (Err why) = false
 
 abbrev raster_at : RasterAnswer → ℕ
-raster_at (raster.Place p) = p.0
-raster_at (raster.Refused why) = 0
+raster_at (Ok p) = p.0
+raster_at (Err why) = 0
 
 abbrev linear_at : LinearAnswer → ℕ
-linear_at (linear.Place q) = q.0
-linear_at (linear.Refused why) = 0
+linear_at (Ok q) = q.0
+linear_at (Err why) = 0
 
-pub raster_same : (o : Outcome) (place : ℕ) (p : Raster) → raster_if o place ≡ raster.Place p → p.0 ≡ place
-raster_same Done place p e = sym (ap raster_at e)
-raster_same (Refused why) place p e = absurd (false≢true (ap is_raster e))
+pub raster_same : (o : Outcome) (place : ℕ) (p : Raster) → raster_if o place ≡ Ok p → p.0 ≡ place
+raster_same (Ok tt) place p e = sym (ap raster_at e)
+raster_same (Err why) place p e = absurd (false≢true (ap is_raster e))
 
-pub linear_same : (o : Outcome) (place : ℕ) (q : Linear) → linear_if o place ≡ linear.Place q → q.0 ≡ place
-linear_same Done place q e = sym (ap linear_at e)
-linear_same (Refused why) place q e = absurd (false≢true (ap is_linear e))
+pub linear_same : (o : Outcome) (place : ℕ) (q : Linear) → linear_if o place ≡ Ok q → q.0 ≡ place
+linear_same (Ok tt) place q e = sym (ap linear_at e)
+linear_same (Err why) place q e = absurd (false≢true (ap is_linear e))
 
-pub raster_refused : (o : Outcome) (p q : ℕ) (why : Refusal) → raster_if o p ≡ raster.Refused why → of_refusal why ≡ of_linear (linear_if o q)
-raster_refused Done p q why e = absurd (false≢true (sym (ap is_raster e)))
-raster_refused (Refused w) p q why e = sym (ap of_raster e)
+pub raster_refused : (o : Outcome) (p q : ℕ) (why : Refusal) → raster_if o p ≡ Err why → of_refusal why ≡ of_linear (linear_if o q)
+raster_refused (Ok tt) p q why e = absurd (false≢true (sym (ap is_raster e)))
+raster_refused (Err w) p q why e = sym (ap of_raster e)
 
-pub linear_refused : (o : Outcome) (q p : ℕ) (why : Refusal) → linear_if o q ≡ linear.Refused why → of_refusal why ≡ of_raster (raster_if o p)
-linear_refused Done q p why e = absurd (false≢true (sym (ap is_linear e)))
-linear_refused (Refused w) q p why e = sym (ap of_linear e)
+pub linear_refused : (o : Outcome) (q p : ℕ) (why : Refusal) → linear_if o q ≡ Err why → of_refusal why ≡ of_raster (raster_if o p)
+linear_refused (Ok tt) q p why e = absurd (false≢true (sym (ap is_linear e)))
+linear_refused (Err w) q p why e = sym (ap of_linear e)
 
 -- a step from a record is one from any record that is equal; Steps is one of the four relations of `steps`, at its numbers
 pub step_from : (Steps : Record → Tables → ReadAnswer → Record → Tables → Type 0) {d d' : Record} {held left : Tables} {said : ReadAnswer} {moved : Record} → d ≡ d' → Steps d held said moved left → Steps d' held said moved left

@@ -1,7 +1,6 @@
 -- Words of inner contracts, which no promise to a caller uses: the code's struct of the numbers of an answer.
-use Rattle.std.specs.Prelude.{ℕ, ◌<◌, ◌^◌, List, [], ◌∷◌}
-use Rattle.txp.specs.declared.EncodeAnswer.{EncodeAnswer}
-use Rattle.txp.specs.declared.EncodeAnswer.TheVariants as encode
+use Rattle.std.specs.Prelude.{ℕ, ◌<◌, ◌^◌, List, [], ◌∷◌, Ok, Err}
+use Rattle.txp.specs.Calls.{EncodeAnswer}
 use Rattle.ctxp.specs.declared.answers.Answer.{Answer}
 
 -- the struct of a call that is done, with nothing to say
@@ -16,5 +15,5 @@ entries a =
 
 -- the file's bytes fit the answer's 32 bits
 abbrev pub Short : EncodeAnswer → Type 0
-Short (encode.Done w) = w.bytes < 2 ^ 32
-Short (encode.Refused why) = Unit {0}
+Short (Ok w) = w.bytes < 2 ^ 32
+Short (Err why) = Unit {0}

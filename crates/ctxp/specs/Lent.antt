@@ -1,17 +1,16 @@
 -- What else a call from C is lent: numbers that stand for a truth, a coefficient, a float, the coders' tables, the numbers of a scan record, and the transform's arrays.
-use Rattle.std.specs.Prelude.{ℕ}
 use mathlib.Core.{Path.◌≡◌, Bool.Bool, Bool.not, List.List, List.[], List.◌∷◌}
 use lib.{Dec.eqb, IntN.ℤ, ListN.get_or}
+use Rattle.std.specs.Prelude.{ℕ, Ok, Err, Some, None}
 use Rattle.std.specs.Float.Ieee as ieee
-use Rattle.refusals.specs.declared.Outcome.{Outcome}
-use Rattle.coef.specs.declared.{Signed.Signed, Joined.Joined, Float.Float}
-use Rattle.coef.specs.declared.Joined.TheVariants as joineds
-use Rattle.coef.specs.declared.Float.TheVariants as floats
+use Rattle.refusals.specs.Checks.{Outcome}
+use Rattle.coef.specs.declared.Signed.{Signed}
+use Rattle.coef.specs.Coef.{Floated, Joined}
 use Rattle.transform.specs.Answers.{Transforms, Restores}
-use Rattle.encoder.specs.{Body.Loan, Body.Writes, declared.body.WriteAnswer.WriteAnswer}
-use Rattle.decoder.specs.{Body.Tables, Body.Reads, declared.body.ReadAnswer.ReadAnswer}
+use Rattle.encoder.specs.{Body.Loan, Body.Writes, Body.WriteAnswer}
+use Rattle.decoder.specs.{Body.Tables, Body.Reads, Body.ReadAnswer}
 use Rattle.steps.specs.{Steps.Starts, Steps.Forwards, Steps.Backs, Steps.Turns, declared.Record.Record}
-use Rattle.txp.specs.{declared.EncodeAnswer.EncodeAnswer, declared.DecodeAnswer.DecodeAnswer, Calls.Encodes, Calls.Decodes}
+use Rattle.txp.specs.{Calls.Encodes, Calls.Decodes, Calls.DecodeAnswer, Calls.EncodeAnswer}
 use Rattle.ctxp.specs.Answers.{of_outcome, of_encoded, of_decoded, of_written, of_read, Answers}
 
 -- any number but 0 is a truth
@@ -23,12 +22,12 @@ signed_of negative magnitude = record { negative = as_bool negative; magnitude =
 
 -- a lent coefficient and a lent float after a call: as they were where there is none
 abbrev pub joined_in : Joined → ℤ → ℤ
-joined_in (joineds.Is x) held = x
-joined_in joineds.TooLarge held = held
+joined_in (Some x) held = x
+joined_in None held = held
 
-abbrev pub float_in : Float → ieee.Float → ieee.Float
-float_in (floats.Is x) held = x
-float_in (floats.Refused why) held = held
+abbrev pub float_in : Floated → ieee.Float → ieee.Float
+float_in (Ok x) held = x
+float_in (Err why) held = held
 
 -- a file: some answer of the base is the one that its contract allows, and the numbers are those of that answer
 pub record FileEncoded (N L : ℕ) (A : List ℤ) (budget : ℕ) (held : Loan) (r : ℕ) (answer : List ℕ) (left : Loan) : Type 0 where

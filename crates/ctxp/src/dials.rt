@@ -8,23 +8,15 @@ use steps::Record;
 pub(crate) fn dial_of(dial: &[u32; 8]) -> Record
     ensures { result ≡ dial_of dial.now }
 {
-    let n = dial[0];
-    let l = dial[1];
-    let p = dial[2];
-    let plane = dial[3];
-    let pass = dial[4];
-    let place = dial[5];
-    let used = dial[6];
-    let pending = dial[7];
     Record {
-        n,
-        l,
-        p,
-        plane,
-        pass,
-        place,
-        used,
-        pending,
+        n: dial[0],
+        l: dial[1],
+        p: dial[2],
+        plane: dial[3],
+        pass: dial[4],
+        place: dial[5],
+        used: dial[6],
+        pending: dial[7],
     }
 }
 
@@ -32,13 +24,7 @@ pub(crate) fn dial_of(dial: &[u32; 8]) -> Record
 pub(crate) fn put_dial(dial: &mut [u32; 8], to: Record)
     ensures { dial.new ≡ numbers_of to }
 {
-    let n = to.n;
-    let l = to.l;
-    let p = to.p;
-    let plane = to.plane;
-    let pass = to.pass;
-    let place = to.place;
-    let used = to.used;
-    let pending = to.pending;
-    *dial = [n, l, p, plane, pass, place, used, pending];
+    *dial = [
+        to.n, to.l, to.p, to.plane, to.pass, to.place, to.used, to.pending,
+    ];
 }

@@ -344,11 +344,11 @@ pub fn txp_linear_place(n: u32, place: u32, answer: &mut [u32; 16]) -> u32
     ensures { Answers result answer.new (of_linear (linear_if (first_failing (place_checks n place)) (order.to_linear n place))) }
 {
     match places::raster_at(n, place) {
-        places::RasterAnswer::Place(p) => {
+        Ok(p) => {
             let done = places::to_linear(n, p);
             put(answer, answers::of_linear(done))
         }
-        places::RasterAnswer::Refused(why) => put(answer, answers::refused(why)),
+        Err(why) => put(answer, answers::refused(why)),
     }
 }
 
@@ -357,11 +357,11 @@ pub fn txp_raster_place(n: u32, place: u32, answer: &mut [u32; 16]) -> u32
     ensures { Answers result answer.new (of_raster (raster_if (first_failing (place_checks n place)) (order.to_raster n place))) }
 {
     match places::linear_at(n, place) {
-        places::LinearAnswer::Place(q) => {
+        Ok(q) => {
             let done = places::to_raster(n, q);
             put(answer, answers::of_raster(done))
         }
-        places::LinearAnswer::Refused(why) => put(answer, answers::refused(why)),
+        Err(why) => put(answer, answers::refused(why)),
     }
 }
 
@@ -408,11 +408,11 @@ pub fn txp_join(negative: u32, magnitude: u32, to: &mut i32, answer: &mut [u32; 
         negative: negative != 0,
         magnitude,
     }) {
-        coef::Joined::Is(x) => {
+        Some(x) => {
             *to = x;
             put(answer, answers::nothing())
         }
-        coef::Joined::TooLarge => put(answer, answers::too_large()),
+        None => put(answer, answers::too_large()),
     }
 }
 
@@ -422,11 +422,11 @@ pub fn txp_float(x: i32, to: &mut f32, answer: &mut [u32; 16]) -> u32
     ensures floated { to.new ≡ float_in (coefficient.float_of x) to.old }
 {
     match coef::float_of(x) {
-        coef::Float::Is(v) => {
+        Ok(v) => {
             *to = v;
             put(answer, answers::nothing())
         }
-        coef::Float::Refused(why) => put(answer, answers::refused(why)),
+        Err(why) => put(answer, answers::refused(why)),
     }
 }
 

@@ -4,9 +4,8 @@ use mathlib.Core.Bool.{Bool}
 use mathlib.Core.List.{List}
 use Prim.Native.Nat.{ℕ}
 use lib.ListN.{length}
-use Rattle.refusals.specs.Checks.{first_failing}
-use Rattle.refusals.specs.declared.Outcome.{Outcome}
-use Rattle.refusals.specs.declared.Outcome.TheVariants as outcome
+use Rattle.std.specs.Prelude.{Ok, Err}
+use Rattle.refusals.specs.Checks.{first_failing, Outcome}
 use Rattle.refusals.proofs.Decided.{OneAnswer, OneOutcome}
 use Rattle.sizes.specs.Sizes.{Sized, all_of}
 use Rattle.sizes.proofs.Laws.{sized}
@@ -15,11 +14,10 @@ use Rattle.nls.specs.Judging.{Verdict}
 use Rattle.nls.proofs.Verdicts.{judged_only}
 use Rattle.room.specs.Room.{read_checks, body_bits}
 use Rattle.room.proofs.Laws.{decode_ready}
-use Rattle.decoder.specs.Body.{read_answer, Tables, tables, own_tables, over, BodyRead, ReadsTo, ReadsBy}
+use Rattle.decoder.specs.Body.{read_answer, Tables, tables, own_tables, over, BodyRead, ReadsTo, ReadsBy, ReadAnswer}
 use Rattle.decoder.specs.Ending.{ending}
 use Rattle.decoder.specs.Rules.{rule_of}
 use Rattle.decoder.specs.declared.ending.Ending.{Ending}
-use Rattle.decoder.specs.declared.body.ReadAnswer.{ReadAnswer}
 use Rattle.decoder.proofs.body.decode.Reads as decode
 use Rattle.decoder.proofs.body.decode_by.Reads as decode_by
 use Rattle.decoder.proofs.body.decode_midpoint.Reads as decode_midpoint
@@ -50,8 +48,8 @@ reads_one rule word N L P n body held r r' t t' = go checks refl
     u = body_bits n body
 
     go : (o : Outcome) → checks ≡ o → ReadsTo o rule word N L P u held r t → ReadsTo o rule word N L P u held r' t' → (r ≡ r') × (t ≡ t')
-    go outcome.Done e p q = decoded_one rule word N L P u held (sized N L (decode_ready N L P (length held.values) (length held.precisions) (length held.marks) (sym e)).levels) r r' t t' p q
-    go (outcome.Refused why) e p q = (p.0 ∙ sym q.0, p.1 ∙ sym q.1)
+    go (Ok tt) e p q = decoded_one rule word N L P u held (sized N L (decode_ready N L P (length held.values) (length held.precisions) (length held.marks) (sym e)).levels) r r' t t' p q
+    go (Err why) e p q = (p.0 ∙ sym q.0, p.1 ∙ sym q.1)
 
 -- the sixth to the eighth parameter are the values, the precisions and the marks
 pub decode_by_decided : OneOutcome {Lent = Tables} decode_by.Learnt (λ k s. tables s.1.1.1.1.1.0.now s.1.1.1.1.1.1.0.now s.1.1.1.1.1.1.1.0.now)

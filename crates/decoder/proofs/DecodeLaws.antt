@@ -8,6 +8,7 @@ use native.Mathlib.Omega.{arith}
 use lib.IntN.{ℤ, pos}
 use lib.ListN.{length, take, drop, replicate}
 use lib.Seq.{length-take-le}
+use Rattle.std.specs.Prelude.{Ok, Err}
 use Rattle.refusals.specs.declared.Refusal.TheVariants.{Contradiction, Beyond}
 use Rattle.sizes.specs.Sizes.{all_of, coarsest_of, Sized}
 use Rattle.sizes.specs.Tables.{table}
@@ -29,11 +30,9 @@ use Rattle.reading.specs.Reading.{Read, codes, reader, st, Holds}
 use Rattle.reading.proofs.ValueLaws.{level_one}
 use Rattle.reading.proofs.Received.{Matches, reads}
 use Rattle.decoder.specs.Finishing.{plain_of, Stood}
-use Rattle.decoder.specs.Body.{Tables, tables, zeros, own_tables, over, BodyRead}
+use Rattle.decoder.specs.Body.{Tables, tables, zeros, own_tables, over, BodyRead, ReadAnswer}
 use Rattle.decoder.specs.Calls.{ReadReady}
 use Rattle.decoder.specs.declared.ending.Ending.{Ending}
-use Rattle.decoder.specs.declared.body.ReadAnswer.{ReadAnswer}
-use Rattle.decoder.specs.declared.body.ReadAnswer.TheVariants.{Done, Refused}
 use Rattle.decoder.proofs.FinishLaws.{whole}
 use Rattle.decoder.proofs.StoodLaws.{values_are, precisions_are}
 
@@ -145,10 +144,10 @@ module _ (N L P values precisions marks : ℕ) (ready : ReadReady N L P values p
         cleared =
             same_tables w _ q _ o _ (ew ∙ sym (whole (all_of N) (replicate (all_of N) (pos 0)) held.values hv)) (eq ∙ sym (whole (all_of N) (replicate (all_of N) 0) held.precisions hp)) (eo ∙ sym (whole (all_of N) (replicate (all_of N) 0) held.marks hm))
 
-        pub refused_12 : bad ≡ true → BodyRead rule word N L P (bits_of usable body) held (Refused (Contradiction n)) (tables w q o)
+        pub refused_12 : bad ≡ true → BodyRead rule word N L P (bits_of usable body) held (Err (Contradiction n)) (tables w q o)
         refused_12 b = record { verdict = contradiction n; judged = judged_12 b; answered = refl; filled = cleared }
 
-        pub refused_13 : bad ≡ false → n < usable → BodyRead rule word N L P (bits_of usable body) held (Refused (Beyond n)) (tables w q o)
+        pub refused_13 : bad ≡ false → n < usable → BodyRead rule word N L P (bits_of usable body) held (Err (Beyond n)) (tables w q o)
         refused_13 b h = record { verdict = beyond n; judged = judged_13 b h; answered = refl; filled = cleared }
 
     -- taken
@@ -185,12 +184,12 @@ module _ (N L P values precisions marks : ℕ) (ready : ReadReady N L P values p
       pub accepted : Judged N L P (bits_of usable body) taken → (rule : ℕ → ℕ → ℕ) (word : ℕ → ℕ → Ending) (said : Ending) → said ≡ word n left → (held : Tables) → length held.values ≡ all_of N → length held.precisions ≡ all_of N → length held.marks ≡ all_of N
           → (w : List ℤ) (q : List ℕ) (all : ℕ) → all ≡ all_of N
           → w ≡ table all (λ i. value_by rule (precision_by all m left now i) (plain_of (at v i))) → q ≡ table all (λ i. precision_by all m left now i)
-          → BodyRead rule word N L P (bits_of usable body) held (Done (record { used = n; finished = P - left; error = (1 * 2 ^ left) % 4294967296 - 1; ending = said })) (tables w q m)
+          → BodyRead rule word N L P (bits_of usable body) held (Ok (record { used = n; finished = P - left; error = (1 * 2 ^ left) % 4294967296 - 1; ending = said })) (tables w q m)
       accepted j rule word said is held hv hp hm w q all ea ew eq =
           record {
             verdict = taken;
             judged = j;
-            answered = λ i. Done (record { used = used i; finished = P - t.lefts i; error = error i; ending = spoken i });
+            answered = λ i. Ok (record { used = used i; finished = P - t.lefts i; error = error i; ending = spoken i });
             filled =
                 same_tables w _ q _ m _
                 (ew ∙ ap (λ (k : ℕ). table k (λ i. value_by rule (precision_by k m left now i) (plain_of (at v i)))) ea ∙ values_are (stood j) v t.valued rule ∙ sym (whole (all_of N) _ held.values hv))

@@ -11,10 +11,10 @@ use lib.Dec.{eqb}
 use lib.IntN.{ℤ}
 use lib.ListN.{length, length-take}
 use lib.Seq.{take_all}
+use Rattle.std.specs.Prelude.{Ok, Err}
 use Rattle.sizes.specs.Sizes.{all_of, Sized}
-use Rattle.bits.specs.declared.Next.{Next}
-use Rattle.bits.specs.declared.Next.TheVariants.{Bit, NoMore}
 use Rattle.bits.specs.declared.Why.TheVariants.{Declared, Short}
+use Rattle.bits.specs.Bits.{Next}
 use Rattle.view.specs.View.{viewed}
 use Rattle.view.proofs.Laws.{viewed_bit, viewed_declared, viewed_short}
 use Rattle.nls.specs.Scan.{ask}
@@ -38,9 +38,9 @@ pub unfinished : (left : ℕ) (word : Ending) → 0 < left → whole_or left wor
 unfinished left word h = rw (ne_eqb left 0 (λ e. omega (arith, e, h)))
 
 never_whole : (n : Next) → is_whole (word_of n) ≡ false
-never_whole (Bit x) = refl
-never_whole (NoMore Declared) = refl
-never_whole (NoMore Short) = refl
+never_whole (Ok x) = refl
+never_whole (Err Declared) = refl
+never_whole (Err Short) = refl
 
 module _ (declared : ℕ) (body : List ℕ) (used left : ℕ) where
   -- what the code says of the next bit is the word

@@ -1,24 +1,26 @@
 -- The call that reads a body: what it answers, and what the tables lent to it hold afterwards (document 01, "Numbers for no"). What it checks is in crate `room`.
-use Rattle.std.specs.Prelude.{ℕ}
 use mathlib.Core.{Path.◌≡◌, Bool.Bool, List.List, List.◌++◌}
 use lib.{IntN.ℤ, IntN.pos, ListN.length, ListN.drop, ListN.replicate}
-use Rattle.refusals.specs.{Checks.first_failing, declared.Refusal.TheVariants.Contradiction, declared.Refusal.TheVariants.Beyond, declared.Outcome.Outcome}
-use Rattle.refusals.specs.declared.Outcome.TheVariants as outcome
+use Rattle.std.specs.Prelude.{ℕ, Result, Ok, Err}
+use Rattle.refusals.specs.{Checks.Outcome, Checks.first_failing, declared.Refusal.Refusal, declared.Refusal.TheVariants.Contradiction, declared.Refusal.TheVariants.Beyond}
 use Rattle.sizes.specs.Sizes.{all_of}
 use Rattle.nls.specs.{Stream.after, Reading.last_plane, Reading.values_by, Reading.precisions, Reading.planes_finished, Reading.worst_error, Judging.Verdict, Judging.taken, Judging.contradiction, Judging.beyond, Judging.Judged}
 use Rattle.room.specs.Room.{read_checks, body_bits}
 use Rattle.decoder.specs.Ending.{ending}
 use Rattle.decoder.specs.declared.ending.Ending.{Ending}
-use Rattle.decoder.specs.declared.body.ReadAnswer.{ReadAnswer}
-use Rattle.decoder.specs.declared.body.ReadAnswer.TheVariants as decode
+use Rattle.decoder.specs.declared.body.ReadTo.{ReadTo}
+
+-- what the calls answer
+abbrev pub ReadAnswer : Type 0
+ReadAnswer = Result ReadTo Refusal
 
 -- "The answer also gives bits used (all usable bits ..), planes finished and the worst error 2^k - 1"; document 02, T-06: and why the bits
 -- ended. `word` has it, by the bits used and the planes left.
 abbrev pub read_answer : (ℕ → ℕ → Ending) → ℕ → ℕ → ℕ → List Bool → Verdict → ReadAnswer
 read_answer word N L P u taken =
-    decode.Done (record { used = length u; finished = planes_finished N L P u; error = worst_error N L P u; ending = word (length u) (last_plane N L P u) })
-read_answer word N L P u (contradiction bit) = decode.Refused (Contradiction bit)
-read_answer word N L P u (beyond bit) = decode.Refused (Beyond bit)
+    Ok (record { used = length u; finished = planes_finished N L P u; error = worst_error N L P u; ending = word (length u) (last_plane N L P u) })
+read_answer word N L P u (contradiction bit) = Err (Contradiction bit)
+read_answer word N L P u (beyond bit) = Err (Beyond bit)
 
 -- the three tables that decoding fills
 pub record Tables : Type 0 where
@@ -52,8 +54,8 @@ pub record BodyRead (rule : ℕ → ℕ → ℕ) (word : ℕ → ℕ → Ending)
 
 -- any call, by the outcome of the checks; "Numbers 1 to 11 touch no lent byte"
 abbrev pub ReadsTo : Outcome → (ℕ → ℕ → ℕ) → (ℕ → ℕ → Ending) → ℕ → ℕ → ℕ → List Bool → Tables → ReadAnswer → Tables → Type 0
-ReadsTo outcome.Done rule word N L P u held answer left = BodyRead rule word N L P u held answer left
-ReadsTo (outcome.Refused why) rule word N L P u held answer left = (answer ≡ decode.Refused why) × (left ≡ held)
+ReadsTo (Ok tt) rule word N L P u held answer left = BodyRead rule word N L P u held answer left
+ReadsTo (Err why) rule word N L P u held answer left = (answer ≡ Err why) × (left ≡ held)
 
 -- a call that reads the first n bits of a body, or all that it has
 abbrev pub ReadsBy : (ℕ → ℕ → ℕ) → (ℕ → ℕ → Ending) → ℕ → ℕ → ℕ → ℕ → List ℕ → Tables → ReadAnswer → Tables → Type 0

@@ -8,8 +8,7 @@ ghost use Rattle.decoder.specs.Ending.{ending};
 ghost use Rattle.decoder.specs.Rules.{rule_of};
 
 use crate::{Ending, Rule};
-use bits::Next;
-use refusals::{Outcome, Refusal};
+use refusals::Refusal;
 
 // The bits used, the planes finished, the worst error, and why the bits ended.
 #[derive(Clone, Copy)]
@@ -20,22 +19,15 @@ pub struct ReadTo {
     pub ending: Ending,
 }
 
-// What the calls answer.
-#[derive(Clone, Copy)]
-pub enum ReadAnswer {
-    Done(ReadTo),
-    Refused(Refusal),
-}
-
 // Puts 0 into every entry of the three tables.
 fn clear(values: &mut [i32], precisions: &mut [u8], marks: &mut [u8])
     ensures values_after { values.new ≡ replicate (length values.old) (pos 0) }
     ensures precisions_after { precisions.new ≡ replicate (length precisions.old) 0 }
     ensures marks_after { marks.new ≡ replicate (length marks.old) 0 }
 {
-    crate::finish::clear(values);
-    marking::fill(precisions, 0);
-    marking::fill(marks, 0);
+    values.fill(0);
+    precisions.fill(0);
+    marks.fill(0);
 }
 
 // Reads the first `declared` bits of a body, or all that it has, into tables of I entries each, values by a rule; the checks of the call hold.
@@ -49,32 +41,32 @@ fn read(
     precisions: &mut [u8],
     marks: &mut [u8],
     rule: Rule,
-) -> ReadAnswer
+) -> Result<ReadTo, Refusal>
     requires { ReadReady n l p (length values.old) (length precisions.old) (length marks.old) }
     ensures { BodyRead (rule_of rule) (ending declared body.now) n l p (body_bits declared body.now) (tables values.old precisions.old marks.old) result (tables values.new precisions.new marks.new) }
 {
     let coarsest = sizes::coarsest_of(n, l);
-    crate::finish::clear(values);
+    values.fill(0);
     marking::start(marks, coarsest);
     let reached = reading::scan(body, marks, values, coarsest, p, declared);
     let bits = reached.bits as u32;
     if reached.bad {
         clear(values, precisions, marks);
-        return ReadAnswer::Refused(Refusal::Contradiction(bits));
+        return Err(Refusal::Contradiction(bits));
     }
     match view::read(body, reached.bits, declared as usize) {
-        Next::Bit(_) => {
+        Ok(_) => {
             clear(values, precisions, marks);
-            ReadAnswer::Refused(Refusal::Beyond(bits))
+            Err(Refusal::Beyond(bits))
         }
-        Next::NoMore(why) => {
+        Err(why) => {
             let left = reached.left;
             crate::finish::finish(values, precisions, marks, left, reached.stop, rule);
-            ReadAnswer::Done(ReadTo {
+            Ok(ReadTo {
                 used: bits,
                 finished: p - left,
                 error: (1u32 << left) - 1,
-                ending: crate::ending::ending_of(left, Next::NoMore(why)),
+                ending: crate::ending::ending_of(left, Err(why)),
             })
         }
     }
@@ -91,26 +83,22 @@ pub fn decode_by(
     precisions: &mut [u8],
     marks: &mut [u8],
     rule: Rule,
-) -> ReadAnswer
+) -> Result<ReadTo, Refusal>
     ensures { Reads (rule_of rule) n l p declared body.now (tables values.old precisions.old marks.old) result (tables values.new precisions.new marks.new) }
 {
-    match room::check_decode(n, l, p, values.len(), precisions.len(), marks.len()) {
-        Outcome::Done => {
-            let all = sizes::all_of(n);
-            read(
-                n,
-                l,
-                p,
-                body,
-                declared,
-                &mut values[..all],
-                &mut precisions[..all],
-                &mut marks[..all],
-                rule,
-            )
-        }
-        Outcome::Refused(why) => ReadAnswer::Refused(why),
-    }
+    room::check_decode(n, l, p, values.len(), precisions.len(), marks.len())?;
+    let all = sizes::all_of(n);
+    read(
+        n,
+        l,
+        p,
+        body,
+        declared,
+        &mut values[..all],
+        &mut precisions[..all],
+        &mut marks[..all],
+        rule,
+    )
 }
 
 // The same with the default rule: known bits stand for themselves.
@@ -123,7 +111,7 @@ pub fn decode(
     values: &mut [i32],
     precisions: &mut [u8],
     marks: &mut [u8],
-) -> ReadAnswer
+) -> Result<ReadTo, Refusal>
     ensures { Reads lower n l p declared body.now (tables values.old precisions.old marks.old) result (tables values.new precisions.new marks.new) }
 {
     decode_by(
@@ -149,7 +137,7 @@ pub fn decode_midpoint(
     values: &mut [i32],
     precisions: &mut [u8],
     marks: &mut [u8],
-) -> ReadAnswer
+) -> Result<ReadTo, Refusal>
     ensures { Reads midpoint n l p declared body.now (tables values.old precisions.old marks.old) result (tables values.new precisions.new marks.new) }
 {
     decode_by(

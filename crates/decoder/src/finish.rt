@@ -11,15 +11,6 @@ ghost use Rattle.decoder.specs.Rules.{rule_of};
 
 use crate::Rule;
 
-// Every entry becomes 0.
-pub(crate) fn clear(dst: &mut [i32])
-    ensures { dst.new ≡ replicate (length dst.old) (pos 0) }
-{
-    for i in 0..dst.len() {
-        dst[i] = 0;
-    }
-}
-
 // The value at precision k of known bits in a code.
 fn value_at(rule: Rule, code: u32, k: u32) -> i32
     requires { (k ≤ most_planes) × (magnitude (value_by (rule_of rule) k (uncoded code)) ≤ limit) }
@@ -38,21 +29,9 @@ fn uncode(values: &mut [i32], precisions: &[u8], rule: Rule)
     requires { (length values.old ≡ length precisions.now) × ((i : ℕ) → i < length values.old → Uncodes (rule_of rule) (at values.old i) (get_or precisions.now i 0)) }
     ensures { values.new ≡ table (length values.old) (λ i. value_by (rule_of rule) (get_or precisions.now i 0) (plain_of (at values.old i))) }
 {
-    for i in 0..values.len() {
-        let code = values[i];
-        let v = value_at(rule, code as u32, precisions[i] as u32);
-        values[i] = v;
+    for (i, value) in values.iter_mut().enumerate() {
+        *value = value_at(rule, *value as u32, precisions[i] as u32);
     }
-}
-
-// How far the scan has come in the pass that begins at `start`.
-fn reach(stop: usize, start: usize) -> usize
-    ensures { result ≡ stop - start }
-{
-    if start < stop {
-        return stop - start;
-    }
-    0
 }
 
 // The precision of a place whose pass has come as far as `end`: the plane in progress, or the last finished one.
@@ -83,8 +62,9 @@ fn settle(precisions: &mut [u8], marks: &[u8], left: u32, stop: usize)
     ensures { precisions.new ≡ table (length marks.now) (λ i. precision_by (length marks.now) marks.now left stop i) }
 {
     let all = marks.len();
-    let sets = reach(stop, all);
-    let refined = reach(stop, 2 * all);
+    // How far the scan has come in the set pass and in the refinement pass.
+    let sets = stop.saturating_sub(all);
+    let refined = stop.saturating_sub(2 * all);
     let mut place = 0;
     while place < all {
         let mark = marks[place];
@@ -99,7 +79,7 @@ fn settle(precisions: &mut [u8], marks: &[u8], left: u32, stop: usize)
         } else {
             let end = place + marking::skip(mark);
             let k = row(precisions, mark, left, sets, place);
-            marking::fill(&mut precisions[place..end], k);
+            precisions[place..end].fill(k);
             place = end;
         }
     }
@@ -111,11 +91,11 @@ fn precise(precisions: &mut [u8], marks: &[u8], left: u32, stop: usize)
     ensures { precisions.new ≡ table (length marks.now) (λ i. precision_by (length marks.now) marks.now left stop i) }
 {
     if left == 0 {
-        marking::fill(precisions, 0);
+        precisions.fill(0);
         return;
     }
     if stop == 0 {
-        marking::fill(precisions, left as u8);
+        precisions.fill(left as u8);
         return;
     }
     settle(precisions, marks, left, stop);

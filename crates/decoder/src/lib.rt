@@ -6,6 +6,6 @@ mod ending;
 mod finish;
 mod rule;
 
-pub use body::{ReadAnswer, ReadTo, decode, decode_by, decode_midpoint};
+pub use body::{ReadTo, decode, decode_by, decode_midpoint};
 pub use ending::{Ending, ending_of, word_of};
 pub use rule::Rule;

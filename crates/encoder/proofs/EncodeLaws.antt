@@ -6,8 +6,7 @@ use native.Mathlib.Omega.{arith}
 use lib.IntN.{ℤ}
 use lib.ListN.{length, get_or, take, drop, length-take, length-drop}
 use lib.Seq.{take_all, drop-drop, drop-length}
-use Rattle.refusals.specs.Checks.{first_failing, lent_after}
-use Rattle.refusals.specs.declared.Outcome.{Outcome}
+use Rattle.refusals.specs.Checks.{first_failing, lent_after, Outcome}
 use Rattle.refusals.proofs.Laws.{lent_done}
 use Rattle.sizes.specs.Sizes.{most_planes, all_of, coarsest_of, Sized}
 use Rattle.sizes.proofs.Laws.{side_least, side_most, sized, coarsest_least, all_sixteen}
@@ -23,8 +22,7 @@ use Rattle.room.specs.Ready.{EncodeReady}
 use Rattle.walk.specs.Scans.{Ran, last, planes}
 use Rattle.walk.specs.Visits.{Sv, scan_of}
 use Rattle.encoder.specs.Writing.{Bytes, writer, st, Summed, Holds}
-use Rattle.encoder.specs.Body.{sent_bits, sent_marks, write_answer, Loan, write_outcome, lent_to, Writes}
-use Rattle.encoder.specs.declared.body.WriteAnswer.{WriteAnswer}
+use Rattle.encoder.specs.Body.{sent_bits, sent_marks, write_answer, Loan, write_outcome, lent_to, Writes, WriteAnswer}
 use Rattle.encoder.proofs.Sent.{Says, sends}
 
 -- bits under a budget

@@ -14,17 +14,16 @@ use Rattle.coef.specs.Coef.{at, mag_at, negative}
 use Rattle.nls.specs.Scan.{Question, in_desc, in_grand, sets}
 use Rattle.marking.specs.Marking.{skip_of, set_skip_of, desc_split_marks, grand_split_marks}
 use Rattle.marking.proofs.Laws.{skip_in, set_skip_in, set_skip_low}
-use Rattle.walk.specs.Scans.{Scan, Leads}
-use Rattle.walk.specs.Visits.{Source, got, Sv, sv, scan_of}
-use Rattle.walk.proofs.Fours.{Counts, leads_none, leads_on, pixels_by, refining_by, sets_by, desc_zero, desc_one, grand_zero, grand_one, four_pixels, four_refined, four_children, idle_pixels, idle_refining, new_children}
 use Rattle.fours.specs.Words.{spread_of, which_are, refined_word, with_word, word_at, low_word, FourBytes, FourLow, key}
 use Rattle.fours.specs.Tables.{entry_of, four, own_bits, pick_bits, sent_table, picked_table}
 use Rattle.fours.proofs.Laws.{nibble_lt, none_of, which_are_lem, low_marks, same_word, key_found, key_lt, sent_entry, picked_entry, own_length, pick_length}
+use Rattle.walk.specs.Scans.{Scan, Leads}
+use Rattle.walk.specs.Visits.{Source, got, Sv, sv, scan_of}
+use Rattle.walk.proofs.Fours.{Counts, leads_none, leads_on, pixels_by, refining_by, sets_by, desc_zero, desc_one, grand_zero, grand_one, four_pixels, four_refined, four_children, idle_pixels, idle_refining, new_children}
 use Rattle.encoder.specs.Writing.{Bytes, bytes, replies, writer}
 use Rattle.encoder.specs.Sinks.{plus_bit, plus_bits, Holding, with_held, held, SameHeld}
 use Rattle.encoder.specs.Siblings.{bits_at, signs_at, Ahead, Gone}
 use Rattle.encoder.specs.declared.Sink.{Sink}
-use Rattle.encoder.specs.declared.Went.{Went}
 use Rattle.encoder.proofs.SinkLaws.{held_more, bits_count, held_count, holds_bits, fewer_held}
 use Rattle.encoder.proofs.SiblingLaws.{entry_held, entry_room, entry_fits, pixel_bits, pixel_marks, refined_bits, refined_marks, child_bits, child_marks}
 
@@ -286,7 +285,3 @@ module _ (A : List ℤ) (d g : List ℕ) (all budget safe b place : ℕ) (m o : 
         put_on near (true ∷ u) (omega (arith, few)) t o₁ (subst (λ (z : Sink). SameHeld o (plus_bits z u) o₁ t) e_s (sent_held A b place 15 x (omega arith) ex e sent es ee S t o o₁ h.0)) h.1 1 (place + 4) (with_word m₁ place (16843009 + spread_of (bit_and 15 (bits_at A b place)))) m₂
         (leads_on E b 1 place place (place + 4) (sv m (held o s)) (sv m₁ (held o (plus_bit s true))) _ first then)
         (em₂ ∙ ap (λ (z : ℕ). with_word m₁ place (16843009 + z)) (ey ∙ ap spread_of (found_are A b place 15 x (omega arith) ex))) (omega arith) (omega arith)
-
--- a step of a pass is one of the pass that it is
-pub by_pass : {A : List ℤ} {d g : List ℕ} {all budget b pass place : ℕ} {m o : List ℕ} {s : Sink} {r : Went} {m₁ o₁ : List ℕ} {k : ℕ} → pass ≡ k → Gone A d g all budget b k place m o s r m₁ o₁ → Gone A d g all budget b pass place m o s r m₁ o₁
-by_pass {A} {d} {g} {all} {budget} {b} {pass} {place} {m} {o} {s} {r} {m₁} {o₁} {k} e h = subst (λ (p : ℕ). Gone A d g all budget b p place m o s r m₁ o₁) (sym e) h

@@ -1,16 +1,16 @@
 -- The turns of the encoder's loops, from what a visit ensures.
 use Prim.Native.Nat.{ℕ, ◌+◌, ◌-◌, ◌≤◌, ◌<◌}
-use mathlib.Core.Path.{◌≡◌, refl, sym}
+use mathlib.Core.Path.{◌≡◌, refl, sym, subst}
 use mathlib.Core.List.{List}
 use native.Mathlib.Omega.{arith}
 use lib.IntN.{ℤ}
 use lib.ListN.{length}
 use Rattle.walk.specs.Scans.{Seen, halt, refuse, move, Scan, Ran, Leads, Resumes, left_at, pass_at}
 use Rattle.walk.specs.Visits.{Sv, visit_seen, scan_of}
+use Rattle.walk.proofs.Turns.{at_go, resume_stop, Carries}
 use Rattle.encoder.specs.Writing.{Bytes, writer, st, left_by, step_of, Falls, Clean, Does, Holds}
 use Rattle.encoder.specs.declared.Step.{Step}
 use Rattle.encoder.specs.declared.Step.TheVariants.{Stop, Go}
-use Rattle.walk.proofs.Turns.{at_go, resume_stop, Carries}
 
 seen_go : (place : ℕ) (S : Seen (Sv Bytes)) (r : Step) (k p : ℕ) (m o : List ℕ) → r ≡ step_of place S → m ≡ (left_by S).marks → o ≡ (left_by S).rest.out → Clean S → r ≡ Go k p → S ≡ move p (st m o k)
 seen_go place (halt t) r k p m o e em eo z g = let z : ◌≡◌ {A = ℕ} 0 1 = cc in absurd (omega arith)
@@ -39,6 +39,11 @@ falls_go budget place n r k p f e = rw e at f
 module _ (A : List ℤ) (d g : List ℕ) (all budget b pass place : ℕ) (m₀ o₀ : List ℕ) (n : ℕ) (r : Step) (m o : List ℕ) where
   abbrev E : Scan (Sv Bytes)
   E = scan_of (writer A d g budget) all
+
+  -- where the number of marks is spelled otherwise
+  pub among : (k : ℕ) → k ≡ all → Does (visit_seen (writer A d g budget) k b pass place (st m₀ o₀ n)) budget place n r m o
+      → Does (visit_seen (writer A d g budget) all b pass place (st m₀ o₀ n)) budget place n r m o
+  among k e s = subst (λ (x : ℕ). Does (visit_seen (writer A d g budget) x b pass place (st m₀ o₀ n)) budget place n r m o) e s
 
   pub turn_go : (k p : ℕ) → Does (visit_seen (writer A d g budget) all b pass place (st m₀ o₀ n)) budget place n r m o → r ≡ Go k p → place < all
       → Leads (scan_of (writer A d g budget) all) b pass place (st m₀ o₀ n) p (st m o k)

@@ -1,24 +1,26 @@
 -- The call that writes a body: what it answers, and what the tables lent to it hold afterwards (document 01, "Numbers for no"). What it checks is in crate `room`.
-use Rattle.std.specs.Prelude.{ℕ, ◌+◌}
 use mathlib.Core.{Path.◌≡◌, Bool.Bool, List.List, List.◌++◌}
 use lib.{IntN.ℤ, ListN.length, ListN.take, ListN.drop}
-use Rattle.refusals.specs.{Checks.first_failing, Checks.lent_after, declared.Outcome.Outcome}
-use Rattle.refusals.specs.declared.Outcome.TheVariants as outcome
+use Rattle.std.specs.Prelude.{ℕ, ◌+◌, Result, Ok, Err}
+use Rattle.refusals.specs.{Checks.Outcome, Checks.first_failing, Checks.lent_after, declared.Refusal.Refusal}
 use Rattle.bits.specs.Bits.{packed}
 use Rattle.coef.specs.Coef.{planes_of}
 use Rattle.tree.specs.Summaries.{desc_table, grand_table}
 use Rattle.nls.specs.Stream.{stream, after}
 use Rattle.room.specs.Room.{write_checks}
-use Rattle.encoder.specs.declared.body.WriteAnswer.{WriteAnswer}
-use Rattle.encoder.specs.declared.body.WriteAnswer.TheVariants as encode
+use Rattle.encoder.specs.declared.body.Written.{Written}
 
 -- "The number of bits written is the smaller of the budget and the whole stream's length": the first of the stream
 abbrev pub sent_bits : ℕ → ℕ → List ℤ → ℕ → List Bool
 sent_bits N L A budget = take budget (stream N L (planes_of A) A)
 
+-- what `encode` answers
+abbrev pub WriteAnswer : Type 0
+WriteAnswer = Result Written Refusal
+
 abbrev pub write_answer : ℕ → ℕ → List ℤ → ℕ → Outcome → WriteAnswer
-write_answer N L A budget outcome.Done = encode.Done (record { planes = planes_of A; bits = length (sent_bits N L A budget) })
-write_answer N L A budget (outcome.Refused why) = encode.Refused why
+write_answer N L A budget (Ok tt) = Ok (record { planes = planes_of A; bits = length (sent_bits N L A budget) })
+write_answer N L A budget (Err why) = Err why
 
 -- "After the same bits, encoder and decoder hold equal tables": the marks where the scan stopped
 abbrev pub sent_marks : ℕ → ℕ → List ℤ → ℕ → List ℕ
@@ -26,8 +28,8 @@ sent_marks N L A budget = (after N L (planes_of A) (sent_bits N L A budget)).mar
 
 -- the output after a call: where it is done, `own` from `offset` on and the rest as it was; else as it was
 abbrev pub output_after : Outcome → ℕ → List ℕ → List ℕ → List ℕ
-output_after outcome.Done offset own held = take offset held ++ (own ++ drop (offset + length own) held)
-output_after (outcome.Refused why) offset own held = held
+output_after (Ok tt) offset own held = take offset held ++ (own ++ drop (offset + length own) held)
+output_after (Err why) offset own held = held
 
 -- what is lent to encoding: both summaries, the marks and the output
 pub record Loan : Type 0 where

@@ -7,20 +7,14 @@ ghost use Rattle.tree.specs.Summaries.{desc_table, grand_table};
 ghost use Rattle.room.specs.Ready.{EncodeReady};
 ghost use Rattle.encoder.specs.Body.{sent_bits, sent_marks, loan, Writes};
 
-use refusals::{Outcome, Refusal};
+use crate::Source;
+use refusals::Refusal;
 
 // The planes of the array, and the bits written.
 #[derive(Clone, Copy)]
 pub struct Written {
     pub planes: u32,
     pub bits: u32,
-}
-
-// What `encode` answers.
-#[derive(Clone, Copy)]
-pub enum WriteAnswer {
-    Done(Written),
-    Refused(Refusal),
 }
 
 // Writes the body of an array of so many planes, whose checks hold: fills the summaries and the I marks, and puts the bits from the first byte on.
@@ -43,19 +37,14 @@ fn write(
     ensures out_after { out.new ≡ packed (sent_bits n l coefs.now budget) ++ drop (bytes_for (length (sent_bits n l coefs.now budget))) out.old }
 {
     let most = room::most_bits(n, l, planes, budget);
-    tree::fill(n, l, coefs, desc, grand);
-    let all = sizes::all_of(n);
+    let _ = tree::fill(n, l, coefs, desc, grand);
     marking::start(marks, sizes::coarsest_of(n, l));
-    let bits = crate::writing::scan(
+    let src = Source {
         coefs,
-        &desc[..],
-        &grand[..],
-        marks,
-        out,
-        all,
-        most as usize,
-        planes,
-    );
+        desc: &desc[..],
+        grand: &grand[..],
+    };
+    let bits = crate::writing::scan(src, marks, out, most as usize, planes);
     let count = bits as u32;
     Written {
         planes,
@@ -76,18 +65,12 @@ pub fn encode(
     out: &mut [u8],
     offset: usize,
     budget: u32,
-) -> WriteAnswer
+) -> Result<Written, Refusal>
     ensures { Writes n l coefs.now offset budget (loan desc.old grand.old marks.old out.old) result (loan desc.new grand.new marks.new out.new) }
 {
     let planes = coef::planes(coefs);
-    let first = tree::check_by(n, l, coefs, planes, desc.len(), grand.len());
-    if let Outcome::Refused(why) = first {
-        return WriteAnswer::Refused(why);
-    }
-    let rest = room::check_encode(n, l, planes, marks.len(), out.len(), offset, budget);
-    if let Outcome::Refused(why) = rest {
-        return WriteAnswer::Refused(why);
-    }
+    tree::check_by(n, l, coefs, planes, desc.len(), grand.len())?;
+    room::check_encode(n, l, planes, marks.len(), out.len(), offset, budget)?;
     let all = sizes::all_of(n);
     let written = write(
         n,
@@ -100,5 +83,5 @@ pub fn encode(
         budget,
         planes,
     );
-    WriteAnswer::Done(written)
+    Ok(written)
 }

@@ -6,7 +6,15 @@ mod siblings;
 mod sinks;
 mod writing;
 
-pub use body::{WriteAnswer, Written, encode};
+pub use body::{Written, encode};
+
+// The array that is sent, and its summaries.
+#[derive(Clone, Copy)]
+struct Source<'a> {
+    coefs: &'a [i32],
+    desc: &'a [u32],
+    grand: &'a [u32],
+}
 
 // What a visit of the encoder leaves to do: nothing, for want of a bit, or to go on. In both the number of bits put, then the place: where it stopped, or where to go on.
 #[derive(Clone, Copy)]

@@ -13,7 +13,44 @@ ghost use Rattle.encoder.specs.Sinks.{Holding, SameHeld};
 ghost use Rattle.encoder.specs.Siblings.{bits_at, signs_at, Ahead, Led, Gone};
 
 use crate::sinks::{ended, flushed, put};
-use crate::{Reached, Sink, Went};
+use crate::{Reached, Sink, Source, Went};
+
+// The tables of what is sent of four coefficients: where they are looked for, and where they are refined.
+#[derive(Clone, Copy)]
+struct Lookups<'a> {
+    sent: &'a [u16; 256],
+    picked: &'a [u16; 256],
+}
+
+// What stays the same during a scan: the number of marks, the budget, and the most whole bytes that may be written where a step has room still.
+// A step reads the last alone; its contract speaks of all three.
+#[derive(Clone, Copy)]
+struct Limits {
+    all: usize,
+    budget: usize,
+    safe: usize,
+}
+
+// A step that goes on at a place, and one that rests there.
+fn goes(sink: Sink, place: usize) -> Went
+    ensures { result ≡ record { on = true; sink = sink; place = place } }
+{
+    Went {
+        on: true,
+        sink,
+        place,
+    }
+}
+
+fn rests(sink: Sink, place: usize) -> Went
+    ensures { result ≡ record { on = false; sink = sink; place = place } }
+{
+    Went {
+        on: false,
+        sink,
+        place,
+    }
+}
 
 // Bit b of the magnitude at a place, and the sign there, as digits.
 fn bit_digit(coefs: &[i32], b: u32, place: usize) -> u32
@@ -77,331 +114,195 @@ fn put_entry(s: Sink, e: u16, out: &mut [u8]) -> Sink
 
 // A step of the pixel pass.
 fn pixels(
-    coefs: &[i32],
-    desc: &[u32],
-    grand: &[u32],
+    src: Source<'_>,
+    sent: &[u16; 256],
+    limits: Limits,
     marks: &mut [u8],
     out: &mut [u8],
-    sent: &[u16; 256],
-    all: usize,
-    budget: usize,
-    safe: usize,
     b: u32,
     place: usize,
     s: Sink,
 ) -> Went
-    requires { Ahead coefs.now marks.old out.old all budget safe b place s × (sent.now ≡ sent_table) }
-    ensures { Gone coefs.now desc.now grand.now all budget b 0 place marks.old out.old s result marks.new out.new }
+    requires { Ahead src.coefs.now marks.old out.old limits.all limits.budget limits.safe b place s × (sent.now ≡ sent_table) }
+    ensures { Gone src.entry.coefs.now src.entry.desc.now src.entry.grand.now limits.all limits.budget b 0 place marks.old out.old s result marks.new out.new }
 {
     let mark = marks[place];
     if marking::MCP < mark {
-        let next = place + marking::skip(mark);
-        return Went {
-            on: true,
-            sink: s,
-            place: next,
-        };
+        return goes(s, place + marking::skip(mark));
     }
     let w = fours::word_at(marks, place);
-    if safe < s.at {
-        return Went {
-            on: false,
-            sink: s,
-            place,
-        };
-    }
-    if !fours::low(w) {
-        return Went {
-            on: false,
-            sink: s,
-            place,
-        };
+    if limits.safe < s.at || !fours::low(w) {
+        return rests(s, place);
     }
     let k = fours::ones(w);
     if k == 0 {
-        return Went {
-            on: true,
-            sink: s,
-            place: place + 4,
-        };
+        return goes(s, place + 4);
     }
-    let x = key_of(coefs, b, place, k);
+    let x = key_of(src.coefs, b, place, k);
     let e = sent[x as usize];
     let t = put_entry(s, e, out);
     fours::set_word(marks, place, w + fours::spread(x / 16));
-    Went {
-        on: true,
-        sink: t,
-        place: place + 4,
-    }
+    goes(t, place + 4)
 }
 
 // A step of the refinement pass.
 fn refine(
-    coefs: &[i32],
-    desc: &[u32],
-    grand: &[u32],
+    src: Source<'_>,
+    picked: &[u16; 256],
+    limits: Limits,
     marks: &mut [u8],
     out: &mut [u8],
-    picked: &[u16; 256],
-    all: usize,
-    budget: usize,
-    safe: usize,
     b: u32,
     place: usize,
     s: Sink,
 ) -> Went
-    requires { Ahead coefs.now marks.old out.old all budget safe b place s × (picked.now ≡ picked_table) }
-    ensures { Gone coefs.now desc.now grand.now all budget b 2 place marks.old out.old s result marks.new out.new }
+    requires { Ahead src.coefs.now marks.old out.old limits.all limits.budget limits.safe b place s × (picked.now ≡ picked_table) }
+    ensures { Gone src.entry.coefs.now src.entry.desc.now src.entry.grand.now limits.all limits.budget b 2 place marks.old out.old s result marks.new out.new }
 {
     let mark = marks[place];
     if marking::MCP < mark {
-        let next = place + marking::skip(mark);
-        return Went {
-            on: true,
-            sink: s,
-            place: next,
-        };
+        return goes(s, place + marking::skip(mark));
     }
     let w = fours::word_at(marks, place);
     if w == 0x01010101 {
-        return Went {
-            on: true,
-            sink: s,
-            place: place + 4,
-        };
+        return goes(s, place + 4);
     }
-    if safe < s.at {
-        return Went {
-            on: false,
-            sink: s,
-            place,
-        };
+    if limits.safe < s.at || !fours::low(w) {
+        return rests(s, place);
     }
-    if !fours::low(w) {
-        return Went {
-            on: false,
-            sink: s,
-            place,
-        };
-    }
-    let e = picked[(16 * fours::threes(w) + four_bits(coefs, b, place)) as usize];
+    let e = picked[(16 * fours::threes(w) + four_bits(src.coefs, b, place)) as usize];
     let t = put_entry(s, e, out);
     fours::set_word(marks, place, fours::refined(w));
-    Went {
-        on: true,
-        sink: t,
-        place: place + 4,
-    }
+    goes(t, place + 4)
 }
 
 // The test of a DESC, and after a 1 its four children.
 fn test_desc(
-    coefs: &[i32],
-    desc: &[u32],
-    grand: &[u32],
+    src: Source<'_>,
+    sent: &[u16; 256],
+    limits: Limits,
     marks: &mut [u8],
     out: &mut [u8],
-    sent: &[u16; 256],
-    all: usize,
-    budget: usize,
-    safe: usize,
     b: u32,
     place: usize,
     s: Sink,
 ) -> Went
-    requires { Ahead coefs.now marks.old out.old all budget safe b place s × (sent.now ≡ sent_table) × Summed desc.now grand.now all × (s.at ≤ safe) × (4 ≤ place) × (get_or marks.old place 0 ≡ 5) }
-    ensures { Gone coefs.now desc.now grand.now all budget b 1 place marks.old out.old s result marks.new out.new }
+    requires { Ahead src.coefs.now marks.old out.old limits.all limits.budget limits.safe b place s × (sent.now ≡ sent_table) × Summed src.desc.now src.grand.now limits.all × (s.at ≤ limits.safe) × (4 ≤ place) × (get_or marks.old place 0 ≡ 5) }
+    ensures { Gone src.entry.coefs.now src.entry.desc.now src.entry.grand.now limits.all limits.budget b 1 place marks.old out.old s result marks.new out.new }
 {
-    let sum = desc[place / 4];
+    let sum = src.desc[place / 4];
     if bits::bit_of(sum, b) {
-        let x = key_of(coefs, b, place, 15);
+        let x = key_of(src.coefs, b, place, 15);
         let e = sent[x as usize];
         let t = put_entry(put(s, 1, 1), e, out);
         marking::split_desc(marks, place);
         fours::set_word(marks, place, 0x01010101 + fours::spread(x / 16));
-        return Went {
-            on: true,
-            sink: t,
-            place: place + 4,
-        };
+        return goes(t, place + 4);
     }
     let t = flushed(put(s, 1, 0), out);
-    Went {
-        on: true,
-        sink: t,
-        place: place + 4,
-    }
+    goes(t, place + 4)
 }
 
 // The test of a GRAND.
 fn test_grand(
-    coefs: &[i32],
-    desc: &[u32],
-    grand: &[u32],
+    src: Source<'_>,
+    limits: Limits,
     marks: &mut [u8],
     out: &mut [u8],
-    all: usize,
-    budget: usize,
-    safe: usize,
     b: u32,
     place: usize,
     s: Sink,
 ) -> Went
-    requires { Ahead coefs.now marks.old out.old all budget safe b place s × Summed desc.now grand.now all × (s.at ≤ safe) × (get_or marks.old place 0 ≡ 6) }
-    ensures { Gone coefs.now desc.now grand.now all budget b 1 place marks.old out.old s result marks.new out.new }
+    requires { Ahead src.coefs.now marks.old out.old limits.all limits.budget limits.safe b place s × Summed src.desc.now src.grand.now limits.all × (s.at ≤ limits.safe) × (get_or marks.old place 0 ≡ 6) }
+    ensures { Gone src.entry.coefs.now src.entry.desc.now src.entry.grand.now limits.all limits.budget b 1 place marks.old out.old s result marks.new out.new }
 {
-    let sum = grand[place / 16];
+    let sum = src.grand[place / 16];
     if bits::bit_of(sum, b) {
         let t = flushed(put(s, 1, 1), out);
         marking::split_grand(marks, place);
-        return Went {
-            on: true,
-            sink: t,
-            place,
-        };
+        return goes(t, place);
     }
     let t = flushed(put(s, 1, 0), out);
-    Went {
-        on: true,
-        sink: t,
-        place: place + 16,
-    }
+    goes(t, place + 16)
 }
 
 // A step of the set pass.
 fn sets(
-    coefs: &[i32],
-    desc: &[u32],
-    grand: &[u32],
+    src: Source<'_>,
+    sent: &[u16; 256],
+    limits: Limits,
     marks: &mut [u8],
     out: &mut [u8],
-    sent: &[u16; 256],
-    all: usize,
-    budget: usize,
-    safe: usize,
     b: u32,
     place: usize,
     s: Sink,
 ) -> Went
-    requires { Ahead coefs.now marks.old out.old all budget safe b place s × (sent.now ≡ sent_table) × Summed desc.now grand.now all }
-    ensures { Gone coefs.now desc.now grand.now all budget b 1 place marks.old out.old s result marks.new out.new }
+    requires { Ahead src.coefs.now marks.old out.old limits.all limits.budget limits.safe b place s × (sent.now ≡ sent_table) × Summed src.desc.now src.grand.now limits.all }
+    ensures { Gone src.entry.coefs.now src.entry.desc.now src.entry.grand.now limits.all limits.budget b 1 place marks.old out.old s result marks.new out.new }
 {
     let mark = marks[place];
     if mark < marking::MCP {
-        return Went {
-            on: true,
-            sink: s,
-            place: place + 4,
-        };
+        return goes(s, place + 4);
     }
     if mark == marking::MD {
-        if safe < s.at {
-            return Went {
-                on: false,
-                sink: s,
-                place,
-            };
+        if limits.safe < s.at || place < 4 {
+            return rests(s, place);
         }
-        if place < 4 {
-            return Went {
-                on: false,
-                sink: s,
-                place,
-            };
-        }
-        return test_desc(
-            coefs, desc, grand, marks, out, sent, all, budget, safe, b, place, s,
-        );
+        return test_desc(src, sent, limits, marks, out, b, place, s);
     }
     if mark == marking::MG {
-        if safe < s.at {
-            return Went {
-                on: false,
-                sink: s,
-                place,
-            };
+        if limits.safe < s.at {
+            return rests(s, place);
         }
-        return test_grand(
-            coefs, desc, grand, marks, out, all, budget, safe, b, place, s,
-        );
+        return test_grand(src, limits, marks, out, b, place, s);
     }
     if mark == marking::MCP {
-        return Went {
-            on: false,
-            sink: s,
-            place,
-        };
+        return rests(s, place);
     }
-    let next = place + marking::set_skip(mark);
-    Went {
-        on: true,
-        sink: s,
-        place: next,
-    }
+    goes(s, place + marking::set_skip(mark))
 }
 
 // A step of a pass.
 fn step(
-    coefs: &[i32],
-    desc: &[u32],
-    grand: &[u32],
+    src: Source<'_>,
+    tables: Lookups<'_>,
+    limits: Limits,
     marks: &mut [u8],
     out: &mut [u8],
-    sent: &[u16; 256],
-    picked: &[u16; 256],
-    all: usize,
-    budget: usize,
-    safe: usize,
     b: u32,
     pass: u32,
     place: usize,
     s: Sink,
 ) -> Went
-    requires { Ahead coefs.now marks.old out.old all budget safe b place s × (sent.now ≡ sent_table) × (picked.now ≡ picked_table) × Summed desc.now grand.now all × (pass < 3) }
-    ensures { Gone coefs.now desc.now grand.now all budget b pass place marks.old out.old s result marks.new out.new }
+    requires { Ahead src.coefs.now marks.old out.old limits.all limits.budget limits.safe b place s × (tables.sent.now ≡ sent_table) × (tables.picked.now ≡ picked_table) × Summed src.desc.now src.grand.now limits.all × (pass < 3) }
+    ensures { Gone src.entry.coefs.now src.entry.desc.now src.entry.grand.now limits.all limits.budget b pass place marks.old out.old s result marks.new out.new }
 {
-    if pass == 0 {
-        return pixels(
-            coefs, desc, grand, marks, out, sent, all, budget, safe, b, place, s,
-        );
+    match pass {
+        0 => pixels(src, tables.sent, limits, marks, out, b, place, s),
+        1 => sets(src, tables.sent, limits, marks, out, b, place, s),
+        _ => refine(src, tables.picked, limits, marks, out, b, place, s),
     }
-    if pass == 1 {
-        return sets(
-            coefs, desc, grand, marks, out, sent, all, budget, safe, b, place, s,
-        );
-    }
-    refine(
-        coefs, desc, grand, marks, out, picked, all, budget, safe, b, place, s,
-    )
 }
 
 // A pass from its first place on, as far as there is room and marks are as awaited.
 fn pass_on(
-    coefs: &[i32],
-    desc: &[u32],
-    grand: &[u32],
+    src: Source<'_>,
+    tables: Lookups<'_>,
+    limits: Limits,
     marks: &mut [u8],
     out: &mut [u8],
-    sent: &[u16; 256],
-    picked: &[u16; 256],
-    all: usize,
-    budget: usize,
-    safe: usize,
     b: u32,
     pass: u32,
     s0: Sink,
 ) -> Went
-    requires { Ahead coefs.now marks.old out.old all budget safe b 0 s0 × (sent.now ≡ sent_table) × (picked.now ≡ picked_table) × Summed desc.now grand.now all × (pass < 3) }
-    ensures { Led coefs.now desc.now grand.now all budget b pass 0 marks.old out.old s0 result.place result.sink marks.new out.new }
+    requires { Ahead src.coefs.now marks.old out.old limits.all limits.budget limits.safe b 0 s0 × (tables.sent.now ≡ sent_table) × (tables.picked.now ≡ picked_table) × Summed src.desc.now src.grand.now limits.all × (pass < 3) }
+    ensures { Led src.entry.coefs.now src.entry.desc.now src.entry.grand.now limits.all limits.budget b pass 0 marks.old out.old s0 result.place result.sink marks.new out.new }
 {
     let last = marks.len() - 4;
     let mut s = s0;
     let mut place = 0;
     while place <= last {
-        let r = step(
-            coefs, desc, grand, marks, out, sent, picked, all, budget, safe, b, pass, place, s,
-        );
+        let r = step(src, tables, limits, marks, out, b, pass, place, s);
         s = r.sink;
         place = r.place;
         if !r.on {
@@ -417,21 +318,24 @@ fn pass_on(
 
 // The scan of `count` planes as far as there is room: the bits put, the passes not finished, and the place where to go on.
 pub(crate) fn scan(
-    coefs: &[i32],
-    desc: &[u32],
-    grand: &[u32],
+    src: Source<'_>,
     marks: &mut [u8],
     out: &mut [u8],
-    all: usize,
     budget: usize,
     count: u32,
 ) -> Reached
-    requires { (length marks.old ≡ all) × (4 ≤ all) × (all ≤ all_of most_n) × (all ≤ length coefs.now) × (64 ≤ budget) × (budget ≤ 8 * length out.old) × Summed desc.now grand.now all × (count ≤ most_planes) }
-    ensures { Resumes (scan_of (writer coefs.now desc.now grand.now budget) all) (left_at result.turn) (pass_at result.turn) result.place (st marks.new out.new result.n) (planes (scan_of (writer coefs.now desc.now grand.now budget) all) count (st marks.old out.old 0)) (left_of (scan_of (writer coefs.now desc.now grand.now budget) all) count (st marks.old out.old 0)) × (result.turn ≤ 3 * count) × (result.n ≤ budget) }
+    requires { (4 ≤ length marks.old) × (length marks.old ≤ all_of most_n) × (length marks.old ≤ length src.coefs.now) × (64 ≤ budget) × (budget ≤ 8 * length out.old) × Summed src.desc.now src.grand.now (length marks.old) × (count ≤ most_planes) }
+    ensures { Resumes (scan_of (writer src.entry.coefs.now src.entry.desc.now src.entry.grand.now budget) (length marks.old)) (left_at result.turn) (pass_at result.turn) result.place (st marks.new out.new result.n) (planes (scan_of (writer src.entry.coefs.now src.entry.desc.now src.entry.grand.now budget) (length marks.old)) count (st marks.old out.old 0)) (left_of (scan_of (writer src.entry.coefs.now src.entry.desc.now src.entry.grand.now budget) (length marks.old)) count (st marks.old out.old 0)) × (result.turn ≤ 3 * count) × (result.n ≤ budget) }
 {
+    let all = marks.len();
     let sent = fours::sent_table();
     let picked = fours::picked_table();
+    let tables = Lookups {
+        sent: &sent,
+        picked: &picked,
+    };
     let safe = (budget - 64) / 8;
+    let limits = Limits { all, budget, safe };
     let mut s = Sink {
         acc: 0,
         n: 0,
@@ -441,16 +345,11 @@ pub(crate) fn scan(
     while 0 < turn {
         let left = (turn + 2) / 3;
         let r = pass_on(
-            coefs,
-            desc,
-            grand,
+            src,
+            tables,
+            limits,
             marks,
             out,
-            &sent,
-            &picked,
-            all,
-            budget,
-            safe,
             left - 1,
             3 * left - turn,
             s,

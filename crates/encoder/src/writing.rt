@@ -9,7 +9,7 @@ ghost use Rattle.marking.specs.Marking.{desc_split_marks, grand_split_marks};
 ghost use Rattle.walk.specs.Visits.{Sv, one_seen, test_seen, pixels_seen, sets_seen, refining_seen, visit_seen, scan_of};
 ghost use Rattle.encoder.specs.Writing.{Bytes, writer, plain, st, bytes, Does, Room, Summed, Holds};
 
-use crate::Step;
+use crate::{Reached, Source, Step};
 
 // Bit b of the magnitude at a place.
 fn bit_at(coefs: &[i32], b: u32, place: usize) -> bool
@@ -44,13 +44,12 @@ fn coefficient(
     coefs: &[i32],
     marks: &mut [u8],
     out: &mut [u8],
-    all: usize,
     budget: usize,
     n: usize,
     b: u32,
     place: usize,
 ) -> Step
-    requires { Room coefs.now marks.old out.old all budget place n }
+    requires { Room coefs.now marks.old out.old (length marks.old) budget place n }
     ensures { Does (one_seen (plain coefs.now budget) pixels b place false marks.old (bytes out.old n)) budget place n result marks.new out.new }
 {
     if budget <= n {
@@ -76,18 +75,17 @@ fn pixel(
     coefs: &[i32],
     marks: &mut [u8],
     out: &mut [u8],
-    all: usize,
     budget: usize,
     n: usize,
     b: u32,
     place: usize,
 ) -> Step
-    requires { Room coefs.now marks.old out.old all budget place n }
+    requires { Room coefs.now marks.old out.old (length marks.old) budget place n }
     ensures { Does (pixels_seen (plain coefs.now budget) b place (get_or marks.old place 0) marks.old (bytes out.old n)) budget place n result marks.new out.new }
 {
     let mark = marks[place];
     if mark == marking::MIP {
-        return coefficient(coefs, marks, out, all, budget, n, b, place);
+        return coefficient(coefs, marks, out, budget, n, b, place);
     }
     let next = place + marking::skip(mark);
     Step::Go(n, next)
@@ -98,13 +96,12 @@ fn refine(
     coefs: &[i32],
     marks: &mut [u8],
     out: &mut [u8],
-    all: usize,
     budget: usize,
     n: usize,
     b: u32,
     place: usize,
 ) -> Step
-    requires { Room coefs.now marks.old out.old all budget place n }
+    requires { Room coefs.now marks.old out.old (length marks.old) budget place n }
     ensures { Does (refining_seen (plain coefs.now budget) b place (get_or marks.old place 0) marks.old (bytes out.old n)) budget place n result marks.new out.new }
 {
     let mark = marks[place];
@@ -131,14 +128,13 @@ fn test_desc(
     desc: &[u32],
     marks: &mut [u8],
     out: &mut [u8],
-    all: usize,
     budget: usize,
     n: usize,
     b: u32,
     place: usize,
 ) -> Step
-    requires { (place < all) × (length marks.old ≡ all) × (all ≤ all_of most_n) × (all ≤ length desc.now * 4) × (n ≤ budget) × (budget ≤ 8 * length out.old) }
-    ensures { Does (test_seen (writer [] desc.now [] budget) b place (in_desc (place / 4) b) 4 false (desc_split_marks all place marks.old) marks.old (bytes out.old n)) budget place n result marks.new out.new }
+    requires { (place < length marks.old) × (length marks.old ≤ all_of most_n) × (length marks.old ≤ length desc.now * 4) × (n ≤ budget) × (budget ≤ 8 * length out.old) }
+    ensures { Does (test_seen (writer [] desc.now [] budget) b place (in_desc (place / 4) b) 4 false (desc_split_marks (length marks.old) place marks.old) marks.old (bytes out.old n)) budget place n result marks.new out.new }
 {
     if budget <= n {
         return Step::Stop(n, place);
@@ -158,14 +154,13 @@ fn test_grand(
     grand: &[u32],
     marks: &mut [u8],
     out: &mut [u8],
-    all: usize,
     budget: usize,
     n: usize,
     b: u32,
     place: usize,
 ) -> Step
-    requires { (place < all) × (length marks.old ≡ all) × (all ≤ all_of most_n) × (all ≤ length grand.now * 16) × (n ≤ budget) × (budget ≤ 8 * length out.old) }
-    ensures { Does (test_seen (writer [] [] grand.now budget) b place (in_grand (place / 16) b) 16 false (grand_split_marks all place marks.old) marks.old (bytes out.old n)) budget place n result marks.new out.new }
+    requires { (place < length marks.old) × (length marks.old ≤ all_of most_n) × (length marks.old ≤ length grand.now * 16) × (n ≤ budget) × (budget ≤ 8 * length out.old) }
+    ensures { Does (test_seen (writer [] [] grand.now budget) b place (in_grand (place / 16) b) 16 false (grand_split_marks (length marks.old) place marks.old) marks.old (bytes out.old n)) budget place n result marks.new out.new }
 {
     if budget <= n {
         return Step::Stop(n, place);
@@ -182,29 +177,26 @@ fn test_grand(
 
 // A place of the set pass.
 fn sets(
-    coefs: &[i32],
-    desc: &[u32],
-    grand: &[u32],
+    src: Source<'_>,
     marks: &mut [u8],
     out: &mut [u8],
-    all: usize,
     budget: usize,
     n: usize,
     b: u32,
     place: usize,
 ) -> Step
-    requires { Room coefs.now marks.old out.old all budget place n × Summed desc.now grand.now all }
-    ensures { Does (sets_seen (writer coefs.now desc.now grand.now budget) all b place (get_or marks.old place 0) marks.old (bytes out.old n)) budget place n result marks.new out.new }
+    requires { Room src.coefs.now marks.old out.old (length marks.old) budget place n × Summed src.desc.now src.grand.now (length marks.old) }
+    ensures { Does (sets_seen (writer src.entry.coefs.now src.entry.desc.now src.entry.grand.now budget) (length marks.old) b place (get_or marks.old place 0) marks.old (bytes out.old n)) budget place n result marks.new out.new }
 {
     let mark = marks[place];
     if mark == marking::MCP {
-        return coefficient(coefs, marks, out, all, budget, n, b, place);
+        return coefficient(src.coefs, marks, out, budget, n, b, place);
     }
     if mark == marking::MD {
-        return test_desc(desc, marks, out, all, budget, n, b, place);
+        return test_desc(src.desc, marks, out, budget, n, b, place);
     }
     if mark == marking::MG {
-        return test_grand(grand, marks, out, all, budget, n, b, place);
+        return test_grand(src.grand, marks, out, budget, n, b, place);
     }
     let next = place + marking::set_skip(mark);
     Step::Go(n, next)
@@ -212,65 +204,38 @@ fn sets(
 
 // A place of a pass.
 fn visit(
-    coefs: &[i32],
-    desc: &[u32],
-    grand: &[u32],
+    src: Source<'_>,
     marks: &mut [u8],
     out: &mut [u8],
-    all: usize,
     budget: usize,
     n: usize,
     b: u32,
     pass: u32,
     place: usize,
 ) -> Step
-    requires { Room coefs.now marks.old out.old all budget place n × Summed desc.now grand.now all }
-    ensures { Does (visit_seen (writer coefs.now desc.now grand.now budget) all b pass place (st marks.old out.old n)) budget place n result marks.new out.new }
+    requires { Room src.coefs.now marks.old out.old (length marks.old) budget place n × Summed src.desc.now src.grand.now (length marks.old) }
+    ensures { Does (visit_seen (writer src.entry.coefs.now src.entry.desc.now src.entry.grand.now budget) (length marks.old) b pass place (st marks.old out.old n)) budget place n result marks.new out.new }
 {
-    if pass == 0 {
-        return pixel(coefs, marks, out, all, budget, n, b, place);
+    match pass {
+        0 => pixel(src.coefs, marks, out, budget, n, b, place),
+        1 => sets(src, marks, out, budget, n, b, place),
+        _ => refine(src.coefs, marks, out, budget, n, b, place),
     }
-    if pass == 1 {
-        return sets(coefs, desc, grand, marks, out, all, budget, n, b, place);
-    }
-    refine(coefs, marks, out, all, budget, n, b, place)
 }
 
-// The scan from a place on, with `turn0` passes not finished, left where the next bit exceeds the budget. It answers the number of bits put.
-fn go_on(
-    coefs: &[i32],
-    desc: &[u32],
-    grand: &[u32],
-    marks: &mut [u8],
-    out: &mut [u8],
-    all: usize,
-    budget: usize,
-    turn0: u32,
-    place0: usize,
-    n0: usize,
-) -> usize
-    requires { (length marks.old ≡ all) × (all ≤ all_of most_n) × (all ≤ length coefs.now) × (budget ≤ 8 * length out.old) × Summed desc.now grand.now all × (turn0 ≤ 3 * most_planes) × (n0 ≤ budget) }
-    ensures { (X : Ran (Sv Bytes)) (L : ℕ) → Resumes (scan_of (writer coefs.now desc.now grand.now budget) all) (left_at turn0) (pass_at turn0) place0 (st marks.old out.old n0) X L → Holds X result marks.new out.new }
+// The scan from where it was left, left again where the next bit exceeds the budget. It answers the number of bits put.
+fn go_on(src: Source<'_>, marks: &mut [u8], out: &mut [u8], budget: usize, from: Reached) -> usize
+    requires { (length marks.old ≤ all_of most_n) × (length marks.old ≤ length src.coefs.now) × (budget ≤ 8 * length out.old) × Summed src.desc.now src.grand.now (length marks.old) × (from.turn ≤ 3 * most_planes) × (from.n ≤ budget) }
+    ensures { (X : Ran (Sv Bytes)) (L : ℕ) → Resumes (scan_of (writer src.entry.coefs.now src.entry.desc.now src.entry.grand.now budget) (length marks.old)) (left_at from.turn) (pass_at from.turn) from.place (st marks.old out.old from.n) X L → Holds X result marks.new out.new }
 {
-    let mut n = n0;
-    let mut turn = turn0;
-    let mut place = place0;
+    let all = marks.len();
+    let mut n = from.n;
+    let mut turn = from.turn;
+    let mut place = from.place;
     'scan: while 0 < turn {
         let left = (turn + 2) / 3;
         while place < all {
-            match visit(
-                coefs,
-                desc,
-                grand,
-                marks,
-                out,
-                all,
-                budget,
-                n,
-                left - 1,
-                3 * left - turn,
-                place,
-            ) {
+            match visit(src, marks, out, budget, n, left - 1, 3 * left - turn, place) {
                 Step::Stop(k, _) => {
                     n = k;
                     break 'scan;
@@ -289,23 +254,23 @@ fn go_on(
 
 // The scan of `count` planes, left where the next bit exceeds the budget. It answers the number of bits put.
 pub(crate) fn scan(
-    coefs: &[i32],
-    desc: &[u32],
-    grand: &[u32],
+    src: Source<'_>,
     marks: &mut [u8],
     out: &mut [u8],
-    all: usize,
     budget: usize,
     count: u32,
 ) -> usize
-    requires { (length marks.old ≡ all) × (4 ≤ all) × (all ≤ all_of most_n) × (all ≤ length coefs.now) × (budget ≤ 8 * length out.old) × Summed desc.now grand.now all × (count ≤ most_planes) }
-    ensures { Holds (planes (scan_of (writer coefs.now desc.now grand.now budget) all) count (st marks.old out.old 0)) result marks.new out.new }
+    requires { (4 ≤ length marks.old) × (length marks.old ≤ all_of most_n) × (length marks.old ≤ length src.coefs.now) × (budget ≤ 8 * length out.old) × Summed src.desc.now src.grand.now (length marks.old) × (count ≤ most_planes) }
+    ensures { Holds (planes (scan_of (writer src.entry.coefs.now src.entry.desc.now src.entry.grand.now budget) (length marks.old)) count (st marks.old out.old 0)) result marks.new out.new }
 {
     if budget < 64 {
-        return go_on(coefs, desc, grand, marks, out, all, budget, 3 * count, 0, 0);
+        let start = Reached {
+            n: 0,
+            turn: 3 * count,
+            place: 0,
+        };
+        return go_on(src, marks, out, budget, start);
     }
-    let r = crate::siblings::scan(coefs, desc, grand, marks, out, all, budget, count);
-    go_on(
-        coefs, desc, grand, marks, out, all, budget, r.turn, r.place, r.n,
-    )
+    let r = crate::siblings::scan(src, marks, out, budget, count);
+    go_on(src, marks, out, budget, r)
 }

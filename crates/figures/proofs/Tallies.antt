@@ -1,15 +1,16 @@
 -- Tallies by length in binary: how one is made, and what it says of those that reach a level.
-use mathlib.Core.Path.{◌≡◌, refl, sym, ap, ◌∙◌}
+use mathlib.Core.Path.{◌≡◌, refl, sym, ap, subst, ◌∙◌}
 use mathlib.Core.Bool.{Bool, true, false, false≢true, ◌&&◌}
-use mathlib.Core.List.{List, replicate}
+use mathlib.Core.List.{List, [], ◌∷◌, replicate}
 use Prim.Native.Nat.{ℕ, zero, suc, ◌+◌, ◌*◌, ◌-◌, ◌^◌, ◌≤◌, ◌<◌}
 use native.Mathlib.Nat.{pow-succ'}
+use native.Mathlib.Decide.{dec_lt}
 use native.Mathlib.Omega.{arith}
 use borrow.Author.Tests.{eqb-true, eqb-false, ltb-true, leb-true, leb-false, lt-ltb, le-ltb, le-leb, lt-leb}
 use lib.Count.{count_leading_zeros, leading_length, leading_unique}
 use lib.Dec.{eqb, leb, ltb}
 use lib.IntN.{ℤ}
-use lib.ListN.{length, get_or, set, length-set}
+use lib.ListN.{length, get_or, get_or-eq_default, set, length-set}
 use lib.Seq.{get_or-set_same, get_or-set_other}
 use Rattle.sizes.specs.Tables.{table}
 use Rattle.sizes.proofs.Laws.{both_left, both_right, both}
@@ -63,6 +64,21 @@ module _ (n : ℕ) (x : ℕ → ℕ) where
 pub tally_none : (x : ℕ → ℕ) → replicate 33 0 ≡ tally_of 0 x
 unfolding tally_of table sum_to
 tally_none x = refl
+
+-- an entry counted up by one, where none is over m
+pub counted_up : (l : List ℕ) (k m : ℕ) → ((z : ℕ) → get_or l z 0 ≤ m) → (z : ℕ) → get_or (set l k (get_or l k 0 + 1)) z 0 ≤ m + 1
+counted_up [] k m h z = omega (arith, h z)
+counted_up (x ∷ l) zero m h zero = omega (arith, h 0)
+counted_up (x ∷ l) zero m h (suc z) = omega (arith, h (suc z))
+counted_up (x ∷ l) (suc k) m h zero = omega (arith, h 0)
+counted_up (x ∷ l) (suc k) m h (suc z) = counted_up l k m (λ j. h (suc j)) z
+
+pub none_most : (z : ℕ) → get_or (replicate 33 0) z 0 ≤ 0
+none_most z = subst (λ (l : List ℕ). get_or l z 0 ≤ 0) (sym (tally_none (λ i. 0))) (tell (dec_lt z 33))
+  where
+    tell : Dec (z < 33) → get_or (tally_of 0 (λ i. 0)) z 0 ≤ 0
+    tell (yes h) = tally_most 0 (λ i. 0) z (omega arith)
+    tell (no h) = omega (arith, get_or-eq_default (tally_of 0 (λ i. 0)) 0 {n = z} (omega (arith, tally_length 0 (λ i. 0))))
 
 -- one number more
 module _ (n : ℕ) (x : ℕ → ℕ) (h : x n < 2 ^ 32) where

@@ -1,14 +1,12 @@
 -- The figures of one plane and of all planes, from the values alone, and the checks of the calls that count them: those of
 -- the summaries, and after them number 9 for a plane that no array has, or number 5 for an output too short for all planes.
-use Rattle.std.specs.Prelude.{ℕ, zero, suc, ◌+◌, ◌*◌, List, [], ◌∷◌, ◌++◌}
 use lib.{Dec.ltb, Dec.leb, IntN.ℤ}
-use Rattle.refusals.specs.{declared.Refusal.TheVariants.Planes, declared.Refusal.TheVariants.Lent, declared.Outcome.Outcome, Checks.Check, Checks.need}
-use Rattle.refusals.specs.declared.Outcome.TheVariants as outcome
+use Rattle.std.specs.Prelude.{ℕ, zero, suc, ◌+◌, ◌*◌, List, [], ◌∷◌, ◌++◌, Result, Ok, Err}
+use Rattle.refusals.specs.{declared.Refusal.Refusal, declared.Refusal.TheVariants.Planes, declared.Refusal.TheVariants.Lent, Checks.Check, Checks.need, Checks.Outcome}
 use Rattle.sizes.specs.Sizes.{most_planes}
 use Rattle.tree.specs.Summaries.{summary_checks}
 use Rattle.nls.specs.Parts.{parts, splits_in, found_in}
-use Rattle.figures.specs.{declared.Figures.Figures, declared.FiguresAnswer.FiguresAnswer}
-use Rattle.figures.specs.declared.FiguresAnswer.TheVariants as answer
+use Rattle.figures.specs.declared.Figures.{Figures}
 
 -- of the magnitudes of A and plane b: the parts that stand after it, the sets split in it, the coefficients found in it,
 -- and the bits that these make
@@ -40,11 +38,15 @@ all_figures N L A = figures_below N L A most_planes
 abbrev pub all_figures_checks : ℕ → ℕ → List ℤ → ℕ → ℕ → ℕ → List Check
 all_figures_checks N L A descs grands outs = summary_checks N L A descs grands ++ (need (leb (4 * most_planes) outs) Lent ∷ [])
 
+-- the figures of a plane, or the refusal
+abbrev pub FiguresAnswer : Type 0
+FiguresAnswer = Result Figures Refusal
+
 -- what is answered where the checks come to an outcome, and the outcome of an answer
 abbrev pub answered : Outcome → Figures → FiguresAnswer
-answered outcome.Done figures = answer.Done figures
-answered (outcome.Refused why) figures = answer.Refused why
+answered (Ok tt) figures = Ok figures
+answered (Err why) figures = Err why
 
 abbrev pub outcome_of : FiguresAnswer → Outcome
-outcome_of (answer.Done figures) = outcome.Done
-outcome_of (answer.Refused why) = outcome.Refused why
+outcome_of (Ok figures) = Ok tt
+outcome_of (Err why) = Err why

@@ -1,5 +1,5 @@
 -- What the inner functions count; no public contract names it.
-use Rattle.std.specs.Prelude.{ℕ, ◌+◌, ◌*◌, ◌-◌, ◌^◌, ◌≤◌, ◌≡◌, Bool, true, ◌&&◌, List, leb, ltb, ℤ, length, get_or}
+use Rattle.std.specs.Prelude.{ℕ, ◌+◌, ◌*◌, ◌-◌, ◌^◌, ◌<◌, ◌≤◌, ◌≡◌, Bool, true, ◌&&◌, List, leb, ltb, ℤ, length, get_or}
 use Rattle.sizes.specs.Sizes.{all_of, most_n, side_fits, levels_fit}
 use Rattle.sizes.specs.Tables.{table}
 use Rattle.coef.specs.Coef.{mag_at}
@@ -7,6 +7,7 @@ use Rattle.tree.specs.Summaries.{desc_table, grand_table}
 use Rattle.nls.specs.Parts.{count_to}
 use Rattle.figures.specs.declared.Figures.{Figures}
 use Rattle.figures.specs.declared.Reach.{Reach}
+use Rattle.figures.specs.declared.FourTallies.{FourTallies}
 
 -- sizes in range, a value for each place, and both tables filled
 pub record Filled (N L : ℕ) (A : List ℤ) (desc grand : List ℕ) : Type 0 where
@@ -52,6 +53,20 @@ has_length k x = ltb x (2 ^ k) && leb (2 ^ k) (2 * x + 1)
 -- how many of n numbers have 32, 31, .. 0 digits: what stands at z counts those with z leading zeros among 32
 unfoldable pub tally_of : ℕ → (ℕ → ℕ) → List ℕ
 tally_of n x = table 33 (λ z. count_to n (λ i. has_length (32 - z) (x i)))
+
+-- those of DESC, of its entries that have one in GRAND, of GRAND, and of the magnitudes
+abbrev pub tallies_of : List ℤ → List ℕ → List ℕ → FourTallies
+tallies_of A desc grand =
+    record {
+      descs = tally_of (length desc) (λ i. get_or desc i 0);
+      inner = tally_of (length grand) (λ i. get_or desc i 0);
+      grands = tally_of (length grand) (λ i. get_or grand i 0);
+      large = tally_of (length A) (λ i. mag_at A i);
+    }
+
+-- what a function may give of each entry is the number at its place: `gives e r` says that it may give r of e, and d is what stands past the end
+abbrev pub AllSized : {X : Type 0} → (X → ℕ → Type 0) → List X → X → (ℕ → ℕ) → Type 0
+AllSized gives entries d x = (i r : ℕ) → i < length entries → gives (get_or entries i d) r → r ≡ x i
 
 -- four counts without those that four tallies have at z, where they have no more
 abbrev pub reach_less : Reach → ℕ → List ℕ → List ℕ → List ℕ → List ℕ → Reach

@@ -2,34 +2,68 @@
 use Prim.Native.Nat.{ℕ, zero, suc, ◌+◌, ◌-◌, ◌*◌, ◌/◌, ◌%◌, ◌≤◌, ◌<◌}
 use mathlib.Core.Path.{◌≡◌, refl, sym, ap, ◌∙◌}
 use mathlib.Core.Bool.{Bool, true, false, cond, ◌&&◌}
-use mathlib.Core.List.{List, [], ◌∷◌, ◌++◌, append-nil}
+use mathlib.Core.List.{List, [], ◌∷◌, ◌++◌}
 use native.Mathlib.Omega.{arith}
-use native.Mathlib.Nat.{not-suc-le-zero, le_of_suc-le-suc, pow-le-pow_right}
-use native.Mathlib.Numerals.{add-one}
+use native.Mathlib.Nat.{pow-le-pow_right}
 use borrow.Author.Tests.{lt-ltb, le-ltb, ltb-true, ltb-false, le-leb, lt-leb, leb-true, leb-false, eq-eqb, eqb-true}
 use lib.Dec.{ltb, leb, eqb, lit≤}
-use lib.ListN.{length, replicate, take, drop, get_or, set, length-replicate}
-use lib.Seq.{drop-length, length-take-le}
+use lib.ListN.{length, replicate, take, drop, get_or, set, length-replicate, length-drop}
+use lib.Seq.{length-take-le, drop-drop}
+use borrow.Rule.Slice.PartMut.{mid_of, put_mid}
+use Rattle.std.specs.List.{list_all}
 use Rattle.sizes.specs.Sizes.{most_n, all_of, side_fits}
 use Rattle.sizes.proofs.Laws.{both_left, both_right}
 use Rattle.nls.specs.Marks.{MN, skip, set_skip, push_from, push, split_grand, push_roots, start_marks}
 use Rattle.nls.proofs.Machine.Run.{skip_pos}
-use Rattle.marking.specs.Marking.{codes_end, skip_of, set_skip_of, push_most, new_desc, desc_split_marks, grand_split_marks, same_four, in_table, start_fits}
+use Rattle.marking.specs.Marking.{codes_end, skip_of, set_skip_of, push_most, new_desc, desc_split_marks, grand_split_marks, same_four, set_four, in_table, start_fits}
 
 -- ---- fills
 
-fill_suc : {A : Type 0} (i : ℕ) (l : List A) (z : A) → i < length l → set (replicate i z ++ drop i l) i z ≡ replicate (suc i) z ++ drop (suc i) l
-fill_suc zero [] z h = absurd (not-suc-le-zero h)
-fill_suc zero (x ∷ l) z h = refl
-fill_suc (suc i) [] z h = absurd (not-suc-le-zero h)
-fill_suc {A} (suc i) (x ∷ l) z h = ap {B = List A} (λ (r : List A). z ∷ r) (fill_suc i l z (le_of_suc-le-suc h))
+-- four entries of one value in the place of the four from i on
+put_same : (m : List ℕ) (i v : ℕ) → i + 4 ≤ length m → take i m ++ (v ∷ v ∷ v ∷ v ∷ drop (i + 4) m) ≡ set_four m i v
+put_same [] i v h = absurd (omega arith)
+put_same (a ∷ []) zero v h = absurd (omega arith)
+put_same (a ∷ b ∷ []) zero v h = absurd (omega arith)
+put_same (a ∷ b ∷ c ∷ []) zero v h = absurd (omega arith)
+put_same (a ∷ b ∷ c ∷ d ∷ m) zero v h = refl
+put_same (a ∷ m) (suc i) v h =
+    let e1 : suc i + 1 ≡ suc (i + 1) = omega arith in
+    let e2 : suc i + 2 ≡ suc (i + 2) = omega arith in
+    let e3 : suc i + 3 ≡ suc (i + 3) = omega arith in
+    let e4 : suc i + 4 ≡ suc (i + 4) = omega arith in
+    rw (e1, e2, e3, e4) (ap {B = List ℕ} (λ (l : List ℕ). a ∷ l) (put_same m i v (omega arith)))
 
--- one entry more
-pub fill_step : {A : Type 0} (i : ℕ) (l m : List A) (z : A) → m ≡ replicate i z ++ drop i l → i < length l → set m i z ≡ replicate (i + 1) z ++ drop (i + 1) l
-fill_step {A} i l m z e h = rw e (fill_suc i l z h ∙ ap {B = List A} (λ (k : ℕ). replicate k z ++ drop k l) (sym (add-one i)))
+four_long : (m : List ℕ) (i : ℕ) → i + 4 ≤ length m → length (take 4 (drop i m)) ≡ 4
+four_long m i h = length-take-le 4 (drop i m) (omega (arith, length-drop i m))
 
-pub fill_done : {A : Type 0} (i : ℕ) (l m : List A) (v : A) → m ≡ replicate i v ++ drop i l → i ≡ length l → m ≡ replicate (length l) v
-fill_done i l m v e h = e ∙ rw (h, drop-length l) (append-nil (replicate (length l) v))
+pub four_filled : (m filled : List ℕ) (i k v : ℕ) → k ≡ 4 → i + 4 ≤ length m → filled ≡ replicate (length (mid_of i k m)) v → put_mid i k m filled ≡ set_four m i v
+four_filled m filled i k v e h f =
+    let four : filled ≡ v ∷ v ∷ v ∷ v ∷ [] = f ∙ rw (e, four_long m i h) refl in
+    let rest : drop 4 (drop i m) ≡ drop (i + 4) m = drop-drop 4 i m in
+    rw (e, four, rest) (put_same m i v h)
+
+-- the four entries from i on, one by one
+pub four_of : (m : List ℕ) (i : ℕ) → i + 4 ≤ length m → take 4 (drop i m) ≡ get_or m i 0 ∷ get_or m (i + 1) 0 ∷ get_or m (i + 2) 0 ∷ get_or m (i + 3) 0 ∷ []
+four_of [] i h = absurd (omega arith)
+four_of (a ∷ []) zero h = absurd (omega arith)
+four_of (a ∷ b ∷ []) zero h = absurd (omega arith)
+four_of (a ∷ b ∷ c ∷ []) zero h = absurd (omega arith)
+four_of (a ∷ b ∷ c ∷ d ∷ m) zero h = refl
+four_of (a ∷ m) (suc i) h =
+    let e1 : suc i + 1 ≡ suc (i + 1) = omega arith in
+    let e2 : suc i + 2 ≡ suc (i + 2) = omega arith in
+    let e3 : suc i + 3 ≡ suc (i + 3) = omega arith in
+    rw (e1, e2, e3) (four_of m i (omega arith))
+
+pub all_four : (m : List ℕ) (i k v : ℕ) → k ≡ 4 → i + 4 ≤ length m
+    → list_all (λ x. eqb x v) (take k (drop i m)) ≡ (eqb (get_or m i 0) v && (eqb (get_or m (i + 1) 0) v && (eqb (get_or m (i + 2) 0) v && eqb (get_or m (i + 3) 0) v)))
+all_four m i k v e h =
+    rw (e, four_of m i h)
+    (ap {B = Bool} (λ (t : Bool). eqb (get_or m i 0) v && (eqb (get_or m (i + 1) 0) v && (eqb (get_or m (i + 2) 0) v && t))) (last (eqb (get_or m (i + 3) 0) v)))
+  where
+    last : (t : Bool) → (t && true) ≡ t
+    last true = refl
+    last false = refl
 
 -- ---- skips
 
@@ -221,9 +255,6 @@ module _ (I i : ℕ) where
       on false e = let w = leb-false i (I - 4) e in rw (e, lt-leb (i + 4) I (omega arith))
 
 -- what the tests tell
-pub four_inside : (I i : ℕ) (r : Bool) → r ≡ leb (i + 4) I → r ≡ true → i + 4 ≤ I
-four_inside I i r e t = leb-true (i + 4) I (sym e ∙ t)
-
 pub four_told : (m : List ℕ) (i v : ℕ) → same_four m i v ≡ true
     → (i + 4 ≤ length m) × (get_or m i 0 ≡ v) × (get_or m (i + 1) 0 ≡ v) × (get_or m (i + 2) 0 ≡ v) × (get_or m (i + 3) 0 ≡ v)
 four_told m i v e =

@@ -48,16 +48,8 @@ pub fn set_skip(mark: u8) -> usize
     skip(mark)
 }
 
-// Every entry becomes v.
-pub fn fill(dst: &mut [u8], v: u8)
-    ensures { dst.new ≡ replicate (length dst.old) v }
-{
-    for i in 0..dst.len() {
-        dst[i] = v;
-    }
-}
-
 // A mark; past the end nothing is written.
+// Kept: of the table behind `marks.get_mut(place)` a proof knows the length and no entry, so that the write through it did not close.
 fn store(marks: &mut [u8], place: usize, code: u8)
     ensures { marks.new ≡ set marks.old place code }
 {
@@ -72,6 +64,7 @@ fn push(marks: &mut [u8], all: usize, place: usize)
     ensures { marks.new ≡ push_most all place marks.old }
 {
     let mut at = 4 * place;
+    // Kept: as in `store`, a write through `marks.get_mut(at)` did not close.
     for k in MN2..CODES_END {
         if all <= at {
             break;
@@ -97,10 +90,7 @@ fn four_alone(marks: &mut [u8], place: usize)
     ensures { marks.new ≡ set_four marks.old place 4 }
 {
     if place + 3 < marks.len() {
-        marks[place] = MCP;
-        marks[place + 1] = MCP;
-        marks[place + 2] = MCP;
-        marks[place + 3] = MCP;
+        marks[place..place + 4].fill(MCP);
         return;
     }
     store(marks, place, MCP);
@@ -177,16 +167,7 @@ pub fn same_four(marks: &[u8], place: usize, mark: u8) -> bool
     if !four_in(marks.len(), place) {
         return false;
     }
-    if marks[place] != mark {
-        return false;
-    }
-    if marks[place + 1] != mark {
-        return false;
-    }
-    if marks[place + 2] != mark {
-        return false;
-    }
-    marks[place + 3] == mark
+    marks[place..place + 4].iter().all(|x| *x == mark)
 }
 
 // The four marks from a place on become this one; a table that has no such four stays as it is.
@@ -194,10 +175,7 @@ pub fn set_four(marks: &mut [u8], place: usize, mark: u8)
     ensures { marks.new ≡ cond (leb (place + 4) (length marks.old)) (set_four marks.old place mark) marks.old }
 {
     if four_in(marks.len(), place) {
-        marks[place] = mark;
-        marks[place + 1] = mark;
-        marks[place + 2] = mark;
-        marks[place + 3] = mark;
+        marks[place..place + 4].fill(mark);
     }
 }
 
@@ -222,8 +200,8 @@ fn begin(marks: &mut [u8], all: usize, coarsest: usize)
     requires { (length marks.old ≡ all) × (all ≤ all_of most_n) × (4 ≤ coarsest) × (4 * coarsest ≤ all) × (coarsest % 4 ≡ 0) }
     ensures { marks.new ≡ start_marks all coarsest }
 {
-    fill(marks, NO_MARK);
-    fill(&mut marks[..coarsest], MIP);
+    marks.fill(NO_MARK);
+    marks[..coarsest].fill(MIP);
     for j in coarsest / 4..coarsest {
         new_desc(marks, all, 4 * j);
     }

@@ -3,12 +3,14 @@ use Prim.Native.Nat.{ℕ, zero, suc, ◌+◌, ◌-◌, ◌/◌, ◌≤◌, ◌<�
 use mathlib.Core.Path.{◌≡◌, refl, sym, ap, subst, ◌∙◌}
 use mathlib.Core.Bool.{Bool, true, false, cond, ◌||◌, or-false}
 use mathlib.Core.List.{List}
+use mathlib.Core.Logic.{◌⊎◌, inl, inr}
 use native.Mathlib.Omega.{arith}
 use native.Mathlib.Nat.{pow-le-pow_right}
-use borrow.Author.Tests.{lt-ltb, le-ltb, ltb-true, ltb-false, le-leb, eq-eqb, ne_eqb, eqb-true}
+use borrow.Author.Tests.{lt-ltb, le-ltb, ltb-true, ltb-false, le-leb, eq-eqb, ne_eqb, eqb-true, eqb-false}
 use lib.Dec.{ltb, leb, eqb, lit<}
 use lib.ListN.{length, get_or, set, length-set}
 use lib.Seq.{get_or-set_other}
+use Rattle.std.specs.Prelude.{Some, None}
 use Rattle.sizes.specs.Sizes.{most_n, all_of}
 use Rattle.nls.specs.Marks.{MIP, MNP, MSP, MCP, MD, MG, skip, set_skip}
 use Rattle.nls.specs.Scan.{Question, bit_of, sign_of, in_desc, in_grand, Pass, pixels, sets, refining, State, state_at, Look, silent, asks, look, settle, moves_left}
@@ -18,9 +20,9 @@ use Rattle.nls.proofs.Machine.Table.{skip_7}
 use Rattle.nls.proofs.Machine.Cover.{sskip_small, sskip_big}
 use Rattle.marking.specs.Marking.{codes_end, skip_of, same_four, set_four}
 use Rattle.marking.proofs.Laws.{skip_is, four_told}
-use Rattle.moves.specs.Stands.{pass_of, pass_number, stand, state_of, stand_of}
+use Rattle.moves.specs.Stands.{pass_of, stand, state_of, stand_of}
 use Rattle.moves.specs.Moves.{Moves, Passed}
-use Rattle.moves.specs.declared.{Stand.Stand, Ahead.Ahead, Ahead.TheVariants.Rests, Ahead.TheVariants.Goes}
+use Rattle.moves.specs.declared.Stand.{Stand}
 use Rattle.moves.proofs.Passes.{pass_back}
 
 -- ---- skips
@@ -42,10 +44,7 @@ module _ (I k i : ℕ) where
 
 -- ---- places passed over
 
--- a pass asks nothing from a place to itself, nor on two ways of which one begins where the other ends
-pub passed_none : {I : ℕ} {p : Pass} {i : ℕ} {m : List ℕ} → Passed I p i m i m
-passed_none = record { on = omega arith; long = refl; ahead = λ b. refl }
-
+-- of two ways on which a pass asks nothing, one begins where the other ends
 pub passed_on : {I : ℕ} {p : Pass} {i j k : ℕ} {m n o : List ℕ} → Passed I p i m j n → Passed I p j n k o → Passed I p i m k o
 passed_on u v = record { on = omega arith; long = v.long ∙ u.long; ahead = λ b. v.ahead b ∙ u.ahead b }
 
@@ -122,12 +121,12 @@ module _ (I i : ℕ) (m : List ℕ) (long : length m ≡ I) where
 -- ---- one look
 
 module _ (I : ℕ) where
-  rests : (s : State) (q : Question) → look I s ≡ asks q → Moves I s Rests s.marks
+  rests : (s : State) (q : Question) → look I s ≡ asks q → Moves I s None s.marks
   rests s q e = (refl, settle_asks I s q e)
 
-  goes : (s : State) (l p i : ℕ) → look I s ≡ silent (state_at l (pass_of p) i s.marks) → p < 3 → Moves I s (Goes l p i) s.marks
+  goes : (s : State) (l p i : ℕ) → look I s ≡ silent (state_at l (pass_of p) i s.marks) → p < 3 → Moves I s (Some (stand l p i false)) s.marks
   goes s l p i e h =
-      (refl, h, sym (settle_hush I s (state_at l (pass_of p) i s.marks) e), subst (λ (k : Look). Falls I (moves_left I s) k) e (falls I s))
+      (refl, h, refl, sym (settle_hush I s (state_at l (pass_of p) i s.marks) e), subst (λ (k : Look). Falls I (moves_left I s) k) e (falls I s))
 
   -- from any two places past the last one a pass goes on alike
   past_alike : (b : ℕ) (p : Pass) (i j : ℕ) (m : List ℕ) → I ≤ i → I ≤ j → settle I (state_at (suc b) p i m) ≡ settle I (state_at (suc b) p j m)
@@ -146,129 +145,99 @@ module _ (I : ℕ) where
       on false q = past_alike b p i j m (ltb-false i I q) (omega (arith, ltb-false i I q))
 
   goes_behind : (b p i k r : ℕ) (m : List ℕ) → look I (state_at (suc b) (pass_of p) i m) ≡ silent (state_at (suc b) (pass_of p) k m) → (min r I ≡ min k I) × (i < r)
-      → i < I → p < 3 → Moves I (state_at (suc b) (pass_of p) i m) (Goes (suc b) p r) m
+      → i < I → p < 3 → Moves I (state_at (suc b) (pass_of p) i m) (Some (stand (suc b) p r false)) m
   goes_behind b p i k r m e f w h =
       let s = state_at (suc b) (pass_of p) i m in
-      (refl, h, alike b (pass_of p) r k m f.0 ∙ sym (settle_hush I s (state_at (suc b) (pass_of p) k m) e), omega (arith, f.1))
+      (refl, h, refl, alike b (pass_of p) r k m f.0 ∙ sym (settle_hush I s (state_at (suc b) (pass_of p) k m) e), omega (arith, f.1))
 
-  goes_over : (l p i k j : ℕ) (m n o : List ℕ) → Passed I (pass_of p) i m k n → Passed I (pass_of p) k n j o → 1 ≤ l → p < 3 → i < k → i < I → Moves I (state_at l (pass_of p) i m) (Goes l p j) o
+  goes_over : (l p i k j : ℕ) (m n o : List ℕ) → Passed I (pass_of p) i m k n → Passed I (pass_of p) k n j o → 1 ≤ l → p < 3 → i < k → i < I → Moves I (state_at l (pass_of p) i m) (Some (stand l p j false)) o
   goes_over zero p i k j m n o u v h q z w = absurd (omega arith)
-  goes_over (suc b) p i k j m n o u v h q z w = let y : i < j = omega (arith, v.on) in (v.long ∙ u.long, q, v.ahead b ∙ u.ahead b, omega arith)
+  goes_over (suc b) p i k j m n o u v h q z w = let y : i < j = omega (arith, v.on) in (v.long ∙ u.long, q, refl, v.ahead b ∙ u.ahead b, omega arith)
 
 module _ (I i : ℕ) (m : List ℕ) where
-  pub pixels_end : (l : ℕ) → 1 ≤ l → I ≤ i → Moves I (state_at l pixels i m) (Goes l 1 0) m
+  pub pixels_end : (l : ℕ) → 1 ≤ l → I ≤ i → Moves I (state_at l pixels i m) (Some (stand l 1 0 false)) m
   unfolding pass_of
   pixels_end zero h w = absurd (omega arith)
   pixels_end (suc b) h w = goes I (state_at (suc b) pixels i m) (suc b) 1 0 (rw (le-ltb i I w)) (lit< tt)
 
-  pub pixels_rests : (l : ℕ) → 1 ≤ l → i < I → get_or m i 0 ≡ MIP → Moves I (state_at l pixels i m) Rests m
+  pub pixels_rests : (l : ℕ) → 1 ≤ l → i < I → get_or m i 0 ≡ MIP → Moves I (state_at l pixels i m) None m
   pixels_rests zero h w e = absurd (omega arith)
   pixels_rests (suc b) h w e = rests I (state_at (suc b) pixels i m) (bit_of i b) (rw (lt-ltb i I w, eq-eqb (get_or m i 0) MIP e))
 
-  pub pixels_goes : (l r : ℕ) → (min r I ≡ min (i + skip (get_or m i 0)) I) × (i < r) → 1 ≤ l → i < I → (get_or m i 0 ≡ MIP → ⊥) → Moves I (state_at l pixels i m) (Goes l 0 r) m
+  pub pixels_goes : (l r : ℕ) → (min r I ≡ min (i + skip (get_or m i 0)) I) × (i < r) → 1 ≤ l → i < I → (get_or m i 0 ≡ MIP → ⊥) → Moves I (state_at l pixels i m) (Some (stand l 0 r false)) m
   unfolding pass_of
   pixels_goes zero r f h w e = absurd (omega arith)
   pixels_goes (suc b) r f h w e = goes_behind I b 0 i (i + skip (get_or m i 0)) r m (rw (lt-ltb i I w, ne_eqb (get_or m i 0) MIP e)) f w (lit< tt)
 
-  pub pixels_over : (l j : ℕ) → Passed I pixels (i + 1) m j m → 1 ≤ l → i < I → get_or m i 0 ≡ MSP → Moves I (state_at l pixels i m) (Goes l 0 j) m
+  pub pixels_over : (l j : ℕ) → Passed I pixels (i + 1) m j m → 1 ≤ l → i < I → get_or m i 0 ≡ MSP → Moves I (state_at l pixels i m) (Some (stand l 0 j false)) m
   unfolding pass_of
   pixels_over l j v h w e = goes_over I l 0 i (i + 1) j m m m (old_one I i m w e) v h (lit< tt) (omega arith) w
 
-  pub sets_end : (l : ℕ) → 1 ≤ l → I ≤ i → Moves I (state_at l sets i m) (Goes l 2 0) m
+  pub sets_end : (l : ℕ) → 1 ≤ l → I ≤ i → Moves I (state_at l sets i m) (Some (stand l 2 0 false)) m
   unfolding pass_of
   sets_end zero h w = absurd (omega arith)
   sets_end (suc b) h w = goes I (state_at (suc b) sets i m) (suc b) 2 0 (rw (le-ltb i I w)) (lit< tt)
 
-  pub sets_desc : (l : ℕ) → 1 ≤ l → i < I → get_or m i 0 ≡ MD → Moves I (state_at l sets i m) Rests m
-  sets_desc zero h w e = absurd (omega arith)
-  sets_desc (suc b) h w e = rests I (state_at (suc b) sets i m) (in_desc (i / 4) b) (rw (lt-ltb i I w, eq-eqb (get_or m i 0) MD e))
+  sets_asks : (b : ℕ) (d g : Bool) → eqb (get_or m i 0) MD ≡ d → eqb (get_or m i 0) MG ≡ g → i < I → MCP ≤ get_or m i 0 → get_or m i 0 ≤ MG
+      → Moves I (state_at (suc b) sets i m) None m
+  sets_asks b true g p q w h k = rests I (state_at (suc b) sets i m) (in_desc (i / 4) b) (rw (lt-ltb i I w, p))
+  sets_asks b false true p q w h k = rests I (state_at (suc b) sets i m) (in_grand (i / 16) b) (rw (lt-ltb i I w, p, q))
+  sets_asks b false false p q w h k =
+      let e : get_or m i 0 ≡ MCP = omega (arith, eqb-false (get_or m i 0) MD p, eqb-false (get_or m i 0) MG q, h, k) in
+      rests I (state_at (suc b) sets i m) (bit_of i b) (rw (lt-ltb i I w, p, q, eq-eqb (get_or m i 0) MCP e))
 
-  pub sets_grand : (l : ℕ) → 1 ≤ l → i < I → (get_or m i 0 ≡ MD → ⊥) → get_or m i 0 ≡ MG → Moves I (state_at l sets i m) Rests m
-  sets_grand zero h w d e = absurd (omega arith)
-  sets_grand (suc b) h w d e = rests I (state_at (suc b) sets i m) (in_grand (i / 16) b) (rw (lt-ltb i I w, ne_eqb (get_or m i 0) MD d, eq-eqb (get_or m i 0) MG e))
-
-  pub sets_rests : (l : ℕ) → 1 ≤ l → i < I → (get_or m i 0 ≡ MD → ⊥) → (get_or m i 0 ≡ MG → ⊥) → get_or m i 0 ≡ MCP → Moves I (state_at l sets i m) Rests m
-  sets_rests zero h w d g e = absurd (omega arith)
-  sets_rests (suc b) h w d g e =
-      rests I (state_at (suc b) sets i m) (bit_of i b) (rw (lt-ltb i I w, ne_eqb (get_or m i 0) MD d, ne_eqb (get_or m i 0) MG g, eq-eqb (get_or m i 0) MCP e))
+  -- each of the three marks that the set pass asks at
+  pub sets_rests : (l : ℕ) → 1 ≤ l → i < I → MCP ≤ get_or m i 0 → get_or m i 0 ≤ MG → Moves I (state_at l sets i m) None m
+  sets_rests zero h w e k = absurd (omega arith)
+  sets_rests (suc b) h w e k = sets_asks b (eqb (get_or m i 0) MD) (eqb (get_or m i 0) MG) refl refl w e k
 
   pub sets_goes : (l r : ℕ) → (min r I ≡ min (i + set_skip (get_or m i 0)) I) × (i < r) → 1 ≤ l → i < I → (get_or m i 0 ≡ MD → ⊥) → (get_or m i 0 ≡ MG → ⊥)
-      → (get_or m i 0 ≡ MCP → ⊥) → Moves I (state_at l sets i m) (Goes l 1 r) m
+      → (get_or m i 0 ≡ MCP → ⊥) → Moves I (state_at l sets i m) (Some (stand l 1 r false)) m
   unfolding pass_of
   sets_goes zero r f h w d g e = absurd (omega arith)
   sets_goes (suc b) r f h w d g e =
       goes_behind I b 1 i (i + set_skip (get_or m i 0)) r m (rw (lt-ltb i I w, ne_eqb (get_or m i 0) MD d, ne_eqb (get_or m i 0) MG g, ne_eqb (get_or m i 0) MCP e)) f w (lit< tt)
 
-  pub sets_over : (l j : ℕ) → Passed I sets (i + 4) m j m → 1 ≤ l → i < I → get_or m i 0 < MCP → Moves I (state_at l sets i m) (Goes l 1 j) m
+  pub sets_over : (l j : ℕ) → Passed I sets (i + 4) m j m → 1 ≤ l → i < I → get_or m i 0 < MCP → Moves I (state_at l sets i m) (Some (stand l 1 j false)) m
   unfolding pass_of
   sets_over l j v h w e = goes_over I l 1 i (i + 4) j m m m (alone_one I i m w e) v h (lit< tt) (omega arith) w
 
-  pub refining_end : (l : ℕ) → 1 ≤ l → I ≤ i → Moves I (state_at l refining i m) (Goes (l - 1) 0 0) m
+  pub refining_end : (l : ℕ) → 1 ≤ l → I ≤ i → Moves I (state_at l refining i m) (Some (stand (l - 1) 0 0 false)) m
   unfolding pass_of
   refining_end zero h w = absurd (omega arith)
   refining_end (suc b) h w = let e : suc b - 1 ≡ b = omega arith in goes I (state_at (suc b) refining i m) (suc b - 1) 0 0 (rw (le-ltb i I w, e)) (lit< tt)
 
-  pub refining_rests : (l : ℕ) → 1 ≤ l → i < I → get_or m i 0 ≡ MSP → Moves I (state_at l refining i m) Rests m
+  pub refining_rests : (l : ℕ) → 1 ≤ l → i < I → get_or m i 0 ≡ MSP → Moves I (state_at l refining i m) None m
   refining_rests zero h w e = absurd (omega arith)
   refining_rests (suc b) h w e = rests I (state_at (suc b) refining i m) (bit_of i b) (rw (lt-ltb i I w, eq-eqb (get_or m i 0) MSP e))
 
   pub refining_goes : (l r : ℕ) (x : Bool) (n : List ℕ) → (min r I ≡ min (i + skip (get_or m i 0)) I) × (i < r) → IsNew m i x n
-      → x ≡ false → 1 ≤ l → i < I → (get_or m i 0 ≡ MSP → ⊥) → Moves I (state_at l refining i m) (Goes l 2 r) n
+      → x ≡ false → 1 ≤ l → i < I → (get_or m i 0 ≡ MSP → ⊥) → Moves I (state_at l refining i m) (Some (stand l 2 r false)) n
   unfolding pass_of
   refining_goes zero r x n f u t h w d = absurd (omega arith)
   refining_goes (suc b) r x n f u t h w d =
       rw (new_same i m x n u t)
       (goes_behind I b 2 i (i + skip (get_or m i 0)) r m (rw (lt-ltb i I w, ne_eqb (get_or m i 0) MSP d, none_new i m x n u t)) f w (lit< tt))
 
-  pub refining_over : (l j : ℕ) (x : Bool) (n o : List ℕ) → Passed I refining (i + 1) n j o → IsNew m i x n
-      → x ≡ true → 1 ≤ l → i < I → Moves I (state_at l refining i m) (Goes l 2 j) o
-  unfolding pass_of
-  refining_over l j x n o v u t h w = goes_over I l 2 i (i + 1) j m n o (new_one i m x n u I t w) v h (lit< tt) (omega arith) w
+-- what a mark is that was written, the places behind it are passed over in the new marks
+pub refining_over : (i : ℕ) (m : List ℕ) (l j : ℕ) (x : Bool) (n o : List ℕ) → Passed (length n) refining (i + 1) n j o → IsNew m i x n
+    → x ≡ true → 1 ≤ l → i < length m → Moves (length m) (state_at l refining i m) (Some (stand l 2 j false)) o
+unfolding pass_of
+refining_over i m l j x n o v u t h w =
+    let p : Passed (length m) refining i m (i + 1) n = new_one i m x n u (length m) t w in
+    goes_over (length m) l 2 i (i + 1) j m n o p (rw p.long at v) h (lit< tt) (omega arith) w
 
--- ---- the loop over looks
+-- ---- all looks
 
--- a scan that is at rest where it stands, in the pass p
-still : (I p : ℕ) (s : State) (t : Stand) → settle I s ≡ s → s.pass ≡ pass_of p → t ≡ stand s.left p s.place s.pending → p < 3
-    → (t ≡ stand_of (settle I s)) × (s.marks ≡ (settle I s).marks)
-still I p s t e f q h = (q ∙ ap {B = Stand} (λ (k : ℕ). stand s.left k s.place s.pending) (sym (pass_back p h) ∙ ap pass_number (sym f)) ∙ ap stand_of (sym e), ap (λ (r : State). r.marks) (sym e))
+-- the scan rests where a sign is pending, and where no plane is left
+rests_pending : (I : ℕ) (t : Stand) (m : List ℕ) → t.pending ≡ true → (l : ℕ) → t.left ≡ l → settle I (state_of t m) ≡ state_of t m
+rests_pending I t m e zero q = settle_over I (state_of t m) (rw q)
+rests_pending I t m e (suc b) q = settle_asks I (state_of t m) (sign_of t.place) (rw (q, e))
 
--- where a sign is pending the scan rests
-pub rests_pending : (I : ℕ) (t : Stand) (m : List ℕ) → t.pending ≡ true → t.pass < 3 → (t ≡ stand_of (settle I (state_of t m))) × (m ≡ (settle I (state_of t m)).marks)
-rests_pending I t m e h = still I t.pass (state_of t m) t (on t.left refl) refl refl h
-  where
-    on : (l : ℕ) → t.left ≡ l → settle I (state_of t m) ≡ state_of t m
-    on zero q = settle_over I (state_of t m) (rw q)
-    on (suc b) q = settle_asks I (state_of t m) (sign_of t.place) (rw (q, e))
+pub rests_either : (I : ℕ) (t : Stand) (m : List ℕ) → (t.pending ≡ true) ⊎ ((t.pending ≡ false) × (t.left ≡ 0)) → Moves I (state_of t m) None m
+rests_either I t m (inl e) = (refl, rests_pending I t m e t.left refl)
+rests_either I t m (inr e) = (refl, settle_over I (state_of t m) (rw e.1))
 
--- and where none is, they are those from its place
-pub from_place : (I : ℕ) (t : Stand) (m : List ℕ) → t.pending ≡ false → settle I (state_at t.left (pass_of t.pass) t.place m) ≡ settle I (state_of t m)
-from_place I t m e = ap (λ (w : Bool). settle I (record { left = t.left; pass = pass_of t.pass; place = t.place; pending = w; marks = m })) (sym e)
-
--- the silent moves from here on lead to g
-pub record Leads (I : ℕ) (g : State) (l p i : ℕ) (m : List ℕ) : Type 0 where
-  pub same : settle I (state_at l (pass_of p) i m) ≡ g
-  pub known : p < 3
-  pub long : length m ≡ I
-
-module _ (I : ℕ) (g : State) (l p i : ℕ) (m : List ℕ) (j : Leads I g l p i m) where
-  pub leads_on : (a : Ahead) (l' p' i' : ℕ) (m' : List ℕ) → Moves I (state_at l (pass_of p) i m) a m' → a ≡ Goes l' p' i' → Leads I g l' p' i' m'
-  leads_on a l' p' i' m' v e =
-      let w : Moves I (state_at l (pass_of p) i m) (Goes l' p' i') m' = subst (λ (x : Ahead). Moves I (state_at l (pass_of p) i m) x m') e v in
-      record { same = w.2 ∙ j.same; known = w.1; long = w.0 ∙ j.long }
-
-  pub leads_less : (a : Ahead) (l' p' i' : ℕ) (m' : List ℕ) → Moves I (state_at l (pass_of p) i m) a m' → a ≡ Goes l' p' i'
-      → moves_left I (state_at l' (pass_of p') i' m') < moves_left I (state_at l (pass_of p) i m)
-  leads_less a l' p' i' m' v e =
-      let w : Moves I (state_at l (pass_of p) i m) (Goes l' p' i') m' = subst (λ (x : Ahead). Moves I (state_at l (pass_of p) i m) x m') e v in w.3
-
-  there : (k : State) (t : Stand) (m' : List ℕ) → settle I (state_at l (pass_of p) i m) ≡ state_at l (pass_of p) i m → t ≡ stand l p i false → m' ≡ m → g ≡ k → (t ≡ stand_of k) × (m' ≡ k.marks)
-  there k t m' e q n z =
-      let r = still I p (state_at l (pass_of p) i m) t e refl q j.known in
-      (r.0 ∙ ap stand_of (j.same ∙ z), n ∙ r.1 ∙ ap (λ (x : State). x.marks) (j.same ∙ z))
-
-  pub leads_rests : (k : State) (a : Ahead) (t : Stand) (m' : List ℕ) → Moves I (state_at l (pass_of p) i m) a m' → a ≡ Rests → t ≡ stand l p i false → g ≡ k → (t ≡ stand_of k) × (m' ≡ k.marks)
-  leads_rests k a t m' v e q z =
-      let w : Moves I (state_at l (pass_of p) i m) Rests m' = subst (λ (x : Ahead). Moves I (state_at l (pass_of p) i m) x m') e v in there k t m' w.1 q w.0 z
-
-  pub leads_over : (k : State) (t : Stand) → l ≤ 0 → t ≡ stand l p i false → g ≡ k → (t ≡ stand_of k) × (m ≡ k.marks)
-  leads_over k t h q z = let n : l ≡ 0 = omega arith in there k t m (settle_over I (state_at l (pass_of p) i m) (rw n)) q refl z
+-- where it rests it stands as it is settled
+pub rests_there : (I : ℕ) (t : Stand) (m : List ℕ) → t.pass < 3 → settle I (state_of t m) ≡ state_of t m → t ≡ stand_of (settle I (state_of t m))
+rests_there I t m h e = ap {B = Stand} (λ (p : ℕ). stand t.left p t.place t.pending) (sym (pass_back t.pass h)) ∙ ap stand_of (sym e)

@@ -1,10 +1,10 @@
 -- Words of inner contracts, which no promise to a caller uses: an answer and the silent moves after it, in a table of any marks.
-use Rattle.std.specs.Prelude.{ℕ, suc, ◌≤◌, ◌<◌}
 use mathlib.Core.{Path.◌≡◌, Bool.Bool, Bool.true, Bool.false, Bool.◌&&◌, List.List}
 use lib.{Dec.ltb, Dec.eqb, ListN.length, ListN.get_or}
+use Rattle.std.specs.Prelude.{ℕ, suc, ◌≤◌, ◌<◌, Option, Some, None}
 use Rattle.nls.specs.{Marks.MD, Marks.MG, Scan.Pass, Scan.pixels, Scan.sets, Scan.refining, Scan.State, Scan.state_at, Scan.tell_at, Scan.tell_sets, Scan.settle, Scan.moves_left}
 use Rattle.marking.specs.Marking.{grand_split_marks, in_table}
-use Rattle.moves.specs.{Stands.pass_of, declared.Stand.Stand, declared.Ahead.Ahead, declared.Ahead.TheVariants.Rests, declared.Ahead.TheVariants.Goes}
+use Rattle.moves.specs.{Stands.state_of, declared.Stand.Stand}
 
 module _ (I : ℕ) where
   -- What follows an answer: as `tell` of crate nls has it, but that the pushes of a GRAND that is split end with the codes. In no state
@@ -28,10 +28,11 @@ module _ (I : ℕ) where
   abbrev pub onward : State → Bool → State
   onward s a = settle I (told s a)
 
-  -- A look leaves the scan at rest, or moves silently: what is ahead stays the same, and fewer moves are left.
-  abbrev pub Moves : State → Ahead → List ℕ → Type 0
-  Moves s Rests m = (m ≡ s.marks) × (settle I s ≡ s)
-  Moves s (Goes l p i) m = (length m ≡ length s.marks) × (p < 3) × (settle I (state_at l (pass_of p) i m) ≡ settle I s) × (moves_left I (state_at l (pass_of p) i m) < moves_left I s)
+  -- The scan rests where it stands, at a question or its end; or it moves silently to where no sign is pending: what is ahead stays the
+  -- same, and fewer moves are left.
+  abbrev pub Moves : State → Option Stand → List ℕ → Type 0
+  Moves s None m = (m ≡ s.marks) × (settle I s ≡ s)
+  Moves s (Some t) m = (length m ≡ length s.marks) × (t.pass < 3) × (t.pending ≡ false) × (settle I (state_of t m) ≡ settle I s) × (moves_left I (state_of t m) < moves_left I s)
 
   -- From place i to place j a pass asks nothing, and the marks m become m': what is ahead stays the same.
   pub record Passed (p : Pass) (i : ℕ) (m : List ℕ) (j : ℕ) (m' : List ℕ) : Type 0 where

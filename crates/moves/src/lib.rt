@@ -5,7 +5,7 @@ ghost use Rattle.std.specs.Prelude.{◌≡◌, true, false, cond, ◌||◌, ◌+
 ghost use Rattle.sizes.specs.Sizes.{most_n, all_of};
 ghost use Rattle.nls.specs.Marks.{MIP, MNP, MSP, skip};
 ghost use Rattle.nls.specs.Scan.{pixels, sets, refining, state_at, settle};
-ghost use Rattle.moves.specs.Stands.{pass_of, stand, state_of, stand_of};
+ghost use Rattle.moves.specs.Stands.{stand, state_of, stand_of};
 ghost use Rattle.moves.specs.Moves.{told, onward, Moves, Passed, stand_fits};
 
 // Where the scan stands: the planes that are not finished, the pass (0, 1 or 2), the place, and whether a sign is pending.
@@ -15,13 +15,6 @@ pub struct Stand {
     pub pass: u32,
     pub place: usize,
     pub pending: bool,
-}
-
-// What the scan does next: it rests, at a question or at its end, or goes on to these planes left, pass and place.
-#[derive(Clone, Copy)]
-pub enum Ahead {
-    Rests,
-    Goes(u32, u32, usize),
 }
 
 // At a place, with no sign pending; and with one.
@@ -47,28 +40,29 @@ fn waiting(left: u32, pass: u32, place: usize) -> Stand
     }
 }
 
-// Behind a mark; a code without a meaning skips all. In the set pass this is asked of the marks of sets alone.
-fn behind(all: usize, mark: u8, place: usize) -> usize
-    requires { (place < all) × (all ≤ all_of most_n) }
-    ensures { (min result all ≡ min (place + skip mark) all) × (place < result) }
+// Behind the mark at a place; a code without a meaning skips all. In the set pass this is asked of the marks of sets alone.
+fn behind(marks: &[u8], place: usize) -> usize
+    requires { (place < length marks.now) × (length marks.now ≤ all_of most_n) }
+    ensures { (min result (length marks.now) ≡ min (place + skip (get_or marks.now place 0)) (length marks.now)) × (place < result) }
 {
+    let mark = marks[place];
     if mark < marking::CODES_END {
         return place + marking::skip(mark);
     }
-    all
+    marks.len()
 }
 
 // Over the coefficients from a place on that were found before this plane, four at a time where it can be: the pixel pass asks
 // nothing there.
-fn over_old(marks: &[u8], all: usize, place: usize) -> usize
-    requires { (length marks.now ≡ all) × (all ≤ all_of most_n) }
-    ensures { Passed all pixels place marks.now result marks.now }
+fn over_old(marks: &[u8], place: usize) -> usize
+    requires { length marks.now ≤ all_of most_n }
+    ensures { Passed (length marks.now) pixels place marks.now result marks.now }
 {
     let mut at = place;
     while marking::same_four(marks, at, marking::MSP) {
         at += 4;
     }
-    while at < all {
+    while at < marks.len() {
         if marks[at] != marking::MSP {
             return at;
         }
@@ -78,12 +72,12 @@ fn over_old(marks: &[u8], all: usize, place: usize) -> usize
 }
 
 // Over the fours from a place on that are in no set: the set pass asks nothing there.
-fn over_alone(marks: &[u8], all: usize, place: usize) -> usize
-    requires { (length marks.now ≡ all) × (all ≤ all_of most_n) }
-    ensures { Passed all sets place marks.now result marks.now }
+fn over_alone(marks: &[u8], place: usize) -> usize
+    requires { length marks.now ≤ all_of most_n }
+    ensures { Passed (length marks.now) sets place marks.now result marks.now }
 {
     let mut at = place;
-    while at < all {
+    while at < marks.len() {
         if marking::MCP <= marks[at] {
             return at;
         }
@@ -108,16 +102,16 @@ fn is_new(marks: &mut [u8], place: usize) -> bool
 }
 
 // Over such coefficients from a place on, four at a time where it can be.
-fn over_new(marks: &mut [u8], all: usize, place: usize) -> usize
-    requires { (length marks.old ≡ all) × (all ≤ all_of most_n) }
-    ensures { Passed all refining place marks.old result marks.new }
+fn over_new(marks: &mut [u8], place: usize) -> usize
+    requires { length marks.old ≤ all_of most_n }
+    ensures { Passed (length marks.old) refining place marks.old result marks.new }
 {
     let mut at = place;
     while marking::same_four(marks, at, marking::MNP) {
         marking::set_four(marks, at, marking::MSP);
         at += 4;
     }
-    while at < all {
+    while at < marks.len() {
         if !is_new(marks, at) {
             return at;
         }
@@ -127,110 +121,84 @@ fn over_new(marks: &mut [u8], all: usize, place: usize) -> usize
 }
 
 // A place of the pixel pass.
-fn look_pixels(marks: &[u8], all: usize, left: u32, place: usize) -> Ahead
-    requires { (length marks.now ≡ all) × (all ≤ all_of most_n) × (1 ≤ left) }
-    ensures { Moves all (state_at left pixels place marks.now) result marks.now }
+fn look_pixels(marks: &[u8], from: Stand) -> Option<Stand>
+    requires { (length marks.now ≤ all_of most_n) × (1 ≤ from.left) }
+    ensures { Moves (length marks.now) (state_at from.left pixels from.place marks.now) result marks.now }
 {
-    if all <= place {
-        return Ahead::Goes(left, 1, 0);
+    if marks.len() <= from.place {
+        return Some(at(from.left, 1, 0));
     }
-    let mark = marks[place];
+    let mark = marks[from.place];
     if mark == marking::MIP {
-        return Ahead::Rests;
+        return None;
     }
     if mark == marking::MSP {
-        let next = over_old(marks, all, place + 1);
-        return Ahead::Goes(left, 0, next);
+        return Some(at(from.left, 0, over_old(marks, from.place + 1)));
     }
-    let next = behind(all, mark, place);
-    Ahead::Goes(left, 0, next)
+    Some(at(from.left, 0, behind(marks, from.place)))
 }
 
 // A place of the set pass.
-fn look_sets(marks: &[u8], all: usize, left: u32, place: usize) -> Ahead
-    requires { (length marks.now ≡ all) × (all ≤ all_of most_n) × (1 ≤ left) }
-    ensures { Moves all (state_at left sets place marks.now) result marks.now }
+fn look_sets(marks: &[u8], from: Stand) -> Option<Stand>
+    requires { (length marks.now ≤ all_of most_n) × (1 ≤ from.left) }
+    ensures { Moves (length marks.now) (state_at from.left sets from.place marks.now) result marks.now }
 {
-    if all <= place {
-        return Ahead::Goes(left, 2, 0);
+    if marks.len() <= from.place {
+        return Some(at(from.left, 2, 0));
     }
-    let mark = marks[place];
+    let mark = marks[from.place];
     if mark < marking::MCP {
-        let next = over_alone(marks, all, place + 4);
-        return Ahead::Goes(left, 1, next);
+        return Some(at(from.left, 1, over_alone(marks, from.place + 4)));
     }
-    if mark == marking::MD {
-        return Ahead::Rests;
+    if mark == marking::MCP || mark == marking::MD || mark == marking::MG {
+        return None;
     }
-    if mark == marking::MG {
-        return Ahead::Rests;
-    }
-    if mark == marking::MCP {
-        return Ahead::Rests;
-    }
-    let next = behind(all, mark, place);
-    Ahead::Goes(left, 1, next)
+    Some(at(from.left, 1, behind(marks, from.place)))
 }
 
 // A place of the refinement pass. Behind the last one the plane has ended.
-fn look_refining(marks: &mut [u8], all: usize, left: u32, place: usize) -> Ahead
-    requires { (length marks.old ≡ all) × (all ≤ all_of most_n) × (1 ≤ left) }
-    ensures { Moves all (state_at left refining place marks.old) result marks.new }
+fn look_refining(marks: &mut [u8], from: Stand) -> Option<Stand>
+    requires { (length marks.old ≤ all_of most_n) × (1 ≤ from.left) }
+    ensures { Moves (length marks.old) (state_at from.left refining from.place marks.old) result marks.new }
 {
-    if all <= place {
-        return Ahead::Goes(left - 1, 0, 0);
+    if marks.len() <= from.place {
+        return Some(at(from.left - 1, 0, 0));
     }
-    let mark = marks[place];
-    if mark == marking::MSP {
-        return Ahead::Rests;
+    if marks[from.place] == marking::MSP {
+        return None;
     }
-    if is_new(marks, place) {
-        let next = over_new(marks, all, place + 1);
-        return Ahead::Goes(left, 2, next);
+    if is_new(marks, from.place) {
+        return Some(at(from.left, 2, over_new(marks, from.place + 1)));
     }
-    let next = behind(all, mark, place);
-    Ahead::Goes(left, 2, next)
+    Some(at(from.left, 2, behind(marks, from.place)))
 }
 
-// A place of a pass.
-fn look(marks: &mut [u8], all: usize, left: u32, pass: u32, place: usize) -> Ahead
-    requires { (length marks.old ≡ all) × (all ≤ all_of most_n) × (1 ≤ left) }
-    ensures { Moves all (state_at left (pass_of pass) place marks.old) result marks.new }
+// Where the scan goes on to by itself, if it does: it rests at a question and at its end.
+fn look(marks: &mut [u8], from: Stand) -> Option<Stand>
+    requires { length marks.old ≤ all_of most_n }
+    ensures { Moves (length marks.old) (state_of from marks.old) result marks.new }
 {
-    if pass == 0 {
-        return look_pixels(marks, all, left, place);
+    if from.pending || from.left == 0 {
+        return None;
     }
-    if pass == 1 {
-        return look_sets(marks, all, left, place);
+    match from.pass {
+        0 => look_pixels(marks, from),
+        1 => look_sets(marks, from),
+        _ => look_refining(marks, from),
     }
-    look_refining(marks, all, left, place)
 }
 
 // All silent moves, up to a question or the end.
-fn rest(marks: &mut [u8], all: usize, from: Stand) -> Stand
-    requires { (length marks.old ≡ all) × (all ≤ all_of most_n) × (from.pass < 3) }
-    ensures stand { result ≡ stand_of (settle all (state_of from marks.old)) }
-    ensures marked { marks.new ≡ (settle all (state_of from marks.old)).marks }
+fn rest(marks: &mut [u8], from: Stand) -> Stand
+    requires { (length marks.old ≤ all_of most_n) × (from.pass < 3) }
+    ensures stand { result ≡ stand_of (settle (length marks.old) (state_of from marks.old)) }
+    ensures marked { marks.new ≡ (settle (length marks.old) (state_of from marks.old)).marks }
 {
-    if from.pending {
-        return from;
+    let mut stand = from;
+    while let Some(next) = look(marks, stand) {
+        stand = next;
     }
-    let mut left = from.left;
-    let mut pass = from.pass;
-    let mut place = from.place;
-    while 0 < left {
-        match look(marks, all, left, pass, place) {
-            Ahead::Rests => {
-                return at(left, pass, place);
-            }
-            Ahead::Goes(l, p, i) => {
-                left = l;
-                pass = p;
-                place = i;
-            }
-        }
-    }
-    at(left, pass, place)
+    stand
 }
 
 // The answer to a question of the set pass.
@@ -276,16 +244,12 @@ fn tell(marks: &mut [u8], from: Stand, bit: bool) -> Stand
         marks[place] = marking::MNP;
         return at(left, pass, place + 1);
     }
-    if pass == 1 {
-        return tell_sets(marks, from, bit);
+    match pass {
+        0 if bit => waiting(left, 0, place),
+        0 => at(left, 0, place + 1),
+        1 => tell_sets(marks, from, bit),
+        _ => at(left, 2, place + 1),
     }
-    if pass == 0 {
-        if bit {
-            return waiting(left, 0, place);
-        }
-        return at(left, 0, place + 1);
-    }
-    at(left, 2, place + 1)
 }
 
 // Whether the scan stands so in a table of this many marks.
@@ -306,10 +270,9 @@ pub fn go_on(marks: &mut [u8], from: Stand, bit: bool) -> Stand
     ensures stand { result ≡ cond (stand_fits (length marks.old) from) (stand_of (onward (length marks.old) (state_of from marks.old) bit)) from }
     ensures marked { marks.new ≡ cond (stand_fits (length marks.old) from) (onward (length marks.old) (state_of from marks.old) bit).marks marks.old }
 {
-    let all = marks.len();
-    if stand_fits(all, from) {
+    if stand_fits(marks.len(), from) {
         let told = tell(marks, from, bit);
-        return rest(marks, all, told);
+        return rest(marks, told);
     }
     from
 }

@@ -8,14 +8,17 @@ use borrow.Author.Tests.{eqb-true, eq-eqb, le-leb}
 use lib.IntN.{ℤ}
 use lib.ListN.{length, take, drop}
 use lib.Seq.{take_at}
-use Rattle.refusals.specs.Checks.{first_failing, lent_after}
-use Rattle.refusals.specs.declared.Outcome.{Outcome}
-use Rattle.refusals.specs.declared.Outcome.TheVariants.{Done}
+use Rattle.std.specs.Prelude.{Ok}
+use Rattle.refusals.specs.Checks.{first_failing, lent_after, Outcome}
 use Rattle.refusals.proofs.Laws.{AllHold, passed, all_pass, lent_done}
 use Rattle.sizes.specs.Sizes.{all_of}
 use Rattle.sizes.proofs.Laws.{sized, both}
 use Rattle.coef.specs.Coef.{first_over, planes_of, IsPlanes}
 use Rattle.coef.proofs.Laws.{planes_of_lem}
+use Rattle.transform.specs.Transform.{coefficients_of, samples_of}
+use Rattle.transform.specs.Answers.{first_outside, transform_checks, entry_checks, restore_checks, restored_of, Transforms, Restores, HasCoefficients}
+use Rattle.transform.proofs.Ends.{coefficients_length, restored_all}
+use Rattle.transform.proofs.Demands.{never_over, planes_most, restored_only}
 use Rattle.tree.specs.Summaries.{lent_checks}
 use Rattle.nls.specs.Stream.{stream}
 use Rattle.nls.specs.Reading.{Between}
@@ -23,17 +26,11 @@ use Rattle.room.specs.Room.{room_in, room_checks, write_checks}
 use Rattle.encoder.specs.Body.{Loan}
 use Rattle.decoder.specs.Body.{Tables}
 use Rattle.txp.specs.declared.Encoded.{Encoded}
-use Rattle.txp.specs.declared.EncodeAnswer.TheVariants as encode
-use Rattle.txp.specs.declared.DecodeAnswer.{DecodeAnswer}
-use Rattle.txp.specs.Calls.{Encodes, Decodes}
+use Rattle.txp.specs.Calls.{Encodes, Decodes, DecodeAnswer}
 use Rattle.txp.proofs.Demands.{given_back_by}
-use Rattle.transform.specs.Transform.{coefficients_of, samples_of}
-use Rattle.transform.specs.Answers.{first_outside, transform_checks, entry_checks, restore_checks, restored_of, Transforms, Restores, HasCoefficients}
-use Rattle.transform.proofs.Ends.{coefficients_length, restored_all}
-use Rattle.transform.proofs.Demands.{never_over, planes_most, restored_only}
 
 -- The samples S are transformed, which is done: `out` and `work` are what is lent before, `out'` and `work'` after it.
-module _ (N L : ℕ) (S out work out' work' : List ℤ) (transforms : Transforms N L S out work Done out' work') where
+module _ (N L : ℕ) (S out work out' work' : List ℤ) (transforms : Transforms N L S out work (Ok tt) out' work') where
   -- what was checked
   all : AllHold (transform_checks N L S (length out) (length work))
   all = passed (transform_checks N L S (length out) (length work)) (sym transforms.answered)
@@ -68,7 +65,7 @@ module _ (N L : ℕ) (S out work out' work' : List ℤ) (transforms : Transforms
 
   -- They are encoded, which is done; the budget cuts nothing. The file is decoded, by `lower` or by `midpoint`, into tables that are long enough, and the values are restored into arrays that are.
   module _ (budget : ℕ) (narrow : budget < 2 ^ 32) (whole : length (stream N L (planes_of (take (all_of N) out')) (take (all_of N) out')) ≤ budget)
-      (held left : Loan) (e : Encoded) (encodes : Encodes N L (take (all_of N) out') budget held (encode.Done e) left)
+      (held left : Loan) (e : Encoded) (encodes : Encodes N L (take (all_of N) out') budget held (Ok e) left)
       (given after : Tables) (answer : DecodeAnswer) (room : room_in (all_of N) (length given.values) (length given.precisions) (length given.marks) ≡ true)
       (rule : ℕ → ℕ → ℕ) (fair : Between rule) (decodes : Decodes rule (take e.bytes left.out) given answer after)
       (to spare to' spare' : List ℤ) (r : Outcome) (to_long : all_of N ≤ length to) (spare_long : all_of N ≤ length spare)
@@ -78,11 +75,11 @@ module _ (N L : ℕ) (S out work out' work' : List ℤ) (transforms : Transforms
     coefficients_back =
         let C = take (all_of N) out' in
         let long : length C ≡ all_of N = ap length coefficients_stand ∙ coefficients_length N L S in
-        let t = given_back_by N L C budget held left (encode.Done e) encodes e refl narrow rule given after answer room decodes fair whole in
+        let t = given_back_by N L C budget held left (Ok e) encodes e refl narrow rule given after answer room decodes fair whole in
         ap (λ (x : Tables). take (all_of N) x.values) t.1 ∙ take_at C (drop (all_of N) given.values) (all_of N) long ∙ coefficients_stand
 
     -- none of 1 to 5 refuses them
-    entered : first_failing (entry_checks N L (coefficients_of N L S) (length to) (length spare)) ≡ Done
+    entered : first_failing (entry_checks N L (coefficients_of N L S) (length to) (length spare)) ≡ Ok tt
     unfolding AllHold
     entered =
         let C = coefficients_of N L S in
@@ -90,7 +87,7 @@ module _ (N L : ℕ) (S out work out' work' : List ℤ) (transforms : Transforms
         (all.0, (all.1.0, (eq-eqb (length C) (all_of N) (coefficients_length N L S), (eq-eqb (first_over C) (length C) (never_over N L levels S inside), (both (le-leb (all_of N) (length to) to_long) (le-leb (all_of N) (length spare) spare_long), tt)))))
 
     -- nor does 18: restoring them is done, and gives the samples. "Forward then back is exact"
-    pub picture_back : (r ≡ Done) × (to' ≡ S ++ drop (all_of N) to)
+    pub picture_back : (r ≡ Ok tt) × (to' ≡ S ++ drop (all_of N) to)
     picture_back =
         let C = coefficients_of N L S in
         let has : HasCoefficients N L S C = record { size = size; inside = inside; gives = refl } in

@@ -86,3 +86,19 @@ fill_four q at step f A held to e h same =
   where
     one : (j i k : ℕ) → k < 4 → i ≡ at + away step k → j ≡ q + k → set (table j f ++ drop j held) j (get_or A i (pos 0)) ≡ table (suc j) f ++ drop (suc j) held
     one j i k l x y = fill_step j f held (get_or A i (pos 0)) (omega arith) (ap (λ (z : ℕ). get_or A z (pos 0)) x ∙ same k l ∙ ap f (sym y))
+
+-- four entries more of an array in linear order, and of one in raster order
+module _ (n q at : ℕ) (A held to : List ℤ) (e : q % 4 ≡ 0) (h : q + 3 < length held) where
+  pub linear_more : (side : ℕ) → 1 ≤ n → side ≡ 2 ^ n → at ≡ to_raster n q → to ≡ table q (λ k. get_or A (to_raster n k) (pos 0)) ++ drop q held
+      → set (set (set (set to q (get_or A at (pos 0))) (q + 1) (get_or A (at + 1) (pos 0))) (q + 2) (get_or A (at + side) (pos 0))) (q + 3) (get_or A (at + side + 1) (pos 0))
+      ≡ table (q + 4) (λ k. get_or A (to_raster n k) (pos 0)) ++ drop (q + 4) held
+  linear_more side g s p t =
+      fill_four q at side (λ k. get_or A (to_raster n k) (pos 0)) A held to t h
+      (λ k l. ap (λ (x : ℕ). get_or A x (pos 0)) {x = at + away side k} {y = to_raster n (q + k)} (omega (arith, ap (λ (x : ℕ). k / 2 * x) s, raster_four n q k g e l)))
+
+  pub raster_more : 2 ≤ n → at ≡ to_linear n q → to ≡ table q (λ k. get_or A (to_linear n k) (pos 0)) ++ drop q held
+      → set (set (set (set to q (get_or A at (pos 0))) (q + 1) (get_or A (at + 1) (pos 0))) (q + 2) (get_or A (at + 4) (pos 0))) (q + 3) (get_or A (at + 4 + 1) (pos 0))
+      ≡ table (q + 4) (λ k. get_or A (to_linear n k) (pos 0)) ++ drop (q + 4) held
+  raster_more g p t =
+      fill_four q at 4 (λ k. get_or A (to_linear n k) (pos 0)) A held to t h
+      (λ k l. ap (λ (x : ℕ). get_or A x (pos 0)) {x = at + away 4 k} {y = to_linear n (q + k)} (omega (arith, linear_four n q k g e l)))

@@ -1,93 +1,34 @@
 -- What each way through a visit of the decoder leaves, from what the code's calls have done.
-use Prim.Native.Nat.{ℕ, suc, ◌+◌, ◌*◌, ◌-◌, ◌/◌, ◌%◌, ◌≤◌, ◌<◌}
+use Prim.Native.Nat.{ℕ, ◌+◌, ◌*◌, ◌/◌, ◌≤◌, ◌<◌}
 use mathlib.Core.Path.{◌≡◌, refl, sym, ap, subst, ◌∙◌}
 use mathlib.Core.Bool.{Bool, true, false, ◌&&◌}
 use mathlib.Core.List.{List}
 use native.Mathlib.Omega.{arith}
 use borrow.Author.Tests.{eq-eqb, ne_eqb, le-leb, lt-leb, lt-ltb, leb-true, ltb-true}
-use lib.Dec.{eqb, ltb, leb}
+use lib.Dec.{ltb, leb}
 use lib.IntN.{ℤ}
 use lib.ListN.{length, set, get_or}
+use Rattle.std.specs.Prelude.{Ok, Err}
 use Rattle.sizes.specs.Sizes.{most_n, most_planes, all_of}
 use Rattle.sizes.proofs.Laws.{both_left, both_right}
-use Rattle.bits.specs.declared.Next.{Next}
-use Rattle.bits.specs.declared.Next.TheVariants.{Bit, NoMore}
 use Rattle.bits.specs.declared.Why.{Why}
-use Rattle.bits.specs.Bits.{bit_at}
+use Rattle.bits.specs.Bits.{bit_at, Next}
 use Rattle.view.specs.View.{viewed}
 use Rattle.view.proofs.Laws.{viewed_bit, viewed_within, viewed_past}
 use Rattle.coef.specs.Coef.{at}
 use Rattle.nls.specs.Scan.{Question, bit_of, sign_of, in_desc, in_grand, pixels, sets}
-use Rattle.walk.specs.Scans.{Seen, halt, refuse, move}
 use Rattle.marking.specs.Marking.{skip_of, set_skip_of, desc_split_marks, grand_split_marks}
+use Rattle.marking.proofs.Laws.{skip_low, skip_in, set_skip_in}
+use Rattle.walk.specs.Scans.{Seen, halt, refuse, move}
 use Rattle.walk.specs.Visits.{Source, got, Sv, sv, one_seen, test_seen, pixels_seen, sets_seen, refining_seen, visit_seen}
-use Rattle.reading.specs.Reading.{Read, read, new_code, more_code, keep, is, child_clash, grand_clash, last_clash, root_clash, desc_clash, bars_at, bars_fit, bars_zero, reader, st, Does, Sizes}
+use Rattle.walk.proofs.VisitLaws.{one_none, one_zero, one_bad, one_cut, one_one, test_none, test_zero, test_bad, test_one, pixels_own, pixels_skip, refining_none, refining_own, refining_new, refining_skip, sets_one, sets_desc, sets_grand, sets_skip, visit_pixels, visit_sets, visit_refining}
+use Rattle.reading.specs.Reading.{Read, read, new_code, more_code, keep, child_clash, grand_clash, last_clash, root_clash, desc_clash, bars_at, bars_fit, reader, st, Does, Sizes}
 use Rattle.reading.specs.declared.Turn.{Turn}
 use Rattle.reading.specs.declared.Turn.TheVariants.{Stop, Bad, Go}
-use Rattle.marking.proofs.Laws.{skip_low, skip_in, set_skip_in}
-use Rattle.walk.proofs.VisitLaws.{one_none, one_zero, one_bad, one_cut, one_one, test_none, test_zero, test_bad, test_one, pixels_own, pixels_skip, refining_none, refining_own, refining_new, refining_skip, sets_one, sets_desc, sets_grand, sets_skip, visit_pixels, visit_sets, visit_refining}
 
 -- ---- the tests of refusal 12
 
-module _ (m : List ℕ) (p q r code : ℕ) where
-  pub three_1 : (get_or m p 0 ≡ code → ⊥) → false ≡ (is m p code && (is m q code && is m r code))
-  three_1 h = rw (ne_eqb (get_or m p 0) code h)
-
-  pub three_2 : get_or m p 0 ≡ code → (get_or m q 0 ≡ code → ⊥) → false ≡ (is m p code && (is m q code && is m r code))
-  three_2 e h = rw (eq-eqb (get_or m p 0) code e, ne_eqb (get_or m q 0) code h)
-
-  pub three_3 : get_or m p 0 ≡ code → get_or m q 0 ≡ code → eqb (get_or m r 0) code ≡ (is m p code && (is m q code && is m r code))
-  three_3 e f = rw (eq-eqb (get_or m p 0) code e, eq-eqb (get_or m q 0) code f)
-
-module _ (I t : ℕ) (m : List ℕ) where
-  pub child_1 : (t % 4 ≡ 3 → ⊥) → false ≡ child_clash I t m
-  unfolding child_clash
-  child_1 h = rw (ne_eqb (t % 4) 3 h)
-
-  pub child_2 : t % 4 ≡ 3 → 16 * (t / 4) < I → false ≡ child_clash I t m
-  unfolding child_clash
-  child_2 e h = rw (eq-eqb (t % 4) 3 e, lt-leb I (16 * (t / 4)) h)
-
-  pub child_3 : (z : Bool) → t % 4 ≡ 3 → I ≤ 16 * (t / 4) → z ≡ (is m (t - 1) 1 && (is m (t - 2) 1 && is m (t - 3) 1)) → z ≡ child_clash I t m
-  unfolding child_clash
-  child_3 z e h w = rw (eq-eqb (t % 4) 3 e, le-leb I (16 * (t / 4)) h) w
-
-  pub one_in : (s : Bool) (z : Bool) → s ≡ true → z ≡ child_clash I t m → z ≡ (s && child_clash I t m)
-  one_in s z e w = rw e w
-
-  pub one_not : (s : Bool) → s ≡ false → false ≡ (s && child_clash I t m)
-  one_not s e = rw e
-
-module _ (t : ℕ) (m : List ℕ) where
-  pub grand_1 : (get_or m (4 * (t / 16)) 0 ≡ 1 → ⊥) → false ≡ grand_clash t m
-  unfolding grand_clash
-  grand_1 h = rw (ne_eqb (get_or m (4 * (t / 16)) 0) 1 h)
-
-  pub grand_2 : (z : Bool) → get_or m (4 * (t / 16)) 0 ≡ 1 → z ≡ (is m (4 * (t / 16) + 1) 1 && (is m (4 * (t / 16) + 2) 1 && is m (4 * (t / 16) + 3) 1)) → z ≡ grand_clash t m
-  unfolding grand_clash
-  grand_2 z e w = rw (eq-eqb (get_or m (4 * (t / 16)) 0) 1 e) w
-
-  pub last_1 : (t / 4 % 4 ≡ 3 → ⊥) → false ≡ last_clash t m
-  unfolding last_clash
-  last_1 h = rw (ne_eqb (t / 4 % 4) 3 h)
-
-  pub last_2 : (z : Bool) → t / 4 % 4 ≡ 3 → z ≡ (is m (4 * (t / 4 - 1)) 5 && (is m (4 * (t / 4 - 2)) 5 && is m (4 * (t / 4 - 3)) 5)) → z ≡ last_clash t m
-  unfolding last_clash
-  last_2 z e w = rw (eq-eqb (t / 4 % 4) 3 e) w
-
 module _ (D P b used t : ℕ) where
-  pub root_1 : (t + 4 ≡ 4 * D → ⊥) → false ≡ root_clash D P b used t
-  unfolding root_clash
-  root_1 h = rw (ne_eqb (t + 4) (4 * D) h)
-
-  pub root_2 : t + 4 ≡ 4 * D → (b + 1 ≡ P → ⊥) → false ≡ root_clash D P b used t
-  unfolding root_clash
-  root_2 e h = rw (eq-eqb (t + 4) (4 * D) e, ne_eqb (suc b) P (λ z. h (omega (arith, z))))
-
-  pub root_3 : t + 4 ≡ 4 * D → b + 1 ≡ P → eqb used (D + 3 * D / 4 - 1) ≡ root_clash D P b used t
-  unfolding root_clash
-  root_3 e f = rw (eq-eqb (t + 4) (4 * D) e, eq-eqb (suc b) P (omega (arith, f)))
-
   pub desc_1 : (m : List ℕ) (z : Bool) → 4 * D ≤ t → z ≡ last_clash t m → z ≡ desc_clash D P b used t m
   unfolding desc_clash
   desc_1 m z h w = rw (le-leb (4 * D) t h) w
@@ -119,42 +60,13 @@ module _ (I D P b used t : ℕ) (m : List ℕ) where
 
 -- what the sizes and the place have to be
 module _ (I D P left t : ℕ) where
-  pub fit_1 : all_of most_n < I → false ≡ bars_fit I D P left t
-  unfolding bars_fit
-  fit_1 h = rw (lt-leb I (all_of most_n) h)
-
-  module _ (near : I ≤ all_of most_n) where
-    pub fit_2 : D < 4 → false ≡ bars_fit I D P left t
+  module _ (near : I ≤ all_of most_n) (wide : 4 ≤ D) (room : 4 * D ≤ I) (tops : P ≤ most_planes) (some : 1 ≤ left) (most : left ≤ most_planes) where
+    pub fit_7 : ltb t I ≡ bars_fit I D P left t
     unfolding bars_fit
-    fit_2 h = rw (le-leb I (all_of most_n) near, lt-leb 4 D h)
+    fit_7 = rw (le-leb I (all_of most_n) near, le-leb 4 D wide, le-leb (4 * D) I room, le-leb P most_planes tops, le-leb 1 left some, le-leb left most_planes most)
 
-    module _ (wide : 4 ≤ D) where
-      pub fit_3 : I < 4 * D → false ≡ bars_fit I D P left t
-      unfolding bars_fit
-      fit_3 h = rw (le-leb I (all_of most_n) near, le-leb 4 D wide, lt-leb (4 * D) I h)
-
-      module _ (room : 4 * D ≤ I) where
-        pub fit_4 : most_planes < P → false ≡ bars_fit I D P left t
-        unfolding bars_fit
-        fit_4 h = rw (le-leb I (all_of most_n) near, le-leb 4 D wide, le-leb (4 * D) I room, lt-leb P most_planes h)
-
-        module _ (tops : P ≤ most_planes) where
-          pub fit_5 : left < 1 → false ≡ bars_fit I D P left t
-          unfolding bars_fit
-          fit_5 h = rw (le-leb I (all_of most_n) near, le-leb 4 D wide, le-leb (4 * D) I room, le-leb P most_planes tops, lt-leb 1 left h)
-
-          module _ (some : 1 ≤ left) where
-            pub fit_6 : most_planes < left → false ≡ bars_fit I D P left t
-            unfolding bars_fit
-            fit_6 h = rw (le-leb I (all_of most_n) near, le-leb 4 D wide, le-leb (4 * D) I room, le-leb P most_planes tops, le-leb 1 left some, lt-leb left most_planes h)
-
-            module _ (most : left ≤ most_planes) where
-              pub fit_7 : ltb t I ≡ bars_fit I D P left t
-              unfolding bars_fit
-              fit_7 = rw (le-leb I (all_of most_n) near, le-leb 4 D wide, le-leb (4 * D) I room, le-leb P most_planes tops, le-leb 1 left some, le-leb left most_planes most)
-
-              pub fit_true : t < I → bars_fit I D P left t ≡ true
-              fit_true h = sym fit_7 ∙ lt-ltb t I h
+    pub fit_true : t < I → bars_fit I D P left t ≡ true
+    fit_true h = sym fit_7 ∙ lt-ltb t I h
 
   pub fit_all : bars_fit I D P left t ≡ true → Sizes I D P × (1 ≤ left) × (left ≤ most_planes) × (t < I)
   unfolding bars_fit
@@ -175,25 +87,18 @@ module _ (I D P left t : ℕ) where
         ltb-true t I (both_right (leb left most_planes) (ltb t I) e5),
       )
 
-module _ (I D P left used t : ℕ) (m : List ℕ) (f : Bool) (is : f ≡ bars_fit I D P left t) where
-  pub zero_1 : (z : Bool) → f ≡ true → z ≡ bars_at I D P (left - 1) used t m → z ≡ bars_zero I D P left used t m
-  zero_1 z e w = rw (sym is ∙ e) w
-
-  pub zero_2 : f ≡ false → false ≡ bars_zero I D P left used t m
-  zero_2 e = rw (sym is ∙ e)
-
 -- ---- visits
 
 -- ---- what a read through the view tells, where no more bits are usable than there are
 
 module _ (body : List ℕ) (n usable : ℕ) {r : Next} (is : r ≡ viewed body n usable) where
-  pub told_bit : (x : Bool) → r ≡ Bit x → (n < usable) × (x ≡ bit_at body n)
+  pub told_bit : (x : Bool) → r ≡ Ok x → (n < usable) × (x ≡ bit_at body n)
   told_bit x e =
       let h = viewed_within body n usable x (sym is ∙ e) in
-      let z : Bit x ≡ Bit (bit_at body n) = sym e ∙ is ∙ viewed_bit body n usable h in
+      let z : Ok x ≡ Ok (bit_at body n) = sym e ∙ is ∙ viewed_bit body n usable h in
       (omega (arith, h), cc)
 
-  pub told_none : usable ≤ 8 * length body → {why : Why} → r ≡ NoMore why → usable ≤ n
+  pub told_none : usable ≤ 8 * length body → {why : Why} → r ≡ Err why → usable ≤ n
   told_none h {why} e = omega (arith, h, viewed_past body n usable why (sym is ∙ e))
 
 by_way : (s t : Seen (Sv Read)) (usable place n : ℕ) (r : Turn) (m : List ℕ) (v : List ℤ) → s ≡ t → Does t usable place n r m v → Does s usable place n r m v

@@ -1,9 +1,9 @@
 -- The test of the sizes that a scan asks for, one way at a time, and what any scan leaves by it.
-use Prim.Native.Nat.{ℕ, ◌*◌, ◌≤◌, ◌<◌, min}
+use Prim.Native.Nat.{ℕ, ◌*◌, ◌≤◌, min}
 use mathlib.Core.Path.{◌≡◌, refl, sym, subst, ◌∙◌}
 use mathlib.Core.Bool.{Bool, true, false, ◌&&◌}
 use mathlib.Core.List.{List}
-use borrow.Author.Tests.{eq-eqb, ne_eqb, le-leb, lt-leb, eqb-true, leb-true}
+use borrow.Author.Tests.{eq-eqb, le-leb, eqb-true, leb-true}
 use lib.Dec.{eqb, leb}
 use lib.IntN.{ℤ}
 use lib.ListN.{length}
@@ -15,28 +15,9 @@ use Rattle.reading.specs.Reading.{reader, st, Sizes, Holds, scan_fits, ScannedBy
 use Rattle.reading.specs.declared.Reached.{Reached}
 
 module _ (I values D P : ℕ) where
-  pub sizes_1 : (values ≡ I → ⊥) → false ≡ scan_fits I values D P
+  pub sizes_5 : values ≡ I → I ≤ all_of most_n → 4 ≤ D → 4 * D ≤ I → leb P most_planes ≡ scan_fits I values D P
   unfolding scan_fits
-  sizes_1 h = rw (ne_eqb values I h)
-
-  module _ (same : values ≡ I) where
-    pub sizes_2 : all_of most_n < I → false ≡ scan_fits I values D P
-    unfolding scan_fits
-    sizes_2 h = rw (eq-eqb values I same, lt-leb I (all_of most_n) h)
-
-    module _ (near : I ≤ all_of most_n) where
-      pub sizes_3 : D < 4 → false ≡ scan_fits I values D P
-      unfolding scan_fits
-      sizes_3 h = rw (eq-eqb values I same, le-leb I (all_of most_n) near, lt-leb 4 D h)
-
-      module _ (wide : 4 ≤ D) where
-        pub sizes_4 : I < 4 * D → false ≡ scan_fits I values D P
-        unfolding scan_fits
-        sizes_4 h = rw (eq-eqb values I same, le-leb I (all_of most_n) near, le-leb 4 D wide, lt-leb (4 * D) I h)
-
-        pub sizes_5 : 4 * D ≤ I → leb P most_planes ≡ scan_fits I values D P
-        unfolding scan_fits
-        sizes_5 h = rw (eq-eqb values I same, le-leb I (all_of most_n) near, le-leb 4 D wide, le-leb (4 * D) I h)
+  sizes_5 same near wide h = rw (eq-eqb values I same, le-leb I (all_of most_n) near, le-leb 4 D wide, le-leb (4 * D) I h)
 
   pub sizes_all : scan_fits I values D P ≡ true → (values ≡ I) × Sizes I D P
   unfolding scan_fits

@@ -35,6 +35,13 @@ pub record Shows (body : List ℕ) (n w : ℕ) : Type 0 where
   pub small : w < 65536
   pub bits : (j : ℕ) → j < 9 → bit w (15 - j) ≡ bit_at body (n + j)
 
+-- what a step says: it goes on, or it does not
+abbrev pub goes : ℕ → ℕ → Went
+goes n place = record { on = true; n = n; place = place }
+
+abbrev pub rests : ℕ → ℕ → Went
+rests n place = record { on = false; n = n; place = place }
+
 -- what a step asks
 pub record Ahead (body m : List ℕ) (v : List ℤ) (all usable safe b place n : ℕ) : Type 0 where
   pub below : place + 3 < all

@@ -44,13 +44,6 @@ pub enum Refusal {
     Restored,
 }
 
-// The answer of a call that gives back nothing else: done, or refused.
-#[derive(Clone, Copy)]
-pub enum Outcome {
-    Done,
-    Refused(Refusal),
-}
-
 // The number for no.
 pub fn number(why: Refusal) -> u32
     ensures { result ≡ number_of why }
@@ -82,23 +75,10 @@ pub fn place(why: Refusal) -> u32
     ensures { result ≡ place_of why }
 {
     match why {
-        Refusal::Side => 0,
-        Refusal::Levels => 0,
-        Refusal::Length => 0,
-        Refusal::Coefficient(place) => place,
-        Refusal::Lent => 0,
-        Refusal::Output => 0,
-        Refusal::Letters => 0,
-        Refusal::Version => 0,
-        Refusal::Planes => 0,
-        Refusal::Surplus => 0,
-        Refusal::Padding => 0,
-        Refusal::Contradiction(bit) => bit,
-        Refusal::Beyond(bit) => bit,
-        Refusal::First => 0,
-        Refusal::Spent => 0,
-        Refusal::Record => 0,
-        Refusal::Sample(place) => place,
-        Refusal::Restored => 0,
+        Refusal::Coefficient(place)
+        | Refusal::Contradiction(place)
+        | Refusal::Beyond(place)
+        | Refusal::Sample(place) => place,
+        _ => 0,
     }
 }

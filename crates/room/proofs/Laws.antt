@@ -10,45 +10,44 @@ use borrow.Author.Tests.{eqb-true, leb-true, le-leb, lt-leb}
 use lib.Dec.{leb}
 use lib.IntN.{ℤ}
 use lib.ListN.{length}
-use Rattle.refusals.specs.Checks.{first_failing}
+use Rattle.std.specs.Prelude.{Ok, Err}
+use Rattle.refusals.specs.Checks.{first_failing, Outcome}
 use Rattle.refusals.specs.declared.Refusal.{Refusal}
 use Rattle.refusals.specs.declared.Refusal.TheVariants.{Side, Levels, Lent, Output, Planes}
-use Rattle.refusals.specs.declared.Outcome.{Outcome}
-use Rattle.refusals.specs.declared.Outcome.TheVariants.{Done, Refused}
 use Rattle.refusals.proofs.Laws.{first_then_done, refused_first, then_more, AllHold, passed}
 use Rattle.sizes.specs.Sizes.{most_n, all_of, coarsest_of, side_fits, levels_fit, most_planes}
 use Rattle.sizes.proofs.Laws.{both_left, both_right, sized, side_most, all_most, coarsest_least, coarsest_all, coarsest_four}
 use Rattle.bits.specs.Bits.{bytes_for}
 use Rattle.coef.specs.Coef.{first_over, IsPlanes, planes_of}
 use Rattle.coef.proofs.Laws.{first_all, planes_one, planes_most, planes_of_lem}
+use Rattle.tree.specs.Summaries.{summary_checks}
 use Rattle.nls.specs.Stream.{worst_body}
 use Rattle.nls.proofs.Worst.{worst_none, worst_some}
 use Rattle.room.specs.Ready.{EncodeReady}
-use Rattle.tree.specs.Summaries.{summary_checks}
 use Rattle.room.specs.Room.{worst_checks, worst_answer, most_bits, room_checks, write_checks, room_in, read_checks}
 
 -- ---- the worst body
 
 module _ (N L P : ℕ) where
-  pub worst_side : side_fits N ≡ false → Refused Side ≡ first_failing (worst_checks N L P)
+  pub worst_side : side_fits N ≡ false → Err Side ≡ first_failing (worst_checks N L P)
   unfolding first_failing
   worst_side s = rw s
 
   module _ (s : side_fits N ≡ true) where
-    pub worst_levels : levels_fit N L ≡ false → Refused Levels ≡ first_failing (worst_checks N L P)
+    pub worst_levels : levels_fit N L ≡ false → Err Levels ≡ first_failing (worst_checks N L P)
     unfolding first_failing
     worst_levels l = rw (s, l)
 
     module _ (l : levels_fit N L ≡ true) where
-      pub worst_planes : most_planes < P → Refused Planes ≡ first_failing (worst_checks N L P)
+      pub worst_planes : most_planes < P → Err Planes ≡ first_failing (worst_checks N L P)
       unfolding first_failing
       worst_planes p = rw (s, l, lt-leb P most_planes p)
 
-      pub worst_well : P ≤ most_planes → Done ≡ first_failing (worst_checks N L P)
+      pub worst_well : P ≤ most_planes → (Ok tt) ≡ first_failing (worst_checks N L P)
       unfolding first_failing
       worst_well p = rw (s, l, le-leb P most_planes p)
 
-  pub worst_ready : Done ≡ first_failing (worst_checks N L P) → (side_fits N ≡ true) × (levels_fit N L ≡ true) × (P ≤ most_planes)
+  pub worst_ready : (Ok tt) ≡ first_failing (worst_checks N L P) → (side_fits N ≡ true) × (levels_fit N L ≡ true) × (P ≤ most_planes)
   unfolding AllHold
   worst_ready is =
       let all = passed (worst_checks N L P) (sym is) in (all.0, all.1.0, leb-true P most_planes all.1.1.0)
@@ -61,7 +60,7 @@ most_so N L P budget s l p = sym (ap (λ (o : Outcome). most_bits budget (worst_
 
 module _ (N L P values precisions marks : ℕ) where
   pub decode_well : side_fits N ≡ true → levels_fit N L ≡ true → P ≤ most_planes → all_of N ≤ values → all_of N ≤ precisions → all_of N ≤ marks
-      → Done ≡ first_failing (read_checks N L P values precisions marks)
+      → (Ok tt) ≡ first_failing (read_checks N L P values precisions marks)
   unfolding first_failing room_in
   decode_well s l p v k m = rw (s, l, le-leb P most_planes p, le-leb (all_of N) values v, le-leb (all_of N) precisions k, le-leb (all_of N) marks m)
 
@@ -74,7 +73,7 @@ module _ (N L P values precisions marks : ℕ) where
     pub precisions_room : all_of N ≤ precisions
     pub marks_room : all_of N ≤ marks
 
-  pub decode_ready : Done ≡ first_failing (read_checks N L P values precisions marks) → DecodeReady
+  pub decode_ready : (Ok tt) ≡ first_failing (read_checks N L P values precisions marks) → DecodeReady
   unfolding AllHold room_in
   decode_ready is =
       let all = passed (read_checks N L P values precisions marks) (sym is) in
@@ -92,25 +91,25 @@ module _ (N L P values precisions marks : ℕ) where
 -- ---- encoding
 
 module _ (N L P marks out offset budget : ℕ) where
-  pub no_marks : marks < all_of N → Refused Lent ≡ first_failing (room_checks N L P marks out offset budget)
+  pub no_marks : marks < all_of N → Err Lent ≡ first_failing (room_checks N L P marks out offset budget)
   unfolding first_failing
   no_marks m = rw (lt-leb (all_of N) marks m)
 
   module _ (m : all_of N ≤ marks) where
-    pub no_output : leb (offset + bytes_for (min budget (worst_body N L P))) out ≡ false → Refused Output ≡ first_failing (room_checks N L P marks out offset budget)
+    pub no_output : leb (offset + bytes_for (min budget (worst_body N L P))) out ≡ false → Err Output ≡ first_failing (room_checks N L P marks out offset budget)
     unfolding first_failing
     no_output r = rw (le-leb (all_of N) marks m, r)
 
-    pub room_well : leb (offset + bytes_for (min budget (worst_body N L P))) out ≡ true → Done ≡ first_failing (room_checks N L P marks out offset budget)
+    pub room_well : leb (offset + bytes_for (min budget (worst_body N L P))) out ≡ true → (Ok tt) ≡ first_failing (room_checks N L P marks out offset budget)
     unfolding first_failing
     room_well r = rw (le-leb (all_of N) marks m, r)
 
 module _ (N L : ℕ) (A : List ℤ) (descs grands marks out offset budget : ℕ) where
   -- the checks of the summaries, then those of a body of the array's planes
-  pub checked_first : {r : Outcome} → r ≡ first_failing (summary_checks N L A descs grands) → (why : Refusal) → r ≡ Refused why → Refused why ≡ first_failing (write_checks N L A descs grands marks out offset budget)
+  pub checked_first : {r : Outcome} → r ≡ first_failing (summary_checks N L A descs grands) → (why : Refusal) → r ≡ Err why → Err why ≡ first_failing (write_checks N L A descs grands marks out offset budget)
   checked_first is why e = refused_first (summary_checks N L A descs grands) (room_checks N L (planes_of A) marks out offset budget) is why e
 
-  pub checked_then : {r : Outcome} → r ≡ first_failing (summary_checks N L A descs grands) → r ≡ Done → {P : ℕ} → IsPlanes A P
+  pub checked_then : {r : Outcome} → r ≡ first_failing (summary_checks N L A descs grands) → r ≡ Ok tt → {P : ℕ} → IsPlanes A P
       → {w : Outcome} → w ≡ first_failing (worst_checks N L P ++ room_checks N L P marks out offset budget) → w ≡ first_failing (write_checks N L A descs grands marks out offset budget)
   unfolding AllHold
   checked_then is e {P} p {w} v =
@@ -120,7 +119,7 @@ module _ (N L : ℕ) (A : List ℤ) (descs grands marks out offset budget : ℕ)
       then_more (summary_checks N L A descs grands) (room_checks N L (planes_of A) marks out offset budget) is e
       (room ∙ ap (λ (x : ℕ). first_failing (room_checks N L x marks out offset budget)) (planes_one p (planes_of_lem A)))
 
-  pub encode_ready : Done ≡ first_failing (write_checks N L A descs grands marks out offset budget) → EncodeReady N L A descs grands (out - offset) budget × (all_of N ≤ marks) × (offset ≤ out)
+  pub encode_ready : (Ok tt) ≡ first_failing (write_checks N L A descs grands marks out offset budget) → EncodeReady N L A descs grands (out - offset) budget × (all_of N ≤ marks) × (offset ≤ out)
   unfolding AllHold
   encode_ready is =
       let all = passed (write_checks N L A descs grands marks out offset budget) (sym is) in

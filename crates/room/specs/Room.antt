@@ -1,30 +1,31 @@
 -- The checks of the calls on a body, in document 01's order ("Numbers for no"), and the worst body.
-use Rattle.std.specs.Prelude.{ℕ, ◌+◌, ◌*◌, min}
 use mathlib.Core.{Bool.Bool, Bool.◌&&◌, List.List, List.[], List.◌∷◌, List.◌++◌}
 use lib.{Dec.leb, IntN.ℤ, ListN.length}
-use Rattle.refusals.specs.{Checks.Check, Checks.need, declared.Refusal.TheVariants.Side, declared.Refusal.TheVariants.Levels, declared.Refusal.TheVariants.Lent, declared.Refusal.TheVariants.Output, declared.Refusal.TheVariants.Planes, declared.Outcome.Outcome}
-use Rattle.refusals.specs.declared.Outcome.TheVariants as outcome
+use Rattle.std.specs.Prelude.{ℕ, ◌+◌, ◌*◌, min, Result, Ok, Err}
+use Rattle.refusals.specs.{Checks.Check, Checks.need, Checks.Outcome, declared.Refusal.Refusal, declared.Refusal.TheVariants.Side, declared.Refusal.TheVariants.Levels, declared.Refusal.TheVariants.Lent, declared.Refusal.TheVariants.Output, declared.Refusal.TheVariants.Planes}
 use Rattle.sizes.specs.Sizes.{all_of, side_fits, levels_fit, most_planes}
 use Rattle.bits.specs.Bits.{bits_of, bytes_for}
 use Rattle.coef.specs.Coef.{planes_of}
 use Rattle.tree.specs.Summaries.{summary_checks}
 use Rattle.nls.specs.Stream.{worst_body}
-use Rattle.room.specs.declared.WorstAnswer.{WorstAnswer}
-use Rattle.room.specs.declared.WorstAnswer.TheVariants as worst
 
 -- ---- the worst body
 
 abbrev pub worst_checks : ℕ → ℕ → ℕ → List Check
 worst_checks N L P = need (side_fits N) Side ∷ need (levels_fit N L) Levels ∷ need (leb P most_planes) Planes ∷ []
 
+-- its bits, or the refusal
+abbrev pub WorstAnswer : Type 0
+WorstAnswer = Result ℕ Refusal
+
 abbrev pub worst_answer : ℕ → ℕ → ℕ → Outcome → WorstAnswer
-worst_answer N L P outcome.Done = worst.Bits (worst_body N L P)
-worst_answer N L P (outcome.Refused why) = worst.Refused why
+worst_answer N L P (Ok tt) = Ok (worst_body N L P)
+worst_answer N L P (Err why) = Err why
 
 -- the most bits that are written under a budget: the smaller of it and the worst body; where the sizes are out of range, the budget
 abbrev pub most_bits : ℕ → WorstAnswer → ℕ
-most_bits budget (worst.Bits bits) = min budget bits
-most_bits budget (worst.Refused why) = budget
+most_bits budget (Ok bits) = min budget bits
+most_bits budget (Err why) = budget
 
 -- ---- encoding
 

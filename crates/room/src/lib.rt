@@ -8,14 +8,7 @@ ghost use Rattle.bits.specs.Bits.{bytes_for};
 ghost use Rattle.nls.specs.Stream.{worst_body};
 ghost use Rattle.room.specs.Room.{worst_checks, worst_answer, most_bits, room_checks, table_checks, read_checks};
 
-use refusals::{Outcome, Refusal};
-
-// What `worst_body` answers.
-#[derive(Clone, Copy)]
-pub enum WorstAnswer {
-    Bits(u32),
-    Refused(Refusal),
-}
+use refusals::Refusal;
 
 // The usable bits of a body of this many bytes.
 pub fn usable_of(usable: u32, bytes: usize) -> u32
@@ -51,29 +44,27 @@ fn has_room(out: usize, offset: usize, bits: u32) -> bool
 }
 
 // The first of refusals 1, 2 and 9 that holds, if any.
-pub fn check_worst(n: u32, l: u32, p: u32) -> Outcome
+pub fn check_worst(n: u32, l: u32, p: u32) -> Result<(), Refusal>
     ensures { result ≡ first_failing (worst_checks n l p) }
 {
     if !sizes::side_fits(n) {
-        return Outcome::Refused(Refusal::Side);
+        return Err(Refusal::Side);
     }
     if !sizes::levels_fit(n, l) {
-        return Outcome::Refused(Refusal::Levels);
+        return Err(Refusal::Levels);
     }
     if sizes::MOST_PLANES < p {
-        return Outcome::Refused(Refusal::Planes);
+        return Err(Refusal::Planes);
     }
-    Outcome::Done
+    Ok(())
 }
 
 // The most bits that a body of this N, L and P can have.
-pub fn worst_body(n: u32, l: u32, p: u32) -> WorstAnswer
+pub fn worst_body(n: u32, l: u32, p: u32) -> Result<u32, Refusal>
     ensures { result ≡ worst_answer n l p (first_failing (worst_checks n l p)) }
 {
-    match check_worst(n, l, p) {
-        Outcome::Done => WorstAnswer::Bits(worst_of(n, l, p)),
-        Outcome::Refused(why) => WorstAnswer::Refused(why),
-    }
+    check_worst(n, l, p)?;
+    Ok(worst_of(n, l, p))
 }
 
 // The smaller of the budget and the worst body; the budget for sizes out of range.
@@ -81,8 +72,8 @@ pub fn most_bits(n: u32, l: u32, p: u32, budget: u32) -> u32
     ensures { result ≡ most_bits budget (worst_answer n l p (first_failing (worst_checks n l p))) }
 {
     match worst_body(n, l, p) {
-        WorstAnswer::Bits(bits) => sizes::smaller(budget, bits),
-        WorstAnswer::Refused(_) => budget,
+        Ok(bits) => budget.min(bits),
+        Err(_) => budget,
     }
 }
 
@@ -95,17 +86,17 @@ fn check_room(
     out: usize,
     offset: usize,
     budget: u32,
-) -> Outcome
+) -> Result<(), Refusal>
     requires { (side_fits n ≡ true) × (levels_fit n l ≡ true) × (p ≤ most_planes) }
     ensures { result ≡ first_failing (room_checks n l p marks out offset budget) }
 {
     if marks < sizes::all_of(n) {
-        return Outcome::Refused(Refusal::Lent);
+        return Err(Refusal::Lent);
     }
-    if !has_room(out, offset, sizes::smaller(budget, worst_of(n, l, p))) {
-        return Outcome::Refused(Refusal::Output);
+    if !has_room(out, offset, budget.min(worst_of(n, l, p))) {
+        return Err(Refusal::Output);
     }
-    Outcome::Done
+    Ok(())
 }
 
 // The first of refusals 1, 2, 9, 5 and 6 that holds, if any, for the marks and the output of an array of p planes.
@@ -117,30 +108,32 @@ pub fn check_encode(
     out: usize,
     offset: usize,
     budget: u32,
-) -> Outcome
+) -> Result<(), Refusal>
     ensures { result ≡ first_failing (worst_checks n l p ++ room_checks n l p marks out offset budget) }
 {
-    let checked = check_worst(n, l, p);
-    match checked {
-        Outcome::Done => check_room(n, l, p, marks, out, offset, budget),
-        Outcome::Refused(why) => Outcome::Refused(why),
-    }
+    check_worst(n, l, p)?;
+    check_room(n, l, p, marks, out, offset, budget)
 }
 
 // Refusal 5 where one of the three tables is too short for this many values, precisions and marks.
-pub fn check_tables(all: usize, values: usize, precisions: usize, marks: usize) -> Outcome
+pub fn check_tables(
+    all: usize,
+    values: usize,
+    precisions: usize,
+    marks: usize,
+) -> Result<(), Refusal>
     ensures { result ≡ first_failing (table_checks all values precisions marks) }
 {
     if values < all {
-        return Outcome::Refused(Refusal::Lent);
+        return Err(Refusal::Lent);
     }
     if precisions < all {
-        return Outcome::Refused(Refusal::Lent);
+        return Err(Refusal::Lent);
     }
     if marks < all {
-        return Outcome::Refused(Refusal::Lent);
+        return Err(Refusal::Lent);
     }
-    Outcome::Done
+    Ok(())
 }
 
 // The first of refusals 1, 2, 9 and 5 that holds, if any.
@@ -151,12 +144,9 @@ pub fn check_decode(
     values: usize,
     precisions: usize,
     marks: usize,
-) -> Outcome
+) -> Result<(), Refusal>
     ensures { result ≡ first_failing (read_checks n l p values precisions marks) }
 {
-    let checked = check_worst(n, l, p);
-    match checked {
-        Outcome::Done => check_tables(sizes::all_of(n), values, precisions, marks),
-        Outcome::Refused(why) => Outcome::Refused(why),
-    }
+    check_worst(n, l, p)?;
+    check_tables(sizes::all_of(n), values, precisions, marks)
 }

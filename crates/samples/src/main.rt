@@ -2,26 +2,18 @@
 #![tactic(auto)]
 
 use refusals::Refusal;
-use txp::{DecodeAnswer, EncodeAnswer, HeaderAnswer};
 
-// A write that fails says nothing.
-fn say(to: &impl Print, text: &[u8]) {
-    let _ = to.write_all(text);
-}
-
-fn say_next(to: &impl Print, x: u32) {
-    say(to, b" ");
-    let _ = to.print(x);
-}
-
-fn say_refusal(to: &impl Print, why: Refusal) {
-    say(to, b" refused");
-    say_next(to, refusals::number(why));
-    say_next(to, refusals::place(why));
+// The line of a refusal: its number and its place. A write that fails says nothing, here and below.
+fn say_refusal(to: &impl Print, what: &str, why: Refusal) {
+    let _ = println!(to;
+        "{what} refused {} {}",
+        refusals::number(why),
+        refusals::place(why)
+    );
 }
 
 // Encodes an array of N = 2 with `last` at its last place.
-fn encode(to: &impl Print, n: u32, l: u32, last: i32) {
+fn encode(to: &impl Print, what: &str, n: u32, l: u32, last: i32) {
     let mut coefs = [0i32; 16];
     coefs[15] = last;
     let mut desc = [0u32; 4];
@@ -29,75 +21,61 @@ fn encode(to: &impl Print, n: u32, l: u32, last: i32) {
     let mut marks = [0u8; 16];
     let mut out = [0u8; 128];
     match txp::encode(
-        n, l, &coefs, &mut desc, &mut grand, &mut marks, &mut out, 4294967295,
+        n,
+        l,
+        &coefs,
+        &mut desc,
+        &mut grand,
+        &mut marks,
+        &mut out,
+        u32::MAX,
     ) {
-        EncodeAnswer::Done(e) => {
-            say(to, b" planes");
-            say_next(to, e.planes);
+        Ok(e) => {
+            let _ = println!(to; "{what} planes {}", e.planes);
         }
-        EncodeAnswer::Refused(why) => say_refusal(to, why),
+        Err(why) => say_refusal(to, what, why),
     }
-    say(to, b"\n");
 }
 
 // Decodes a file of these sizes with one declared bit, a 0, present.
-fn decode(to: &impl Print, n: u8, l: u8, p: u8) {
+fn decode(to: &impl Print, what: &str, n: u8, l: u8, p: u8) {
     let file = [0x54u8, 0x58, 0x50, 0, 1, n, l, p, 0, 0, 0, 1, 0];
     let mut values = [0i32; 64];
     let mut precisions = [0u8; 64];
     let mut marks = [0u8; 64];
     match txp::decode(&file, &mut values, &mut precisions, &mut marks) {
-        DecodeAnswer::Done(d) => {
-            say(to, b" used");
-            say_next(to, d.used);
+        Ok(d) => {
+            let _ = println!(to; "{what} used {}", d.used);
         }
-        DecodeAnswer::Refused(why) => say_refusal(to, why),
+        Err(why) => say_refusal(to, what, why),
     }
-    say(to, b"\n");
 }
 
 // Reads the header of a file of these sizes.
-fn header(to: &impl Print, n: u8, l: u8) {
+fn header(to: &impl Print, what: &str, n: u8, l: u8) {
     let file = [0x54u8, 0x58, 0x50, 0, 1, n, l, 1, 0, 0, 0, 0];
     match txp::read_header(&file) {
-        HeaderAnswer::Done(h) => {
-            say(to, b" taken");
-            say_next(to, h.n);
+        Ok(h) => {
+            let _ = println!(to; "{what} taken {}", h.n);
         }
-        HeaderAnswer::Refused(why) => say_refusal(to, why),
+        Err(why) => say_refusal(to, what, why),
     }
-    say(to, b"\n");
 }
 
 fn main(rt: HostRuntime) {
-    say(&rt, b"P=0, one declared bit:");
-    decode(&rt, 2, 1, 0);
-    say(&rt, b"N=1:");
-    decode(&rt, 1, 1, 1);
-    say(&rt, b"N=2:");
-    decode(&rt, 2, 1, 1);
-    say(&rt, b"N=10:");
-    header(&rt, 10, 9);
-    say(&rt, b"N=11:");
-    header(&rt, 11, 10);
-    say(&rt, b"L=N-1:");
-    decode(&rt, 3, 2, 1);
-    say(&rt, b"L=N:");
-    decode(&rt, 3, 3, 1);
-    say(&rt, b"encoding N=1:");
-    encode(&rt, 1, 1, 0);
-    say(&rt, b"encoding N=11:");
-    encode(&rt, 11, 1, 0);
-    say(&rt, b"encoding L=N:");
-    encode(&rt, 2, 2, 0);
-    say(&rt, b"16777215:");
-    encode(&rt, 2, 1, 16777215);
-    say(&rt, b"16777216:");
-    encode(&rt, 2, 1, 16777216);
-    say(&rt, b"-16777215:");
-    encode(&rt, 2, 1, -16777215);
-    say(&rt, b"-16777216:");
-    encode(&rt, 2, 1, -16777216);
-    say(&rt, b"-2147483648:");
-    encode(&rt, 2, 1, -2147483648);
+    decode(&rt, "P=0, one declared bit:", 2, 1, 0);
+    decode(&rt, "N=1:", 1, 1, 1);
+    decode(&rt, "N=2:", 2, 1, 1);
+    header(&rt, "N=10:", 10, 9);
+    header(&rt, "N=11:", 11, 10);
+    decode(&rt, "L=N-1:", 3, 2, 1);
+    decode(&rt, "L=N:", 3, 3, 1);
+    encode(&rt, "encoding N=1:", 1, 1, 0);
+    encode(&rt, "encoding N=11:", 11, 1, 0);
+    encode(&rt, "encoding L=N:", 2, 2, 0);
+    encode(&rt, "16777215:", 2, 1, 16777215);
+    encode(&rt, "16777216:", 2, 1, 16777216);
+    encode(&rt, "-16777215:", 2, 1, -16777215);
+    encode(&rt, "-16777216:", 2, 1, -16777216);
+    encode(&rt, "-2147483648:", 2, 1, i32::MIN);
 }

@@ -1,206 +1,188 @@
 // Tables that are lent: what they hold before a call, and whether they hold afterwards what a list says.
+use crate::calls::{self, Case};
+use crate::text::Text;
+
+// How many entries past the lent end are compared too.
+const PAST: usize = 64;
+
+// An entry of a table, of 32 bits or fewer.
+pub trait Cell: Copy + PartialEq {
+    // The entry with these bits, or with the lowest of them.
+    fn of(bits: u32) -> Self;
+
+    // The bits of an entry.
+    fn bits(self) -> u32;
+}
+
+impl Cell for u8 {
+    fn of(bits: u32) -> u8 {
+        (bits & 0xff) as u8
+    }
+
+    fn bits(self) -> u32 {
+        u32::from(self)
+    }
+}
+
+impl Cell for u32 {
+    fn of(bits: u32) -> u32 {
+        bits
+    }
+
+    fn bits(self) -> u32 {
+        self
+    }
+}
+
+impl Cell for i32 {
+    fn of(bits: u32) -> i32 {
+        bits.cast_signed()
+    }
+
+    fn bits(self) -> u32 {
+        self.cast_unsigned()
+    }
+}
+
+// The entries of a table that are compared: those lent, and some past them.
+fn past(lent: usize) -> usize {
+    lent.saturating_add(PAST)
+}
 
 // What the entry at a place holds before a call: no coefficient, summary, mark or precision, and not the same at each place.
 fn before(i: usize) -> u32 {
-    2684354720 + (i % 65536) as u32 * 256 + (i % 93) as u32
+    0xa000_00a0 + (i % 65536) as u32 * 256 + (i % 93) as u32
 }
 
 // A list's number at a place, or, past its end, what stands there before a call.
-fn wanted(list: &[u32], count: usize, i: usize) -> u32 {
-    if i < count {
-        if i < list.len() {
-            return list[i];
-        }
+fn wanted(list: &[u32], i: usize) -> u32 {
+    if i < list.len() { list[i] } else { before(i) }
+}
+
+// Gives the first n entries of a table what they hold before a call.
+pub fn reset<C: Cell>(table: &mut [C], n: usize) {
+    let n = n.min(table.len());
+    for (i, x) in table[..n].iter_mut().enumerate() {
+        *x = C::of(before(i));
     }
-    before(i)
-}
-
-fn both(a: bool, b: bool) -> bool {
-    if a {
-        return b;
-    }
-    false
-}
-
-fn byte(x: u32) -> u8 {
-    (x % 256) as u8
-}
-
-// The number below 0 with this magnitude. The least number has no negative in its type.
-fn negated(size: u32) -> i32 {
-    if size < 2147483648 {
-        let x = size as i32;
-        return -x;
-    }
-    -2147483648
-}
-
-// The number with these 32 bits.
-fn signed(x: u32) -> i32 {
-    if x < 2147483648 {
-        return x as i32;
-    }
-    negated(4294967295 - x + 1)
-}
-
-// The 32 bits of a number.
-pub fn word(x: i32) -> u32 {
-    let size = coef::magnitude(x);
-    if coef::is_negative(x) {
-        return complement(size);
-    }
-    size
-}
-
-// The 32 bits of the number below 0 with this magnitude.
-fn complement(size: u32) -> u32 {
-    if size == 0 {
-        return 0;
-    }
-    4294967295 - size + 1
-}
-
-// Gives the first n entries of a table a list's numbers, and those past the list what stands there before a call.
-pub fn fill_bytes(table: &mut [u8], n: usize, list: &[u32], count: usize) {
-    let mut i = 0;
-    while i < table.len() {
-        if n <= i {
-            return;
-        }
-        table[i] = byte(wanted(list, count, i));
-        i += 1;
-    }
-}
-
-pub fn fill_words(table: &mut [u32], n: usize, list: &[u32], count: usize) {
-    let mut i = 0;
-    while i < table.len() {
-        if n <= i {
-            return;
-        }
-        table[i] = wanted(list, count, i);
-        i += 1;
-    }
-}
-
-pub fn fill_ints(table: &mut [i32], n: usize, list: &[u32], count: usize) {
-    let mut i = 0;
-    while i < table.len() {
-        if n <= i {
-            return;
-        }
-        table[i] = signed(wanted(list, count, i));
-        i += 1;
-    }
-}
-
-// Whether all held so far, and the first n entries of a table hold a list's numbers, and those past the list what stood there before the call. They are given that again.
-pub fn bytes_held(table: &mut [u8], n: usize, list: &[u32], count: usize, so_far: bool) -> bool {
-    let mut held = so_far;
-    let mut i = 0;
-    while i < table.len() {
-        if n <= i {
-            return held;
-        }
-        held = both(held, table[i] == byte(wanted(list, count, i)));
-        table[i] = byte(before(i));
-        i += 1;
-    }
-    held
-}
-
-pub fn words_held(table: &mut [u32], n: usize, list: &[u32], count: usize, so_far: bool) -> bool {
-    let mut held = so_far;
-    let mut i = 0;
-    while i < table.len() {
-        if n <= i {
-            return held;
-        }
-        held = both(held, table[i] == wanted(list, count, i));
-        table[i] = before(i);
-        i += 1;
-    }
-    held
-}
-
-pub fn ints_held(table: &mut [i32], n: usize, list: &[u32], count: usize, so_far: bool) -> bool {
-    let mut held = so_far;
-    let mut i = 0;
-    while i < table.len() {
-        if n <= i {
-            return held;
-        }
-        held = both(held, table[i] == signed(wanted(list, count, i)));
-        table[i] = signed(before(i));
-        i += 1;
-    }
-    held
-}
-
-// Gives the numbers of a record, from one on, those that stand at the same places.
-pub fn give_record(record: &mut [u32; 8], from: usize, ints: &[i32]) {
-    let mut i = from;
-    while i < 8 {
-        if ints.len() <= i {
-            return;
-        }
-        record[i] = word(ints[i]);
-        i += 1;
-    }
-}
-
-// Puts a record into the first entries of a table.
-pub fn put_record(table: &mut [u32], record: &[u32; 8]) {
-    fill_words(table, 8, record, 8);
-}
-
-// What stands behind the first n numbers.
-pub fn behind(ints: &[i32], n: usize) -> &[i32] {
-    if n <= ints.len() {
-        return &ints[n..];
-    }
-    &ints[..0]
 }
 
 // Gives the first n entries of a table the numbers that stand at the same places.
-pub fn give_ints(table: &mut [i32], n: usize, ints: &[i32]) {
-    let mut i = 0;
-    while i < table.len() {
-        if n <= i {
-            return;
-        }
-        if ints.len() <= i {
-            return;
-        }
-        table[i] = ints[i];
-        i += 1;
+pub fn put_first<A: Cell, B: Cell>(table: &mut [A], n: usize, numbers: &[B]) {
+    for (to, x) in table.iter_mut().take(n).zip(numbers) {
+        *to = A::of(x.bits());
     }
 }
 
-pub fn give_words(table: &mut [u32], n: usize, ints: &[i32]) {
-    let mut i = 0;
-    while i < table.len() {
-        if n <= i {
-            return;
+// Gives the entries of a table the numbers that stand at the same places.
+pub fn put<A: Cell, B: Cell>(table: &mut [A], numbers: &[B]) {
+    put_first(table, usize::MAX, numbers);
+}
+
+// Whether the first n entries of a table hold a list's numbers, and those past the list what stood there before the call.
+fn holds<C: Cell>(table: &[C], n: usize, list: &[u32]) -> bool {
+    let n = n.min(table.len());
+    for (i, x) in table[..n].iter().enumerate() {
+        if *x != C::of(wanted(list, i)) {
+            return false;
         }
-        if ints.len() <= i {
-            return;
+    }
+    true
+}
+
+// Whether a table holds what the next list says, in the entries that are lent and in some past them.
+fn holds_next<C: Cell>(
+    table: &[C],
+    lent: usize,
+    text: &mut Text<'_>,
+    list: &mut [u32],
+) -> Option<bool> {
+    let count = text.list(list)?;
+    Some(holds(table, past(lent), &list[..count]))
+}
+
+// What stands behind the first n numbers.
+pub fn behind(numbers: &[i32], n: usize) -> &[i32] {
+    numbers.get(n..).unwrap_or(&[])
+}
+
+// The lengths lent of a case's tables.
+#[derive(Clone, Copy)]
+pub struct Lent {
+    pub desc: usize,
+    pub grand: usize,
+    pub marks: usize,
+    pub bytes: usize,
+    pub values: usize,
+}
+
+// The tables, or as much of each as is lent.
+#[derive(Drop)]
+pub struct Tables<'a> {
+    pub desc: &'a mut [u32],
+    pub grand: &'a mut [u32],
+    pub marks: &'a mut [u8],
+    pub bytes: &'a mut [u8],
+    pub values: &'a mut [i32],
+}
+
+impl<'a> Tables<'a> {
+    // As much of each table as is lent. It takes the tables themselves, since no part of a slice can be handed on through a second reference.
+    fn cut(self, lent: Lent) -> Tables<'a> {
+        let Tables {
+            desc,
+            grand,
+            marks,
+            bytes,
+            values,
+        } = self;
+        let a = lent.desc.min(desc.len());
+        let b = lent.grand.min(grand.len());
+        let c = lent.marks.min(marks.len());
+        let d = lent.bytes.min(bytes.len());
+        let e = lent.values.min(values.len());
+        Tables {
+            desc: &mut desc[..a],
+            grand: &mut grand[..b],
+            marks: &mut marks[..c],
+            bytes: &mut bytes[..d],
+            values: &mut values[..e],
         }
-        table[i] = word(ints[i]);
-        i += 1;
     }
 }
 
-pub fn give_bytes(table: &mut [u8], n: usize, ints: &[i32]) {
-    let mut i = 0;
-    while i < table.len() {
-        if n <= i {
-            return;
+impl Tables<'_> {
+    // Makes the call of a case, with as much of each table as is lent.
+    pub fn make(&mut self, case: Case<'_>, lent: Lent, answer: &mut [u32; 16]) -> Option<u32> {
+        let tables = Tables {
+            desc: &mut *self.desc,
+            grand: &mut *self.grand,
+            marks: &mut *self.marks,
+            bytes: &mut *self.bytes,
+            values: &mut *self.values,
+        };
+        calls::call(case, &mut tables.cut(lent), answer)
+    }
+
+    // Gives the entries that are compared what they hold before a call.
+    pub fn reset(&mut self, lent: Lent) {
+        reset(self.desc, past(lent.desc));
+        reset(self.grand, past(lent.grand));
+        reset(self.marks, past(lent.marks));
+        reset(self.bytes, past(lent.bytes));
+        reset(self.values, past(lent.values));
+    }
+
+    // Whether each table holds what the list for it says; there is no answer if a list is malformed or more of the line is left. The tables stay as they are.
+    pub fn hold(&self, lent: Lent, text: &mut Text<'_>, list: &mut [u32]) -> Option<bool> {
+        let desc = holds_next(self.desc, lent.desc, text, list)?;
+        let grand = holds_next(self.grand, lent.grand, text, list)?;
+        let marks = holds_next(self.marks, lent.marks, text, list)?;
+        let bytes = holds_next(self.bytes, lent.bytes, text, list)?;
+        let values = holds_next(self.values, lent.values, text, list)?;
+        if !text.rest.is_empty() {
+            return None;
         }
-        if ints.len() <= i {
-            return;
-        }
-        table[i] = byte(word(ints[i]));
-        i += 1;
+        Some(desc && grand && marks && bytes && values)
     }
 }

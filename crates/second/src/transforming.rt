@@ -1,51 +1,25 @@
 // The calls of the transform.
-use crate::calls::{Case, UNKNOWN};
-use crate::tables;
+use crate::FEW;
+use crate::calls::Case;
+use crate::tables::{self, Tables};
 
-// The entries of the work table: as many as the table of DESC has.
-const FEW: usize = 65600;
-
-// A call by its letter: the transform, or its inverse.
-fn change(
-    case: Case,
-    ints: &[i32],
-    values: &mut [i32],
-    work: &mut [i32],
-    answer: &mut [u32; 16],
-) -> u32 {
-    if case.letter == b'x' {
-        return ctxp::txp_transform(case.a, case.b, ints, values, work, answer);
-    }
-    ctxp::txp_restore(case.a, case.b, ints, values, work, answer)
-}
-
-// The call on the first n entries of a work table, which has as many.
-fn lent(
-    case: Case,
-    ints: &[i32],
-    values: &mut [i32],
-    work: &mut [i32],
-    n: usize,
-    answer: &mut [u32; 16],
-) -> u32 {
-    if n <= work.len() {
-        return change(case, ints, values, &mut work[..n], answer);
-    }
-    UNKNOWN
-}
-
-// The call of a case. The work table is taken from the table of DESC, and put there again.
-pub fn call(
-    case: Case,
-    ints: &[i32],
-    desc: &mut [u32],
-    values: &mut [i32],
-    answer: &mut [u32; 16],
-) -> u32 {
-    let mut work = [0i32; FEW];
-    let held = desc.len();
-    tables::fill_ints(&mut work, held, desc, held);
-    let result = lent(case, ints, values, &mut work, held, answer);
-    tables::give_words(desc, held, &work);
+// A call by its letter: the transform, or its inverse. The work table has as many entries as are lent of DESC; it is taken from there, and put there again.
+fn change(case: Case<'_>, lent: &mut Tables<'_>, room: &mut [i32], answer: &mut [u32; 16]) -> u32 {
+    let [a, b, ..] = case.numbers;
+    let ints = case.ints;
+    let held = lent.desc.len().min(room.len());
+    let work = &mut room[..held];
+    tables::put(work, lent.desc);
+    let result = match case.letter {
+        b'x' => ctxp::txp_transform(a, b, ints, lent.values, work, answer),
+        _ => ctxp::txp_restore(a, b, ints, lent.values, work, answer),
+    };
+    tables::put(lent.desc, work);
     result
+}
+
+// The call of a case. The work table has room for as many entries as the table of DESC.
+pub fn call(case: Case<'_>, lent: &mut Tables<'_>, answer: &mut [u32; 16]) -> u32 {
+    let mut room = [0i32; FEW];
+    change(case, lent, &mut room, answer)
 }

@@ -9,8 +9,8 @@ use Rattle.refusals.proofs.Decided.{OneOutcome}
 use Rattle.sizes.specs.Sizes.{all_of}
 use Rattle.nls.specs.Reading.{midpoint}
 use Rattle.decoder.specs.Body.{Tables, zeros}
-use Rattle.txp.specs.declared.DecodeAnswer.{DecodeAnswer}
 use Rattle.txp.proofs.Decided.{decodes_one}
+use Rattle.txp.specs.Calls.{DecodeAnswer}
 use Rattle.show.specs.Text.{text_of, answer_lines, most_shown_n, too_large, ShownIf, Shown}
 use Rattle.show.proofs.render.Reads as render
 

@@ -11,9 +11,8 @@ use lib.IntN.{ℤ, pos}
 use lib.ListN.{length, take, drop, length-append, length-replicate, get_or-eq_default}
 use lib.Pow.{pow-add, pow_mono}
 use lib.Seq.{take_at}
-use Rattle.refusals.specs.declared.Outcome.{Outcome}
-use Rattle.refusals.specs.declared.Outcome.TheVariants as outcome
-use Rattle.refusals.specs.Checks.{first_failing, lent_after}
+use Rattle.std.specs.Prelude.{Ok, Err}
+use Rattle.refusals.specs.Checks.{first_failing, lent_after, Outcome}
 use Rattle.refusals.proofs.Laws.{AllHold, all_pass}
 use Rattle.sizes.specs.Sizes.{all_of, limit, most_planes}
 use Rattle.sizes.proofs.Laws.{both, four}
@@ -29,7 +28,6 @@ use Rattle.figures.specs.Figures.{figures_checks}
 use Rattle.decoder.specs.Body.{Tables, zeros, own_tables, over}
 use Rattle.txp.specs.declared.Header.{Header}
 use Rattle.txp.specs.declared.Decoded.{Decoded}
-use Rattle.txp.specs.declared.DecodeAnswer.TheVariants as decode
 use Rattle.txp.specs.Header.{header_of}
 use Rattle.txp.specs.File.{usable_bits, ending_of}
 use Rattle.txp.specs.Calls.{decode_checks, decode_answer, DecodesTo, Decodes}
@@ -77,12 +75,12 @@ module _ (file : List ℕ) (held left : Tables) (d : Decoded) (most : length hel
   Can x =
       Drawn x.n x.l (take (all_of x.n) left.values) × (x.p ≤ most_planes) × (x.finished ≤ x.p) × (all_of x.n ≤ length held.values)
 
-  by_verdict : checks ≡ outcome.Done → (v : Verdict) → decode.Done d ≡ decode_answer (ending_of file) h u v → left ≡ over (all_of h.n) (own_tables midpoint h.n h.l h.p u v) held → Can d
+  by_verdict : checks ≡ Ok tt → (v : Verdict) → Ok d ≡ decode_answer (ending_of file) h u v → left ≡ over (all_of h.n) (own_tables midpoint h.n h.l h.p u v) held → Can d
   by_verdict e taken answered filled =
       let ready = decode_passed file (length held.values) (length held.precisions) (length held.marks) e in
       let mine : Decoded =
       record { n = h.n; l = h.l; p = h.p; declared = h.declared; used = length u; finished = planes_finished h.n h.l h.p u; error = worst_error h.n h.l h.p u; ending = ending_of file (length u) (last_plane h.n h.l h.p u) } in
-      let told : decode.Done d ≡ decode.Done mine = answered in
+      let told : Ok d ≡ Ok mine = answered in
       let is : d ≡ mine = cc in
       let own = values_by h.n h.l h.p u midpoint in
       let few : h.p ≤ most_planes = ready.planes in
@@ -106,18 +104,18 @@ module _ (file : List ℕ) (held left : Tables) (d : Decoded) (most : length hel
   by_verdict e (contradiction bit) answered filled = let z : ◌≡◌ {A = ℕ} 0 1 = cc in absurd (omega arith)
   by_verdict e (beyond bit) answered filled = let z : ◌≡◌ {A = ℕ} 0 1 = cc in absurd (omega arith)
 
-  by_outcome : (o : Outcome) → checks ≡ o → DecodesTo o midpoint (ending_of file) h u held (decode.Done d) left → Can d
-  by_outcome outcome.Done e q = by_verdict e q.verdict q.answered q.filled
-  by_outcome (outcome.Refused why) e q = let f = q.0 in let z : ◌≡◌ {A = ℕ} 0 1 = cc in absurd (omega arith)
+  by_outcome : (o : Outcome) → checks ≡ o → DecodesTo o midpoint (ending_of file) h u held (Ok d) left → Can d
+  by_outcome (Ok tt) e q = by_verdict e q.verdict q.answered q.filled
+  by_outcome (Err why) e q = let f = q.0 in let z : ◌≡◌ {A = ℕ} 0 1 = cc in absurd (omega arith)
 
-  pub drawn : Decodes midpoint file held (decode.Done d) left → Can d
+  pub drawn : Decodes midpoint file held (Ok d) left → Can d
   drawn q = by_outcome checks refl q
 
 -- ---- to the calls that draw
 
 module _ (N L : ℕ) (A : List ℤ) (w : Drawn N L A) where
   -- the checks of the figures of a plane, and of the change to raster order
-  pub figures_checks_lem : (descs grands b : ℕ) → all_of N ≤ 4 * descs → all_of N ≤ 16 * grands → b < most_planes → first_failing (figures_checks N L A descs grands b) ≡ outcome.Done
+  pub figures_checks_lem : (descs grands b : ℕ) → all_of N ≤ 4 * descs → all_of N ≤ 16 * grands → b < most_planes → first_failing (figures_checks N L A descs grands b) ≡ Ok tt
   unfolding AllHold
   figures_checks_lem descs grands b room more h =
       all_pass (figures_checks N L A descs grands b) (
@@ -137,7 +135,7 @@ module _ (N L : ℕ) (A : List ℤ) (w : Drawn N L A) where
         ),
       )
 
-  pub raster_checks : (room : ℕ) → all_of N ≤ room → first_failing (reorder_checks N (length A) room) ≡ outcome.Done
+  pub raster_checks : (room : ℕ) → all_of N ≤ room → first_failing (reorder_checks N (length A) room) ≡ Ok tt
   unfolding AllHold
   raster_checks room h =
       all_pass (reorder_checks N (length A) room) (w.side, (eq-eqb (length A) (all_of N) w.whole, (le-leb (all_of N) room h, tt)))
@@ -170,7 +168,7 @@ pub side_shown : (N : ℕ) → N ≤ most_shown_n → (1 ≤ 2 ^ N) × (2 ^ N �
 side_shown N h = (one-le-pow N 2 (omega arith), pow_mono {i = N} {j = 6} h, pow-le-pow_right {n = 4} (omega arith) {i = N} {j = 6} h)
 
 -- what is decoded into the tables that are shown
-pub drawn_own : (file : List ℕ) (left : Tables) (d : Decoded) → Decodes midpoint file (zeros (all_of most_shown_n)) (decode.Done d) left
+pub drawn_own : (file : List ℕ) (left : Tables) (d : Decoded) → Decodes midpoint file (zeros (all_of most_shown_n)) (Ok d) left
     → Drawn d.n d.l (take (all_of d.n) left.values) × (d.p ≤ most_planes) × (d.finished ≤ d.p) × (all_of d.n ≤ 4096)
 drawn_own file left d q =
     let size = length-replicate (all_of most_shown_n) (pos 0) in

@@ -1,5 +1,5 @@
 -- When a file is too large, way by way; how long a number is; and a row as a part of the picture.
-use mathlib.Core.Path.{◌≡◌, ap, ◌∙◌}
+use mathlib.Core.Path.{◌≡◌}
 use mathlib.Core.Bool.{true, false}
 use mathlib.Core.List.{List}
 use Prim.Native.Nat.{ℕ, zero, suc, ◌+◌, ◌*◌, ◌-◌, ◌≤◌, ◌<◌}
@@ -8,7 +8,7 @@ use borrow.Author.Tests.{lt-ltb, le-ltb}
 use lib.Dec.{leb}
 use lib.IntN.{ℤ, pos, negsuc}
 use lib.ListN.{length, take, drop, length-drop}
-use lib.Seq.{take_all, length-take-le}
+use lib.Seq.{take_all}
 use mir.Syntax.{w32}
 use mir.Val.{SFits}
 use Rattle.sizes.specs.Sizes.{most_n}
@@ -53,15 +53,15 @@ rows_left (suc k) side h =
     let e : suc k - 1 ≡ k = omega arith in
     rw e (omega arith)
 
+-- whether rows are left, by the numbers that are
+pub some_left : (left side n : ℕ) → n ≡ left * side → 1 ≤ n → 0 < left
+some_left zero side n e h = absurd (omega arith)
+some_left (suc k) side n e h = omega arith
+
+pub none_left : (left side n : ℕ) → n ≡ left * side → n < side → left ≤ 0
+none_left zero side n e h = omega arith
+none_left (suc k) side n e h = absurd (omega (arith, rows_left (suc k) side (omega arith)))
+
 -- a row of a picture, and a row behind its first number, as parts of a list
-pub row_part : (side from : ℕ) (raster : List ℤ) → take (from + side - from) (drop from raster) ≡ take side (drop from raster)
-row_part side from raster =
-    let e : from + side - from ≡ side = omega arith in
-    rw e
-
-pub row_length : (side from : ℕ) (raster : List ℤ) → from + side ≤ length raster → length (take (from + side - from) (drop from raster)) ≡ side
-row_length side from raster h =
-    ap {B = ℕ} length (row_part side from raster) ∙ length-take-le side (drop from raster) (omega (arith, length-drop from raster))
-
 pub rest_part : (row : List ℤ) → take (length row - 1) (drop 1 row) ≡ drop 1 row
 rest_part row = take_all (length row - 1) (drop 1 row) (omega (arith, length-drop 1 row))

@@ -5,8 +5,8 @@ use Prim.Native.Nat.{ℕ, zero, suc, ◌+◌, ◌-◌, ◌≤◌, ◌<◌}
 use native.Mathlib.Numerals.{add-one}
 use native.Mathlib.Omega.{arith}
 use lib.IntN.{ℤ, pos}
-use lib.ListN.{length, get_or, set, take, drop, drop_of_length-le}
-use lib.Seq.{drop-cons, drop-drop}
+use lib.ListN.{length, get_or, take, drop, drop_of_length-le}
+use lib.Seq.{drop-cons, drop-drop, take_at, drop_at}
 use Rattle.decimal.specs.Decimal.{signed_decimal}
 use Rattle.figures.specs.Figures.{figures_of}
 use Rattle.show.specs.Text.{Word, number, space, newline, words_after, line_text, text_of, plane_line, plane_lines, row_lines}
@@ -26,12 +26,6 @@ text_one line = append-nil (line_text line)
 -- ---- what is left of a text, turn by turn
 
 module _ {o₀ whole o p : List ℕ} {at₀ at end : ℕ} where
-  -- of letters, from the i-th on
-  pub leaves_letter : (word : List ℕ) (i : ℕ) → i < length word → Leaves o₀ at₀ whole o at (drop i word) → p ≡ set o at (get_or word i 0) → end ≡ at + 1 → Leaves o₀ at₀ whole p end (drop (i + 1) word)
-  leaves_letter word i h l e f =
-      let here : Leaves o₀ at₀ whole o at (get_or word i 0 ∷ drop (suc i) word) = rw (drop-cons word i 0 h) at l in
-      rw add-one (leaves_on {s = get_or word i 0 ∷ []} here (record { stored = e; ends = f }))
-
   -- of the numbers of a row, from the i-th on
   pub leaves_number : (row : List ℤ) (i : ℕ) → i < length row → Leaves o₀ at₀ whole o at (words_after (map number (drop i row)))
       → Puts o at (space ∷ signed_decimal (get_or row i (pos 0))) p end → Leaves o₀ at₀ whole p end (words_after (map number (drop (i + 1) row)))
@@ -49,6 +43,15 @@ module _ {o₀ whole o p : List ℕ} {at₀ at end : ℕ} where
       let e : suc k - 1 ≡ k = omega arith in
       rw (e, ← drop-drop side from raster) (leaves_on l a)
 
+  -- the same, of rows of which k are put
+  pub leaves_chunk : (side k : ℕ) (row rest : List ℤ) → length row ≡ side → 0 < side - k → Leaves o₀ at₀ whole o at (text_of (row_lines side (side - k) (row ++ rest)))
+      → Puts o at (line_text (map number row)) p end → Leaves o₀ at₀ whole p end (text_of (row_lines side (side - k - 1) rest))
+  leaves_chunk side k row rest e h l a =
+      let first = take_at row rest side e in
+      let behind : drop (0 + side) (row ++ rest) ≡ rest = drop_at row rest (0 + side) (omega (arith, e)) in
+      let next = leaves_row side (side - k) 0 (row ++ rest) h l (rw first a) in
+      rw behind at next
+
   -- of the lines of the finished planes
   pub leaves_plane : (N L : ℕ) (A : List ℤ) (b left : ℕ) → 0 < left → Leaves o₀ at₀ whole o at (text_of (plane_lines N L A b left))
       → Puts o at (line_text (plane_line (b - 1) (figures_of N L A (b - 1)))) p end → Leaves o₀ at₀ whole p end (text_of (plane_lines N L A (b - 1) (left - 1)))
@@ -59,9 +62,6 @@ module _ {o₀ whole o p : List ℕ} {at₀ at end : ℕ} where
       rw e (leaves_on l a)
 
 -- ---- nothing is left
-
-pub no_letters : (word : List ℕ) (i : ℕ) → length word ≤ i → drop i word ≡ []
-no_letters word i h = drop_of_length-le word h
 
 pub no_numbers : (row : List ℤ) (i : ℕ) → length row ≤ i → words_after (map number (drop i row)) ≡ newline ∷ []
 unfolding words_after

@@ -31,9 +31,6 @@ pub record Leaves (o₀ : List ℕ) (at₀ : ℕ) (whole o : List ℕ) (at : ℕ
   pub stored : sets o at rest ≡ sets o₀ at₀ whole
   pub ends : at + length rest ≡ at₀ + length whole
 
-pub leaves_all : (o : List ℕ) (at : ℕ) (s : List ℕ) → Leaves o at s o at s
-leaves_all o at s = record { stored = refl; ends = refl }
-
 pub leaves_on : {o₀ whole o p s t : List ℕ} {at₀ at end : ℕ} → Leaves o₀ at₀ whole o at (s ++ t) → Puts o at s p end → Leaves o₀ at₀ whole p end t
 leaves_on {o₀} {whole} {o} {p} {s} {t} {at₀} {at} {end} l a =
     record {

@@ -7,8 +7,7 @@ use native.Mathlib.Omega.{arith}
 use Rattle.sizes.specs.Sizes.{all_of}
 use Rattle.nls.specs.Reading.{midpoint}
 use Rattle.decoder.specs.Body.{Tables, zeros}
-use Rattle.txp.specs.declared.DecodeAnswer.{DecodeAnswer}
-use Rattle.txp.specs.Calls.{Decodes}
+use Rattle.txp.specs.Calls.{Decodes, DecodeAnswer}
 use Rattle.show.specs.Text.{text_of, answer_lines, most_shown_n, too_large, too_large_line, ShownIf, Rendered}
 use Rattle.show.specs.Putting.{Puts}
 

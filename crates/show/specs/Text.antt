@@ -1,22 +1,20 @@
 -- What is shown of a file (document 01, "The program `txpshow`").
-use Rattle.std.specs.Prelude.{ℕ, zero, suc, ◌-◌, ◌^◌, ◌≡◌, Bool, true, false, ◌&&◌, ◌||◌, List, [], ◌∷◌, ◌++◌, map, leb, ltb, ℤ, pos, length, take, drop}
+use Rattle.std.specs.Prelude.{ℕ, zero, suc, ◌-◌, ◌^◌, ◌≡◌, Bool, true, false, ◌&&◌, ◌||◌, List, [], ◌∷◌, ◌++◌, map, leb, ltb, ℤ, pos, length, take, drop, Ok, Err}
 use Rattle.std.proofs.lemmas.List.Edits.{sets}
 use Rattle.refusals.specs.declared.Refusal.{Refusal}
 use Rattle.refusals.specs.Refusals.{number_of, place_of}
 use Rattle.sizes.specs.Sizes.{all_of, most_n}
 use Rattle.places.specs.Order.{rasterly}
 use Rattle.decimal.specs.Decimal.{signed_decimal}
+use Rattle.nls.specs.Reading.{midpoint}
 use Rattle.figures.specs.declared.Figures.{Figures}
 use Rattle.figures.specs.Figures.{figures_of}
 use Rattle.decoder.specs.Body.{Tables, zeros}
 use Rattle.decoder.specs.declared.ending.Ending.{Ending}
 use Rattle.decoder.specs.declared.ending.Ending.TheVariants.{Whole, Budget, Cut, GoesOn}
 use Rattle.txp.specs.declared.Decoded.{Decoded}
-use Rattle.txp.specs.declared.DecodeAnswer.{DecodeAnswer}
-use Rattle.txp.specs.declared.DecodeAnswer.TheVariants as decode
 use Rattle.txp.specs.Header.{version, letters_fit, version_fits, header_of}
-use Rattle.nls.specs.Reading.{midpoint}
-use Rattle.txp.specs.Calls.{Decodes}
+use Rattle.txp.specs.Calls.{Decodes, DecodeAnswer}
 
 -- ---- lines of words
 
@@ -96,8 +94,8 @@ picture_lines d A =
     ++ row_lines (2 ^ d.n) (2 ^ d.n) (rasterly d.n A))
 
 abbrev pub answer_lines : DecodeAnswer → List ℤ → List (List Word)
-answer_lines (decode.Done d) values = picture_lines d (take (all_of d.n) values)
-answer_lines (decode.Refused why) values = refused_line why ∷ []
+answer_lines (Ok d) values = picture_lines d (take (all_of d.n) values)
+answer_lines (Err why) values = refused_line why ∷ []
 
 -- ---- what is shown
 

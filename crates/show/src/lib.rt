@@ -10,10 +10,10 @@ ghost use Rattle.show.specs.Text.{number, space, newline, words_after, line_text
 ghost use Rattle.show.specs.Putting.{Puts, Drawn};
 
 use decoder::Ending;
-use figures::{Figures, FiguresAnswer};
-use refusals::{Outcome, Refusal};
+use figures::Figures;
+use refusals::Refusal;
 use sizes::MOST_N;
-use txp::{DecodeAnswer, Decoded};
+use txp::Decoded;
 
 // The largest file, and the largest N, that is shown.
 const MOST_SHOWN: usize = 16384;
@@ -41,6 +41,7 @@ fn is_large(file: &[u8]) -> bool
 }
 
 // Stores a character at an entry; past the end it does nothing.
+// Kept: of the buffer behind `out.get_mut(at)` a proof knows the length and no entry, so that the write through it did not close.
 fn store(out: &mut [u8], at: usize, x: u8)
     ensures { out.new ≡ set out.old at x }
 {
@@ -63,15 +64,10 @@ fn put_letters(out: &mut [u8], at: usize, word: &[u8]) -> usize
     requires { (at < 2 ^ 32) × (length word.now < 2 ^ 32) }
     ensures { Puts out.old at word.now out.new result }
 {
-    let mut end = at;
-    let mut i = 0;
-    while i < word.len() {
-        let x = word[i];
-        store(out, end, x);
-        end += 1;
-        i += 1;
+    for (i, x) in word.iter().enumerate() {
+        store(out, at + i, *x);
     }
-    end
+    at + word.len()
 }
 
 // A number with a sign.
@@ -180,15 +176,7 @@ fn figures_at(
     requires { Drawn n l values.now × (plane < most_planes) × (all_of n ≤ 4 * length desc.old) × (all_of n ≤ 16 * length grand.old) }
     ensures { result ≡ figures_of n l values.now plane }
 {
-    match figures::figures_of(n, l, values, plane, desc, grand) {
-        FiguresAnswer::Done(f) => f,
-        FiguresAnswer::Refused(_) => Figures {
-            parts: 0,
-            splits: 0,
-            bits: 0,
-            found: 0,
-        },
-    }
+    figures::figures_of(n, l, values, plane, desc, grand).unwrap()
 }
 
 // The lines of the finished planes, from the highest down.
@@ -207,11 +195,7 @@ fn put_planes(
     ensures { Puts out.old at (text_of (plane_lines n l values.now planes finished)) out.new result × (result ≤ at + 50 * finished) }
 {
     let mut end = at;
-    let mut plane = planes;
-    let mut left = finished;
-    while 0 < left {
-        plane -= 1;
-        left -= 1;
+    for plane in (planes - finished..planes).rev() {
         let f = figures_at(n, l, values, plane, desc, grand);
         end = put_plane(out, end, plane, f);
     }
@@ -224,11 +208,8 @@ fn put_row_behind(out: &mut [u8], at: usize, row: &[i32]) -> usize
     ensures { Puts out.old at (words_after (map number row.now)) out.new result × (result ≤ at + 800) }
 {
     let mut end = at;
-    let mut i = 0;
-    while i < row.len() {
-        let x = row[i];
-        end = put_next(out, end, x);
-        i += 1;
+    for x in row {
+        end = put_next(out, end, *x);
     }
     put_byte(out, end, b'\n')
 }
@@ -249,13 +230,8 @@ fn put_rows(out: &mut [u8], at: usize, raster: &[i32], side: usize) -> usize
     ensures { Puts out.old at (text_of (row_lines side side raster.now)) out.new result × (result ≤ at + 900 * side) }
 {
     let mut end = at;
-    let mut from = 0;
-    let mut left = side;
-    while 0 < left {
-        left -= 1;
-        let next = from + side;
-        end = put_row(out, end, &raster[from..next]);
-        from = next;
+    for row in raster.chunks_exact(side) {
+        end = put_row(out, end, row);
     }
     end
 }
@@ -281,7 +257,7 @@ fn put_square(
     ensures { Puts out.old at (text_of (row_lines (2 ^ n) (2 ^ n) (rasterly n values.now))) out.new result × (result ≤ at + 57600) }
 {
     let side = side_of(n);
-    places::reorder_to_raster(n, values, raster);
+    let _ = places::reorder_to_raster(n, values, raster);
     let count = values.len();
     put_rows(out, at, &raster[..count], side)
 }
@@ -313,10 +289,10 @@ pub fn render(file: &[u8], out: &mut [u8]) -> usize
     let mut precisions = [0u8; 4096];
     let mut marks = [0u8; 4096];
     match txp::decode_midpoint(file, &mut values, &mut precisions, &mut marks) {
-        DecodeAnswer::Done(d) => {
+        Ok(d) => {
             let all = sizes::all_of(d.n);
             put_picture(out, d, &values[..all])
         }
-        DecodeAnswer::Refused(why) => put_refusal(out, why),
+        Err(why) => put_refusal(out, why),
     }
 }

@@ -1,12 +1,12 @@
 // The sizes of document 01, and the checks behind refusals 1 to 3.
 #![tactic(auto)]
 
-ghost use Rattle.std.specs.Prelude.{◌≡◌, ◌&&◌, cond, ◌^◌, ◌≤◌, min};
+ghost use Rattle.std.specs.Prelude.{◌≡◌, ◌&&◌, cond, ◌^◌, ◌≤◌};
 ghost use Rattle.refusals.specs.Checks.{first_failing};
 ghost use Rattle.sizes.specs.Sizes.{side_fits, levels_fit, all_of, coarsest_of, most_n};
 ghost use Rattle.sizes.specs.Checks.{size_checks};
 
-use refusals::{Outcome, Refusal};
+use refusals::Refusal;
 
 // The least and the largest N.
 pub const LEAST_N: u32 = 2;
@@ -18,16 +18,6 @@ pub const LIMIT: u32 = 16777215;
 
 // The largest number of planes.
 pub const MOST_PLANES: u32 = 24;
-
-// The smaller of two.
-pub fn smaller(a: u32, b: u32) -> u32
-    ensures { result ≡ min a b }
-{
-    if a < b {
-        return a;
-    }
-    b
-}
 
 // Whether N is in range.
 pub fn side_fits(n: u32) -> bool
@@ -80,17 +70,17 @@ pub fn coarsest_of(n: u32, l: u32) -> usize
 }
 
 // The refusal of sizes out of range, or of an array that has not an entry for each place.
-pub fn check_sizes(n: u32, l: u32, count: usize) -> Outcome
+pub fn check_sizes(n: u32, l: u32, count: usize) -> Result<(), Refusal>
     ensures { result ≡ first_failing (size_checks n l count) }
 {
     if !side_fits(n) {
-        return Outcome::Refused(Refusal::Side);
+        return Err(Refusal::Side);
     }
     if !levels_fit(n, l) {
-        return Outcome::Refused(Refusal::Levels);
+        return Err(Refusal::Levels);
     }
     if count != all_of(n) {
-        return Outcome::Refused(Refusal::Length);
+        return Err(Refusal::Length);
     }
-    Outcome::Done
+    Ok(())
 }

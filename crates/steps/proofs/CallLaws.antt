@@ -10,12 +10,11 @@ use lib.Dec.{leb, ltb, eqb}
 use lib.IntN.{ℤ}
 use lib.ListN.{length, take, drop, take-append-drop, length-append}
 use lib.Seq.{length-take-le}
-use Rattle.refusals.specs.Checks.{Check, need, first_failing}
+use Rattle.std.specs.Prelude.{Ok, Err}
+use Rattle.refusals.specs.Checks.{Check, need, first_failing, Outcome}
 use Rattle.refusals.specs.declared.Refusal.{Refusal}
 use Rattle.refusals.specs.declared.Refusal.TheVariants.{Contradiction, Beyond, First, Spent, Lent}
 use Rattle.refusals.specs.declared.Refusal.TheVariants as refusal
-use Rattle.refusals.specs.declared.Outcome.{Outcome}
-use Rattle.refusals.specs.declared.Outcome.TheVariants as outcome
 use Rattle.refusals.proofs.Laws.{first_holds, first_fails, first_none, AllHold, passed, first_then_done, first_then_refused}
 use Rattle.sizes.specs.Sizes.{all_of, coarsest_of}
 use Rattle.sizes.proofs.Laws.{both, both_left, both_right, sized}
@@ -26,17 +25,15 @@ use Rattle.nls.specs.Reading.{midpoint, last_plane, planes_finished, worst_error
 use Rattle.nls.specs.Judging.{Verdict, taken, contradiction, beyond}
 use Rattle.room.specs.Room.{room_in, table_checks, read_checks, body_bits}
 use Rattle.room.proofs.Laws.{DecodeReady, decode_ready}
-use Rattle.decoder.specs.Body.{Tables, tables, read_answer, over, ReadsTo, Reads}
-use Rattle.decoder.specs.Ending.{whole_or, ending}
-use Rattle.decoder.specs.declared.ending.Ending.{Ending}
-use Rattle.decoder.specs.declared.ending.Ending.TheVariants.{GoesOn}
-use Rattle.decoder.specs.declared.body.ReadAnswer.{ReadAnswer}
-use Rattle.decoder.specs.declared.body.ReadAnswer.TheVariants as decode
-use Rattle.decoder.specs.declared.body.ReadTo.{ReadTo}
 use Rattle.moves.specs.Stands.{stand_of}
 use Rattle.moves.specs.Moves.{onward}
 use Rattle.moves.proofs.Laws.{state_stand}
 use Rattle.undo.specs.Back.{big_in, back}
+use Rattle.decoder.specs.Body.{Tables, tables, read_answer, over, ReadsTo, Reads, ReadAnswer}
+use Rattle.decoder.specs.Ending.{whole_or, ending}
+use Rattle.decoder.specs.declared.ending.Ending.{Ending}
+use Rattle.decoder.specs.declared.ending.Ending.TheVariants.{GoesOn}
+use Rattle.decoder.specs.declared.body.ReadTo.{ReadTo}
 use Rattle.steps.specs.Records.{record_of, record_after, in_range, stand_in, state_in, Step, step, stays}
 use Rattle.steps.specs.Moved.{asked_in, heard, unheard, noted, moved_to, barred, raised, raised_to, lowered, lowered_to}
 use Rattle.steps.specs.Ready.{Ready, CallReady, Stood, forward_in, back_in, own_steps}
@@ -49,7 +46,7 @@ use Rattle.steps.proofs.Good.{Own, own_over, over_over}
 
 -- ---- the checks of a record and of the tables lent with it, where all hold
 
-pub call_ready : (r : Record) (most values precisions marks : ℕ) → outcome.Done ≡ first_failing (record_checks r most values precisions marks) → CallReady r most values precisions marks
+pub call_ready : (r : Record) (most values precisions marks : ℕ) → (Ok tt) ≡ first_failing (record_checks r most values precisions marks) → CallReady r most values precisions marks
 unfolding AllHold room_in
 call_ready r most values precisions marks is =
     let all = passed (record_checks r most values precisions marks) (sym is) in
@@ -65,7 +62,7 @@ call_ready r most values precisions marks is =
 
 -- and all hold where these are so
 pub checks_done : (r : Record) (most values precisions marks : ℕ) → in_range r ≡ true → r.used ≤ most → all_of r.n ≤ values → all_of r.n ≤ precisions → all_of r.n ≤ marks
-    → first_failing (record_checks r most values precisions marks) ≡ outcome.Done
+    → first_failing (record_checks r most values precisions marks) ≡ Ok tt
 unfolding room_in
 checks_done r most values precisions marks range few v k m =
     first_holds (in_range r && leb r.used most) refusal.Record (table_checks (all_of r.n) values precisions marks) (both range (le-leb r.used most few))
@@ -98,18 +95,18 @@ own_back I held =
 
 -- any call whose last check is t: `to` answers by the outcome of the checks, and `f` is the step over the first I entries
 module _ (checks : List Check) (t : Bool) (why : Refusal) (r : Record) (held : Tables) (to : Outcome → Step) where
-  call_refused : (cause : Refusal) → outcome.Refused cause ≡ first_failing checks → to (outcome.Refused cause) ≡ stays cause r held
+  call_refused : (cause : Refusal) → Err cause ≡ first_failing checks → to (Err cause) ≡ stays cause r held
       → stays cause r held ≡ to (first_failing (checks ++ (need t why ∷ [])))
   call_refused cause is e = sym e ∙ ap (λ (o : Outcome). to o) (sym (first_then_refused checks (need t why ∷ []) cause (sym is)))
 
-  module _ (is : outcome.Done ≡ first_failing checks) where
+  module _ (is : (Ok tt) ≡ first_failing checks) where
     last : first_failing (checks ++ (need t why ∷ [])) ≡ first_failing (need t why ∷ [])
     last = first_then_done checks (need t why ∷ []) (sym is)
 
-    call_barred : t ≡ false → to (outcome.Refused why) ≡ stays why r held → stays why r held ≡ to (first_failing (checks ++ (need t why ∷ [])))
+    call_barred : t ≡ false → to (Err why) ≡ stays why r held → stays why r held ≡ to (first_failing (checks ++ (need t why ∷ [])))
     call_barred h e = sym e ∙ ap (λ (o : Outcome). to o) (sym (last ∙ first_fails t why [] h))
 
-    call_moved : (I : ℕ) (f : Tables → Step) → to outcome.Done ≡ within I held (f (own_of I held)) → to (outcome.Refused why) ≡ stays why r held
+    call_moved : (I : ℕ) (f : Tables → Step) → to (Ok tt) ≡ within I held (f (own_of I held)) → to (Err why) ≡ stays why r held
         → within I held (cond t (f (own_of I held)) (stays why r (own_of I held))) ≡ to (first_failing (checks ++ (need t why ∷ [])))
     call_moved I f done refused = tell t refl
       where
@@ -138,17 +135,17 @@ module _ (declared : ℕ) (body : List ℕ) (r : Record) (held : Tables) (most :
   so : (o : Outcome) → o ≡ outcome_for r held most → o ≡ first_failing checks
   so o is = is ∙ ap (λ (k : ℕ). outcome_for r held k) em
 
-  pub forward_refused : (cause : Refusal) → outcome.Refused cause ≡ outcome_for r held most → stays cause r held ≡ forward_of declared body r held
+  pub forward_refused : (cause : Refusal) → Err cause ≡ outcome_for r held most → stays cause r held ≡ forward_of declared body r held
   forward_refused cause is =
       call_refused checks (ltb r.used (usable_bits declared body)) Spent r held (λ o. forward_to o declared body r held) cause (so _ is) refl
 
-  pub back_refused : (cause : Refusal) → outcome.Refused cause ≡ outcome_for r held most → stays cause r held ≡ back_of declared body r held
+  pub back_refused : (cause : Refusal) → Err cause ≡ outcome_for r held most → stays cause r held ≡ back_of declared body r held
   back_refused cause is = call_refused checks (ltb 0 r.used) First r held (λ o. back_to o declared body r held) cause (so _ is) refl
 
-  module _ (is : outcome.Done ≡ outcome_for r held most) where
+  module _ (is : (Ok tt) ≡ outcome_for r held most) where
     -- all hold for the usable bits of the body
     pub usable_ready : CallReady r (usable_bits declared body) (length held.values) (length held.precisions) (length held.marks)
-    usable_ready = call_ready r (usable_bits declared body) (length held.values) (length held.precisions) (length held.marks) (so outcome.Done is)
+    usable_ready = call_ready r (usable_bits declared body) (length held.values) (length held.precisions) (length held.marks) (so (Ok tt) is)
 
     -- where no usable bit is left, and where no bit is used
     pub forward_at_end : r.used ≡ most → stays Spent r held ≡ forward_of declared body r held
@@ -172,23 +169,23 @@ module _ (declared : ℕ) (body : List ℕ) (r : Record) (held : Tables) (most :
 
 module _ (f : Record → Tables → Step) (at x : Step) (e : x ≡ f at.dial at.held) (k j : ℕ) (more : k ≡ suc j) where
   -- one of them is done
-  pub steps_on : (d : ReadTo) → x.answer ≡ decode.Done d → steps_of f j x ≡ steps_of f k at
+  pub steps_on : (d : ReadTo) → x.answer ≡ Ok d → steps_of f j x ≡ steps_of f k at
   unfolding steps_of
   steps_on d g =
       sym (ap (λ (n : ℕ). steps_of f n at) more ∙ tell (f at.dial at.held).answer (ap (λ (z : Step). z.answer) (sym e) ∙ g) ∙ ap (λ (z : Step). steps_of f j z) (sym e))
     where
-      tell : (a : ReadAnswer) → a ≡ decode.Done d
-          → elim a [ decode.Done y ↦ steps_of f j (f at.dial at.held) | decode.Refused why ↦ f at.dial at.held ] ≡ steps_of f j (f at.dial at.held)
+      tell : (a : ReadAnswer) → a ≡ Ok d
+          → elim a [ Ok y ↦ steps_of f j (f at.dial at.held) | Err why ↦ f at.dial at.held ] ≡ steps_of f j (f at.dial at.held)
       tell a h = rw h
 
   -- one of them is refused
-  pub steps_end : (why : Refusal) → x.answer ≡ decode.Refused why → x ≡ steps_of f k at
+  pub steps_end : (why : Refusal) → x.answer ≡ Err why → x ≡ steps_of f k at
   unfolding steps_of
   steps_end why g =
       sym (ap (λ (n : ℕ). steps_of f n at) more ∙ tell (f at.dial at.held).answer (ap (λ (z : Step). z.answer) (sym e) ∙ g) ∙ sym e)
     where
-      tell : (a : ReadAnswer) → a ≡ decode.Refused why
-          → elim a [ decode.Done y ↦ steps_of f j (f at.dial at.held) | decode.Refused w ↦ f at.dial at.held ] ≡ f at.dial at.held
+      tell : (a : ReadAnswer) → a ≡ Err why
+          → elim a [ Ok y ↦ steps_of f j (f at.dial at.held) | Err w ↦ f at.dial at.held ] ≡ f at.dial at.held
       tell a h = rw h
 
 -- no step is left
@@ -201,15 +198,15 @@ pub steps_one : (f : Record → Tables → Step) (k : ℕ) (at : Step) → k ≡
 unfolding steps_of
 steps_one f k at e = ap (λ (n : ℕ). steps_of f n at) e ∙ tell (f at.dial at.held).answer
   where
-    tell : (a : ReadAnswer) → elim a [ decode.Done y ↦ steps_of f 0 (f at.dial at.held) | decode.Refused why ↦ f at.dial at.held ] ≡ f at.dial at.held
-    tell (decode.Done y) = refl
-    tell (decode.Refused why) = refl
+    tell : (a : ReadAnswer) → elim a [ Ok y ↦ steps_of f 0 (f at.dial at.held) | Err why ↦ f at.dial at.held ] ≡ f at.dial at.held
+    tell (Ok y) = refl
+    tell (Err why) = refl
 
 -- Steps f over whole tables and steps g over their first I entries: where each f is a g, with the rest of the tables as it was, many are.
 -- `Holds` is what makes it so, and what a step that is done keeps.
 module _ (I : ℕ) (f g : Record → Tables → Step) (Holds : Record → Tables → Type 0)
     (each : (r : Record) (held : Tables) → Holds r held → within I held (g r (own_of I held)) ≡ f r held)
-    (kept : (r : Record) (held : Tables) → Holds r held → (d : ReadTo) → (g r (own_of I held)).answer ≡ decode.Done d
+    (kept : (r : Record) (held : Tables) → Holds r held → (d : ReadTo) → (g r (own_of I held)).answer ≡ Ok d
     → Own I (g r (own_of I held)).held × Holds (g r (own_of I held)).dial (over I (g r (own_of I held)).held held)) where
   abbrev Lifts : ℕ → Type 0
   Lifts k = (a : ReadAnswer) (r : Record) (held : Tables) → Holds r held → within I held (steps_of g k (step a r (own_of I held))) ≡ steps_of f k (step a r held)
@@ -231,10 +228,10 @@ module _ (I : ℕ) (f g : Record → Tables → Step) (Holds : Record → Tables
       same = each r held h
 
       tell : (b : ReadAnswer) → x.answer ≡ b → within I held (steps_of g (suc k) (step a r own)) ≡ steps_of f (suc k) (step a r held)
-      tell (decode.Refused why) e =
+      tell (Err why) e =
           ap (λ (s : Step). within I held s) (sym (steps_end g (step a r own) x refl (suc k) k refl why e)) ∙ same
           ∙ steps_end f (step a r held) (f r held) refl (suc k) k refl why (ap (λ (s : Step). s.answer) (sym same) ∙ e)
-      tell (decode.Done d) e =
+      tell (Ok d) e =
           let w = kept r held h d e in
           let later : Tables = over I x.held held in
           let end : Step = steps_of g k (step x.answer x.dial (own_of I later)) in
@@ -253,8 +250,8 @@ module _ (I : ℕ) (f g : Record → Tables → Step) (Holds : Record → Tables
 
 -- a step that is done leaves a record of the same size, in range, and tables as long
 abbrev Keeps : ℕ → ℕ → ReadAnswer → Record → Tables → Type 0
-Keeps N most (decode.Done d) dial own = (dial.n ≡ N) × (in_range dial ≡ true) × (dial.used ≤ most) × Own (all_of N) own
-Keeps N most (decode.Refused why) dial own = Unit {0}
+Keeps N most (Ok d) dial own = (dial.n ≡ N) × (in_range dial ≡ true) × (dial.used ≤ most) × Own (all_of N) own
+Keeps N most (Err why) dial own = Unit {0}
 
 module _ (word : ℕ → ℕ → Ending) (r : Record) (most : ℕ) (t : Tables) (w : Ready r (length t.values) (length t.precisions) (length t.marks)) where
   moved_keeps : (used : ℕ) (s : State) (v : List ℤ) (k : List ℕ) → used ≤ most → Stood r (stand_of s) → Own (all_of r.n) (tables v k s.marks)
@@ -323,7 +320,7 @@ module _ (word : ℕ → ℕ → Ending) (r : Record) (most : ℕ) (t : Tables) 
 -- the checks hold, for a record of N
 record Checked (N most : ℕ) (r : Record) (held : Tables) : Type 0 where
   side : r.n ≡ N
-  done : outcome.Done ≡ outcome_for r held most
+  done : (Ok tt) ≡ outcome_for r held most
 
 module _ (N most : ℕ) (r : Record) (held : Tables) (h : Checked N most r held) where
   abbrev own : Tables
@@ -335,10 +332,10 @@ module _ (N most : ℕ) (r : Record) (held : Tables) (h : Checked N most r held)
   as_long : Ready r (length own.values) (length own.precisions) (length own.marks)
   as_long = own_ready r most held ready (all_of N) (ap all_of (sym h.side))
 
-  checked_on : (x : Step) → Keeps r.n most x.answer x.dial x.held → (d : ReadTo) → x.answer ≡ decode.Done d
+  checked_on : (x : Step) → Keeps r.n most x.answer x.dial x.held → (d : ReadTo) → x.answer ≡ Ok d
       → Own (all_of N) x.held × Checked N most x.dial (over (all_of N) x.held held)
   checked_on x k d e =
-      let z : Keeps N most (decode.Done d) x.dial x.held = subst (λ (n : ℕ). Keeps n most (decode.Done d) x.dial x.held) h.side (subst (λ (a : ReadAnswer). Keeps r.n most a x.dial x.held) e k) in
+      let z : Keeps N most (Ok d) x.dial x.held = subst (λ (n : ℕ). Keeps n most (Ok d) x.dial x.held) h.side (subst (λ (a : ReadAnswer). Keeps r.n most a x.dial x.held) e k) in
       let i : all_of x.dial.n ≡ all_of N = ap all_of z.0 in (
         z.3,
         record {
@@ -353,24 +350,24 @@ module _ (N most : ℕ) (r : Record) (held : Tables) (h : Checked N most r held)
       )
 
 module _ (word : ℕ → ℕ → Ending) (body : List ℕ) (most N : ℕ) where
-  forward_on : (r : Record) (held : Tables) → Checked N most r held → (d : ReadTo) → let x = forward_in word most body r (own_of (all_of N) held) in x.answer ≡ decode.Done d
+  forward_on : (r : Record) (held : Tables) → Checked N most r held → (d : ReadTo) → let x = forward_in word most body r (own_of (all_of N) held) in x.answer ≡ Ok d
       → Own (all_of N) x.held × Checked N most x.dial (over (all_of N) x.held held)
   forward_on r held h d e =
       checked_on N most r held h (forward_in word most body r (own_of (all_of N) held))
       (forward_keeps word r most (own_of (all_of N) held) (as_long N most r held h) body) d e
 
-  back_on : (r : Record) (held : Tables) → Checked N most r held → (d : ReadTo) → let x = back_in word body r (own_of (all_of N) held) in x.answer ≡ decode.Done d
+  back_on : (r : Record) (held : Tables) → Checked N most r held → (d : ReadTo) → let x = back_in word body r (own_of (all_of N) held) in x.answer ≡ Ok d
       → Own (all_of N) x.held × Checked N most x.dial (over (all_of N) x.held held)
   back_on r held h d e =
       checked_on N most r held h (back_in word body r (own_of (all_of N) held))
       (back_keeps word r most (own_of (all_of N) held) (as_long N most r held h) body (ready N most r held h).few) d e
 
-module _ (declared : ℕ) (body : List ℕ) (r : Record) (held : Tables) (most : ℕ) (em : most ≡ usable_bits declared body) (is : outcome.Done ≡ outcome_for r held most) (k : ℕ) where
+module _ (declared : ℕ) (body : List ℕ) (r : Record) (held : Tables) (most : ℕ) (em : most ≡ usable_bits declared body) (is : (Ok tt) ≡ outcome_for r held most) (k : ℕ) where
   forward_all : own_steps (ending declared body) (forward_in (ending declared body) (usable_bits declared body) body) k r held ≡ steps_of (forward_of declared body) k (step (position_of (ending declared body) r) r held)
   forward_all =
       steps_within (all_of r.n) (forward_of declared body) (forward_in (ending declared body) (usable_bits declared body) body) (Checked r.n (usable_bits declared body))
       (λ s t h. forward_once declared body s t (usable_bits declared body) refl h.done (all_of r.n) (ap all_of (sym h.side))) (forward_on (ending declared body) body (usable_bits declared body) r.n)
-      k (position_of (ending declared body) r) r held (record { side = refl; done = so declared body r held most em outcome.Done is })
+      k (position_of (ending declared body) r) r held (record { side = refl; done = so declared body r held most em (Ok tt) is })
 
   back_all : own_steps (ending declared body) (back_in (ending declared body) body) k r held ≡ steps_of (back_of declared body) k (step (position_of (ending declared body) r) r held)
   back_all =
@@ -392,10 +389,10 @@ module _ (declared to : ℕ) (body : List ℕ) (r : Record) (held : Tables) (mos
   by_checks : (o : Outcome) → o ≡ outcome_for r held most → turn_to o declared to body r held ≡ turn_of declared to body r held
   by_checks o is = ap (λ (q : Outcome). turn_to q declared to body r held) (so declared body r held most em o is)
 
-  pub turn_refused : (why : Refusal) → outcome.Refused why ≡ outcome_for r held most → stays why r held ≡ turn_of declared to body r held
-  turn_refused why is = by_checks (outcome.Refused why) is
+  pub turn_refused : (why : Refusal) → Err why ≡ outcome_for r held most → stays why r held ≡ turn_of declared to body r held
+  turn_refused why is = by_checks (Err why) is
 
-  module _ (is : outcome.Done ≡ outcome_for r held most) (x : Step) where
+  module _ (is : (Ok tt) ≡ outcome_for r held most) (x : Step) where
     abbrev down : Step
     down = steps_of (back_of declared body) (r.used - to) (step (position_of (ending declared body) r) r held)
 
@@ -403,7 +400,7 @@ module _ (declared to : ℕ) (body : List ℕ) (r : Record) (held : Tables) (mos
     up = steps_of (forward_of declared body) (to - r.used) (step (position_of (ending declared body) r) r held)
 
     by_test : (b : Bool) → leb to r.used ≡ b → cond b down up ≡ turn_of declared to body r held
-    by_test b e = ap (λ (t : Bool). cond t down up) (sym e) ∙ by_checks outcome.Done is
+    by_test b e = ap (λ (t : Bool). cond t down up) (sym e) ∙ by_checks (Ok tt) is
 
     pub turn_down : to ≤ r.used → x ≡ own_steps (ending declared body) (back_in (ending declared body) body) (r.used - to) r held → x ≡ turn_of declared to body r held
     turn_down h e = e ∙ back_all declared body r held most em is (r.used - to) ∙ by_test true (le-leb to r.used h)
@@ -426,48 +423,48 @@ module _ (N L P : ℕ) (body : List ℕ) (held : Tables) (answer : ReadAnswer) (
       subst (λ (b : ReadAnswer). ReadsTo checked midpoint (ending 0 body) N L P [] held b left) e (subst (λ (u : List Bool). ReadsTo checked midpoint (ending 0 body) N L P u held answer left) none_read read)
 
   -- a call that is done passed its checks
-  pub start_ready : (d : ReadTo) → answer ≡ decode.Done d → DecodeReady N L P (length held.values) (length held.precisions) (length held.marks)
-  start_ready d e = tell checked refl (read_so (decode.Done d) e)
+  pub start_ready : (d : ReadTo) → answer ≡ Ok d → DecodeReady N L P (length held.values) (length held.precisions) (length held.marks)
+  start_ready d e = tell checked refl (read_so (Ok d) e)
     where
-      tell : (o : Outcome) → checked ≡ o → ReadsTo o midpoint (ending 0 body) N L P [] held (decode.Done d) left → DecodeReady N L P (length held.values) (length held.precisions) (length held.marks)
-      tell outcome.Done h k = decode_ready N L P (length held.values) (length held.precisions) (length held.marks) (sym h)
-      tell (outcome.Refused why) h k =
-          let f : decode.Done d ≡ decode.Refused why = k.0 in
+      tell : (o : Outcome) → checked ≡ o → ReadsTo o midpoint (ending 0 body) N L P [] held (Ok d) left → DecodeReady N L P (length held.values) (length held.precisions) (length held.marks)
+      tell (Ok tt) h k = decode_ready N L P (length held.values) (length held.precisions) (length held.marks) (sym h)
+      tell (Err why) h k =
+          let f : Ok d ≡ Err why = k.0 in
           let z : ◌≡◌ {A = ℕ} 0 1 = cc in
           absurd (omega arith)
 
   -- the same reading, with the word of a start
   start_as : (a : ReadAnswer) → ((v : Verdict) → answer ≡ read_answer (ending 0 body) N L P [] v → a ≡ read_answer unended N L P [] v)
-      → ((why : Refusal) → answer ≡ decode.Refused why → a ≡ decode.Refused why) → ReadsTo checked midpoint unended N L P [] held a left
+      → ((why : Refusal) → answer ≡ Err why → a ≡ Err why) → ReadsTo checked midpoint unended N L P [] held a left
   start_as a f g = tell checked (read_so answer refl)
     where
       tell : (o : Outcome) → ReadsTo o midpoint (ending 0 body) N L P [] held answer left → ReadsTo o midpoint unended N L P [] held a left
-      tell outcome.Done k = record { verdict = k.verdict; judged = k.judged; answered = f k.verdict k.answered; filled = k.filled }
-      tell (outcome.Refused why) k = (g why k.0, k.1)
+      tell (Ok tt) k = record { verdict = k.verdict; judged = k.judged; answered = f k.verdict k.answered; filled = k.filled }
+      tell (Err why) k = (g why k.0, k.1)
 
-  pub start_done : (r : Record) (d : ReadTo) → answer ≡ decode.Done d → (said : Ending) → said ≡ whole_or P GoesOn → (dial : Record) → dial ≡ record_after N L P []
-      → Starts N L P r held (decode.Done (record { used = d.used; finished = d.finished; error = d.error; ending = said })) dial left
+  pub start_done : (r : Record) (d : ReadTo) → answer ≡ Ok d → (said : Ending) → said ≡ whole_or P GoesOn → (dial : Record) → dial ≡ record_after N L P []
+      → Starts N L P r held (Ok (record { used = d.used; finished = d.finished; error = d.error; ending = said })) dial left
   start_done r d e said is dial first = record { reads = start_as started read_in refused_in; recorded = first }
     where
       started : ReadAnswer
-      started = decode.Done (record { used = d.used; finished = d.finished; error = d.error; ending = said })
+      started = Ok (record { used = d.used; finished = d.finished; error = d.error; ending = said })
 
       read_in : (v : Verdict) → answer ≡ read_answer (ending 0 body) N L P [] v → started ≡ read_answer unended N L P [] v
       read_in taken q =
-          let a : decode.Done d ≡ read_answer (ending 0 body) N L P [] taken = sym e ∙ q in
+          let a : Ok d ≡ read_answer (ending 0 body) N L P [] taken = sym e ∙ q in
           let same : d ≡ record { used = 0; finished = planes_finished N L P []; error = worst_error N L P []; ending = ending 0 body 0 (last_plane N L P []) } = cc in
           let word : said ≡ unended 0 (last_plane N L P []) = is ∙ ap (λ (x : ℕ). whole_or x GoesOn) (sym (begin_left N L P (sized N L (start_ready d e).levels))) in
-          λ i. decode.Done (record { used = (same i).used; finished = (same i).finished; error = (same i).error; ending = word i })
+          λ i. Ok (record { used = (same i).used; finished = (same i).finished; error = (same i).error; ending = word i })
       read_in (contradiction k) q = let z : ◌≡◌ {A = ℕ} 0 1 = cc in absurd (omega (arith, z))
       read_in (beyond k) q = let z : ◌≡◌ {A = ℕ} 0 1 = cc in absurd (omega (arith, z))
 
-      refused_in : (why : Refusal) → answer ≡ decode.Refused why → started ≡ decode.Refused why
+      refused_in : (why : Refusal) → answer ≡ Err why → started ≡ Err why
       refused_in why q = let z : ◌≡◌ {A = ℕ} 0 1 = cc in absurd (omega (arith, z))
 
-  pub start_refused : (r : Record) (why : Refusal) → answer ≡ decode.Refused why → Starts N L P r held (decode.Refused why) r left
-  start_refused r why e = record { reads = start_as (decode.Refused why) read_in (λ w q. sym e ∙ q); recorded = refl }
+  pub start_refused : (r : Record) (why : Refusal) → answer ≡ Err why → Starts N L P r held (Err why) r left
+  start_refused r why e = record { reads = start_as (Err why) read_in (λ w q. sym e ∙ q); recorded = refl }
     where
-      read_in : (v : Verdict) → answer ≡ read_answer (ending 0 body) N L P [] v → decode.Refused why ≡ read_answer unended N L P [] v
+      read_in : (v : Verdict) → answer ≡ read_answer (ending 0 body) N L P [] v → Err why ≡ read_answer unended N L P [] v
       read_in taken q = let z : ◌≡◌ {A = ℕ} 0 1 = cc in absurd (omega (arith, z))
       read_in (contradiction k) q = sym e ∙ q
       read_in (beyond k) q = sym e ∙ q

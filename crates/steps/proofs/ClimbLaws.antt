@@ -7,12 +7,11 @@ use native.Mathlib.Omega.{arith}
 use borrow.Author.Tests.{eq-eqb, ne_eqb, lt-ltb, le-ltb}
 use lib.Dec.{eqb, ltb}
 use lib.IntN.{ℤ}
+use Rattle.std.specs.Prelude.{Ok}
 use Rattle.refusals.specs.declared.Refusal.{Refusal, TheVariants.Contradiction, TheVariants.Beyond, TheVariants.Spent}
 use Rattle.sizes.specs.Sizes.{most_n, most_planes, all_of, coarsest_of}
 use Rattle.sizes.proofs.Laws.{both, side_most, all_most}
-use Rattle.bits.specs.Bits.{bit_at}
-use Rattle.bits.specs.declared.Next.{Next}
-use Rattle.bits.specs.declared.Next.TheVariants.{Bit}
+use Rattle.bits.specs.Bits.{bit_at, Next}
 use Rattle.view.specs.View.{viewed}
 use Rattle.view.proofs.Laws.{viewed_within}
 use Rattle.nls.specs.Scan.{State}
@@ -23,7 +22,7 @@ use Rattle.moves.specs.declared.Stand.{Stand}
 use Rattle.moves.proofs.Laws.{state_stand}
 use Rattle.reading.specs.Reading.{bars_zero}
 use Rattle.reading.proofs.ReadLaws.{told_bit}
-use Rattle.decoder.specs.{Body.Tables, Body.tables, declared.body.ReadAnswer.ReadAnswer, declared.ending.Ending.Ending}
+use Rattle.decoder.specs.{Body.Tables, Body.tables, declared.ending.Ending.Ending, Body.ReadAnswer}
 use Rattle.steps.specs.declared.{Record.Record, Asked.Asked}
 use Rattle.steps.specs.Records.{record_at, record_of, in_range, stand_in, state_in, Step, step, stays}
 use Rattle.steps.specs.Moved.{asked_in, noted, heard, reached, moved_to, raised_to, barred}
@@ -34,7 +33,7 @@ use Rattle.steps.proofs.Standing.{record_n, record_l, record_p, record_used, rec
 use Rattle.steps.proofs.CallLaws.{steps_on, steps_end}
 
 -- what a bit read through the view tells
-pub read_bit : (body : List ℕ) (n declared : ℕ) {next : Next} → next ≡ viewed body n declared → (x : Bool) → next ≡ Bit x → (n < usable_bits declared body) × (x ≡ bit_at body n)
+pub read_bit : (body : List ℕ) (n declared : ℕ) {next : Next} → next ≡ viewed body n declared → (x : Bool) → next ≡ Ok x → (n < usable_bits declared body) × (x ≡ bit_at body n)
 read_bit body n declared is x e = (viewed_within body n declared x (sym is ∙ e), (told_bit body n declared is x e).1)
 
 module _ (r : Record) (range : in_range r ≡ true) where

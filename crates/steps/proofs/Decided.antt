@@ -8,8 +8,7 @@ use types.Logic.{Logic}
 use contract.Monad.{Fun}
 use Rattle.refusals.proofs.Decided.{OneOutcome}
 use Rattle.view.proofs.Decided.{both, Settles}
-use Rattle.decoder.specs.Body.{Tables, tables}
-use Rattle.decoder.specs.declared.body.ReadAnswer.{ReadAnswer}
+use Rattle.decoder.specs.Body.{Tables, tables, ReadAnswer}
 use Rattle.steps.specs.declared.Record.{Record}
 use Rattle.steps.specs.declared.Stepped.{Stepped}
 use Rattle.steps.proofs.One.{starts_one, forwards_one, backs_one, turns_one}

@@ -7,9 +7,8 @@ use mathlib.Core.List.{List}
 use native.Mathlib.Decide.{dec_lt}
 use native.Mathlib.Omega.{arith}
 use lib.ListN.{length}
-use Rattle.refusals.specs.Checks.{first_failing}
-use Rattle.refusals.specs.declared.Outcome.{Outcome}
-use Rattle.refusals.specs.declared.Outcome.TheVariants as outcome
+use Rattle.std.specs.Prelude.{Ok, Err}
+use Rattle.refusals.specs.Checks.{first_failing, Outcome}
 use Rattle.sizes.specs.Sizes.{all_of}
 use Rattle.sizes.proofs.Laws.{sized}
 use Rattle.bits.specs.Bits.{bits_of}
@@ -18,14 +17,12 @@ use Rattle.nls.specs.Reading.{midpoint, last_plane, planes_finished, worst_error
 use Rattle.nls.specs.Judging.{Verdict, taken, contradiction, beyond, Judged}
 use Rattle.nls.proofs.Verdicts.{judged_only}
 use Rattle.room.specs.Room.{read_checks, body_bits}
-use Rattle.decoder.specs.Body.{read_answer, Tables, own_tables, over, ReadsTo, ReadsBy, Reads}
+use Rattle.reading.proofs.NextBit.{next_beyond}
+use Rattle.decoder.specs.Body.{read_answer, Tables, own_tables, over, ReadsTo, ReadsBy, Reads, ReadAnswer}
 use Rattle.decoder.specs.Ending.{ending}
 use Rattle.decoder.specs.declared.ending.Ending.{Ending}
 use Rattle.decoder.specs.declared.ending.Ending.TheVariants.{GoesOn}
 use Rattle.decoder.proofs.Endings.{ending_goes_on}
-use Rattle.reading.proofs.NextBit.{next_beyond}
-use Rattle.decoder.specs.declared.body.ReadAnswer.{ReadAnswer}
-use Rattle.decoder.specs.declared.body.ReadAnswer.TheVariants as decode
 use Rattle.decoder.specs.declared.body.ReadTo.{ReadTo}
 use Rattle.steps.specs.Records.{Step, step}
 use Rattle.steps.specs.Steps.{usable_bits, forward_of, back_of, turn_of, Reached, Follows, TurnsTo, Starts}
@@ -36,7 +33,7 @@ use Rattle.steps.proofs.Turned.{turn_said}
 use Rattle.steps.proofs.Follows as follows
 
 -- a start that is done has read no bit
-pub start_reached : (N L P : ℕ) (r : Record) (held : Tables) (answer : ReadAnswer) (dial : Record) (left : Tables) → Starts N L P r held answer dial left → (d : ReadTo) → answer ≡ decode.Done d
+pub start_reached : (N L P : ℕ) (r : Record) (held : Tables) (answer : ReadAnswer) (dial : Record) (left : Tables) → Starts N L P r held answer dial left → (d : ReadTo) → answer ≡ Ok d
     → (body : List ℕ) → Reached N L P body 0 dial left
 start_reached N L P r held answer dial left p d is body =
     good_reached N L P body 0 dial left (start_good N L P r held answer dial left p d is body) (omega arith)
@@ -48,13 +45,13 @@ pub prefix_read : (N L P n declared : ℕ) (body : List ℕ) (held : Tables) (an
 prefix_read N L P n declared body held answer t = tell (first_failing (read_checks N L P (length held.values) (length held.precisions) (length held.marks)))
   where
     tell : (o : Outcome) → ReadsTo o midpoint (ending n body) N L P (body_bits n body) held answer t → (said : ReadAnswer) × ReadsTo o midpoint (ending declared body) N L P (body_bits n body) held said t
-    tell outcome.Done p =
+    tell (Ok tt) p =
         (read_answer (ending declared body) N L P (body_bits n body) p.verdict, record { verdict = p.verdict; judged = p.judged; answered = refl; filled = p.filled })
-    tell (outcome.Refused why) p = (decode.Refused why, (refl, p.1))
+    tell (Err why) p = (Err why, (refl, p.1))
 
 -- what an answer of decoding k bits says: the bits used, and the word for them and the planes left
 module _ (word : ℕ → ℕ → Ending) (N L P : ℕ) (body : List ℕ) (k : ℕ) (d : ReadTo) where
-  answer_says : decode.Done d ≡ read_answer word N L P (bits_of k body) taken → (d.used ≡ k) × (d.ending ≡ word d.used (last_plane N L P (bits_of k body)))
+  answer_says : Ok d ≡ read_answer word N L P (bits_of k body) taken → (d.used ≡ k) × (d.ending ≡ word d.used (last_plane N L P (bits_of k body)))
   answer_says e =
       let u : List Bool = bits_of k body in
       let same : d ≡ record { used = length u; finished = planes_finished N L P u; error = worst_error N L P u; ending = word (length u) (last_plane N L P u) } = cc in
@@ -89,14 +86,14 @@ module _ (N L P declared : ℕ) (body : List ℕ) (n : ℕ) (r : Record) (held :
       ∙ sym (stopped_here N L P body n r held (good h) (read_answer (ending declared body) N L P (bits_of n body) taken))
       ∙ ap (λ (u : List Bool). step (read_answer (ending declared body) N L P u taken) r held) (sym (body_bits_lem n body (omega (arith, h))))
 
-  went : (d : ReadTo) → (forward_of declared body r held).answer ≡ decode.Done d → Forward N L P declared body n r held
+  went : (d : ReadTo) → (forward_of declared body r held).answer ≡ Ok d → Forward N L P declared body n r held
       → Judged N L P (bits_of (n + 1) body) taken × (forward_of declared body r held ≡ decoded (ending declared body) N L P body (n + 1) held)
   went d is (goes w e) = (w, e)
   went d is (clashes w e) = let z : ◌≡◌ {A = ℕ} 0 1 = cc in absurd (omega (arith, z))
   went d is (ends w e) = let z : ◌≡◌ {A = ℕ} 0 1 = cc in absurd (omega (arith, z))
 
   -- a step forward that is done, and the one back after it
-  module _ (h : n < usable_bits declared body) (d : ReadTo) (is : (forward_of declared body r held).answer ≡ decode.Done d) where
+  module _ (h : n < usable_bits declared body) (d : ReadTo) (is : (forward_of declared body r held).answer ≡ Ok d) where
     moved : Judged N L P (bits_of (n + 1) body) taken × (forward_of declared body r held ≡ decoded (ending declared body) N L P body (n + 1) held)
     moved = went d is (forward_by N L P declared body n r held (good (omega (arith, h))) h)
 
@@ -152,11 +149,11 @@ module _ (N L P declared : ℕ) (body : List ℕ) (n : ℕ) (r : Record) (held :
         go (ends w e) = let no_end : beyond (n - 1) ≡ taken = only (beyond (n - 1)) w in let z : ◌≡◌ {A = ℕ} 0 1 = cc in absurd (omega (arith, z))
 
     -- a step back,
-    pub back_says : (d : ReadTo) → (back_of declared body r held).answer ≡ decode.Done d → (d.used ≡ n - 1) × (d.ending ≡ ending declared body d.used (last_plane N L P (bits_of (n - 1) body)))
+    pub back_says : (d : ReadTo) → (back_of declared body r held).answer ≡ Ok d → (d.used ≡ n - 1) × (d.ending ≡ ending declared body d.used (last_plane N L P (bits_of (n - 1) body)))
     back_says d is = answer_says (ending declared body) N L P body (n - 1) d (sym is ∙ ap (λ (s : Step). s.answer) came)
 
     -- whose word is that bits go on: the bit taken back is usable, and was asked for in a plane
-    pub goes_on : (d : ReadTo) → (back_of declared body r held).answer ≡ decode.Done d → d.ending ≡ GoesOn
+    pub goes_on : (d : ReadTo) → (back_of declared body r held).answer ≡ Ok d → d.ending ≡ GoesOn
     goes_on d is = (back_says d is).1 ∙ ending_goes_on declared body d.used left (tell (dec_lt 0 left)) (omega (arith, (back_says d is).0, h, k))
       where
         left : ℕ
@@ -171,6 +168,6 @@ module _ (N L P declared : ℕ) (body : List ℕ) (n : ℕ) (r : Record) (held :
             absurd (omega (arith, z))
 
   -- and a turn
-  pub turn_says : (to : ℕ) → n ≤ usable_bits declared body → (d : ReadTo) → (turn_of declared to body r held).answer ≡ decode.Done d
+  pub turn_says : (to : ℕ) → n ≤ usable_bits declared body → (d : ReadTo) → (turn_of declared to body r held).answer ≡ Ok d
       → (d.used ≡ to) × (d.ending ≡ ending declared body d.used (last_plane N L P (bits_of to body)))
   turn_says to h d is = answer_says (ending declared body) N L P body to d (turn_said N L P declared body to n r held (good h) h d is).1

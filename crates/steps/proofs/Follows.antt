@@ -4,8 +4,7 @@ use mathlib.Core.Path.{◌≡◌, sym, subst}
 use mathlib.Core.List.{List}
 use native.Mathlib.Omega.{arith}
 use Rattle.nls.specs.Reading.{midpoint}
-use Rattle.decoder.specs.{Body.Tables, Body.ReadsBy, Ending.ending}
-use Rattle.decoder.specs.declared.body.ReadAnswer.{ReadAnswer}
+use Rattle.decoder.specs.{Body.Tables, Body.ReadsBy, Ending.ending, Body.ReadAnswer}
 use Rattle.steps.specs.Records.{Step, step}
 use Rattle.steps.specs.Steps.{usable_bits, forward_of, back_of, turn_of, Reached, Follows, TurnsTo, Forwards, Backs, Turns}
 use Rattle.steps.specs.declared.Record.{Record}

@@ -8,9 +8,8 @@ use native.Mathlib.Omega.{arith}
 use lib.IntN.{ℤ}
 use lib.ListN.{length, take, drop, length-append}
 use lib.Seq.{take_at, drop_at}
-use Rattle.refusals.specs.Checks.{first_failing}
-use Rattle.refusals.specs.declared.Outcome.{Outcome}
-use Rattle.refusals.specs.declared.Outcome.TheVariants as outcome
+use Rattle.std.specs.Prelude.{Ok, Err}
+use Rattle.refusals.specs.Checks.{first_failing, Outcome}
 use Rattle.sizes.specs.Sizes.{most_planes, all_of, coarsest_of, side_fits, levels_fit, Sized}
 use Rattle.sizes.specs.Tables.{table}
 use Rattle.sizes.proofs.Laws.{sized}
@@ -26,21 +25,19 @@ use Rattle.nls.proofs.Machine.Run.{tell_left, left_none}
 use Rattle.nls.proofs.Known.{left_most}
 use Rattle.nls.proofs.Lists.{arr_of}
 use Rattle.nls.proofs.Streams.{asks_none_left, marks_length, begins_iff}
+use Rattle.room.specs.Room.{read_checks, body_bits}
+use Rattle.room.proofs.Laws.{decode_well, decode_ready, DecodeReady}
 use Rattle.moves.specs.Stands.{state_of, stand_of}
 use Rattle.moves.specs.declared.Stand.{Stand}
 use Rattle.moves.proofs.Laws.{state_stand, asked_inside}
-use Rattle.room.specs.Room.{read_checks, body_bits}
-use Rattle.room.proofs.Laws.{decode_well, decode_ready, DecodeReady}
-use Rattle.decoder.specs.Body.{read_answer, Tables, tables, own_tables, over, ReadsTo, ReadsBy, Reads}
+use Rattle.moves.proofs.Ended.{Ended, ended_settle}
+use Rattle.decoder.specs.Body.{read_answer, Tables, tables, own_tables, over, ReadsTo, ReadsBy, Reads, ReadAnswer}
 use Rattle.decoder.specs.Ending.{ending}
 use Rattle.decoder.specs.declared.ending.Ending.{Ending}
-use Rattle.decoder.specs.declared.body.ReadAnswer.{ReadAnswer}
-use Rattle.decoder.specs.declared.body.ReadAnswer.TheVariants as decode
 use Rattle.decoder.specs.declared.body.ReadTo.{ReadTo}
 use Rattle.steps.specs.Records.{record_after, in_range, state_in}
 use Rattle.steps.specs.Steps.{own_of, Reached, unended, Starts}
 use Rattle.steps.specs.declared.Record.{Record}
-use Rattle.moves.proofs.Ended.{Ended, ended_settle}
 use Rattle.steps.proofs.Standing.{Sizes, record_sizes, Means, record_means}
 
 -- ---- a scan that ended stands where a plane would begin
@@ -140,8 +137,8 @@ module _ (word : ℕ → ℕ → Ending) (N L P : ℕ) (u : List Bool) (r : Reco
 
   good_read : (o : Outcome) → o ≡ first_failing (read_checks N L P (length held.values) (length held.precisions) (length held.marks))
       → ReadsTo o midpoint word N L P u held (read_answer word N L P u taken) held → Good N L P u r held
-  good_read outcome.Done e p = good_ready (decode_ready N L P (length held.values) (length held.precisions) (length held.marks) e) p.verdict p.judged p.answered p.filled
-  good_read (outcome.Refused why) e p = let a : read_answer word N L P u taken ≡ decode.Refused why = p.0 in let z : ◌≡◌ {A = ℕ} 0 1 = cc in absurd (omega (arith, z))
+  good_read (Ok tt) e p = good_ready (decode_ready N L P (length held.values) (length held.precisions) (length held.marks) e) p.verdict p.judged p.answered p.filled
+  good_read (Err why) e p = let a : read_answer word N L P u taken ≡ Err why = p.0 in let z : ◌≡◌ {A = ℕ} 0 1 = cc in absurd (omega (arith, z))
 
 pub good_of : (N L P : ℕ) (body : List ℕ) (n : ℕ) (r : Record) (held : Tables) → Reached N L P body n r held → n ≤ 8 * length body → Good N L P (bits_of n body) r held
 good_of N L P body n r held w h =
@@ -216,9 +213,9 @@ good_reached N L P body n r held g h =
 
 -- ---- a start that is done
 
-module _ (N L P : ℕ) (r : Record) (held : Tables) (answer : ReadAnswer) (dial : Record) (left : Tables) (p : Starts N L P r held answer dial left) (d : ReadTo) (is : answer ≡ decode.Done d) where
+module _ (N L P : ℕ) (r : Record) (held : Tables) (answer : ReadAnswer) (dial : Record) (left : Tables) (p : Starts N L P r held answer dial left) (d : ReadTo) (is : answer ≡ Ok d) where
   start_record : dial ≡ record_after N L P []
-  start_record = p.recorded ∙ ap (λ (a : ReadAnswer). elim a as (λ _. Record) [ decode.Done c ↦ record_after N L P [] | decode.Refused why ↦ r ]) is
+  start_record = p.recorded ∙ ap (λ (a : ReadAnswer). elim a as (λ _. Record) [ Ok c ↦ record_after N L P [] | Err why ↦ r ]) is
 
   start_judged : DecodeReady N L P (length held.values) (length held.precisions) (length held.marks) → (v : Verdict) → Judged N L P [] v → answer ≡ read_answer unended N L P [] v
       → left ≡ over (all_of N) (own_tables midpoint N L P [] v) held → Good N L P [] dial left
@@ -228,8 +225,8 @@ module _ (N L P : ℕ) (r : Record) (held : Tables) (answer : ReadAnswer) (dial 
   start_judged c (beyond k) j a f = let z : ◌≡◌ {A = ℕ} 0 1 = cc in absurd (omega (arith, z))
 
   start_checked : (o : Outcome) → o ≡ first_failing (read_checks N L P (length held.values) (length held.precisions) (length held.marks)) → ReadsTo o midpoint unended N L P [] held answer left → Good N L P [] dial left
-  start_checked outcome.Done e q = start_judged (decode_ready N L P (length held.values) (length held.precisions) (length held.marks) e) q.verdict q.judged q.answered q.filled
-  start_checked (outcome.Refused why) e q = let a : answer ≡ decode.Refused why = q.0 in let z : ◌≡◌ {A = ℕ} 0 1 = cc in absurd (omega (arith, z))
+  start_checked (Ok tt) e q = start_judged (decode_ready N L P (length held.values) (length held.precisions) (length held.marks) e) q.verdict q.judged q.answered q.filled
+  start_checked (Err why) e q = let a : answer ≡ Err why = q.0 in let z : ◌≡◌ {A = ℕ} 0 1 = cc in absurd (omega (arith, z))
 
   pub start_good : (body : List ℕ) → Good N L P (bits_of 0 body) dial left
   unfolding table

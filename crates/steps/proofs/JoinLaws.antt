@@ -9,10 +9,9 @@ use lib.IntN.{ℤ, pos}
 use mir.Facts.{to_z-of_z}
 use mir.Syntax.{w32}
 use mir.Val.{SFits, of_z, to_z}
+use Rattle.std.specs.Prelude.{Some, None}
 use Rattle.sizes.specs.Sizes.{limit}
-use Rattle.coef.specs.Coef.{signed, joined_of}
-use Rattle.coef.specs.declared.Joined.{Joined}
-use Rattle.coef.specs.declared.Joined.TheVariants as joined_as
+use Rattle.coef.specs.Coef.{signed, joined_of, Joined}
 use Rattle.coef.proofs.Held.{signed_fits}
 use Rattle.steps.specs.Moved.{joined_or0}
 
@@ -27,18 +26,11 @@ joined_fits s n = go (leb n limit) refl
 pub joined_back : (s : Bool) (n : ℕ) → to_z w32 (of_z w32 (joined_or0 s n)) ≡ joined_or0 s n
 joined_back s n = to_z-of_z (joined_fits s n)
 
-is_told : (t : Bool) (v w : ℤ) → cond t (joined_as.Is w) joined_as.TooLarge ≡ joined_as.Is v → v ≡ cond t w (pos 0)
+is_told : (t : Bool) (v w : ℤ) → cond t (Some w) None ≡ Some v → v ≡ cond t w (pos 0)
 is_told true v w e = cc
 is_told false v w e = let z : ◌≡◌ {A = ℕ} 0 1 = cc in absurd (omega arith)
 
-pub joined_is : (s : Bool) (n : ℕ) (v : ℤ) (r : Joined) → r ≡ joined_of (record { negative = s; magnitude = n }) → r ≡ joined_as.Is v → to_z w32 (of_z w32 v) ≡ joined_or0 s n
+pub joined_is : (s : Bool) (n : ℕ) (v : ℤ) (r : Joined) → r ≡ joined_of (record { negative = s; magnitude = n }) → r ≡ Some v → to_z w32 (of_z w32 v) ≡ joined_or0 s n
 joined_is s n v r e f =
     let w : v ≡ joined_or0 s n = is_told (leb n limit) v (signed s n) (sym e ∙ f) in
     ap (λ (z : ℤ). to_z w32 (of_z w32 z)) w ∙ joined_back s n ∙ refl
-
-no_told : (t : Bool) (w : ℤ) → cond t (joined_as.Is w) joined_as.TooLarge ≡ joined_as.TooLarge → pos 0 ≡ cond t w (pos 0)
-no_told true w e = let z : ◌≡◌ {A = ℕ} 0 1 = cc in absurd (omega arith)
-no_told false w e = refl
-
-pub joined_no : (s : Bool) (n : ℕ) (r : Joined) → r ≡ joined_of (record { negative = s; magnitude = n }) → r ≡ joined_as.TooLarge → pos 0 ≡ joined_or0 s n
-joined_no s n r e f = no_told (leb n limit) (signed s n) (sym e ∙ f)

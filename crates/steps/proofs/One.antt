@@ -4,13 +4,12 @@ use mathlib.Core.Path.{◌≡◌, refl, sym, ap, subst, ◌∙◌}
 use mathlib.Core.Bool.{Bool}
 use mathlib.Core.List.{List, []}
 use lib.ListN.{length}
+use Rattle.std.specs.Prelude.{Ok, Err}
 use Rattle.refusals.specs.Checks.{first_failing}
 use Rattle.sizes.specs.Tables.{table}
 use Rattle.nls.specs.Reading.{midpoint}
 use Rattle.room.specs.Room.{read_checks, body_bits}
-use Rattle.decoder.specs.Body.{Tables, ReadsTo, ReadsBy}
-use Rattle.decoder.specs.declared.body.ReadAnswer.{ReadAnswer}
-use Rattle.decoder.specs.declared.body.ReadAnswer.TheVariants as decode
+use Rattle.decoder.specs.Body.{Tables, ReadsTo, ReadsBy, ReadAnswer}
 use Rattle.decoder.proofs.Decided.{reads_one}
 use Rattle.steps.specs.Records.{record_after, Step, step}
 use Rattle.steps.specs.Steps.{unended, Starts, Forwards, Backs, Turns}
@@ -53,4 +52,4 @@ pub starts_one : (N L P : ℕ) (r : Record) (held : Tables) (answer answer' : Re
 starts_one N L P r held answer answer' dial dial' left left' p q =
     let one : (answer ≡ answer') × (left ≡ left') =
     reads_one midpoint unended N L P 0 [] held answer answer' left left' (starts_read N L P r held answer dial left p) (starts_read N L P r held answer' dial' left' q) in
-    (one.0, p.recorded ∙ ap (λ (a : ReadAnswer). elim a as (λ _. Record) [ decode.Done d ↦ record_after N L P [] | decode.Refused why ↦ r ]) one.0 ∙ sym q.recorded, one.1)
+    (one.0, p.recorded ∙ ap (λ (a : ReadAnswer). elim a as (λ _. Record) [ Ok d ↦ record_after N L P [] | Err why ↦ r ]) one.0 ∙ sym q.recorded, one.1)

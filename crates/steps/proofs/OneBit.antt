@@ -7,11 +7,10 @@ use native.Mathlib.Omega.{arith}
 use borrow.Author.Tests.{eqb-true, eqb-false, eq-eqb, ne_eqb, lt-ltb}
 use lib.Dec.{ltb, eqb}
 use lib.ListN.{length, take}
-use Rattle.refusals.specs.Checks.{need, first_failing}
+use Rattle.std.specs.Prelude.{Ok}
+use Rattle.refusals.specs.Checks.{need, first_failing, Outcome}
 use Rattle.refusals.specs.declared.Refusal.{Refusal}
 use Rattle.refusals.specs.declared.Refusal.TheVariants.{Contradiction, Beyond, First, Spent}
-use Rattle.refusals.specs.declared.Outcome.{Outcome}
-use Rattle.refusals.specs.declared.Outcome.TheVariants as outcome
 use Rattle.refusals.proofs.Laws.{first_holds, first_none, first_then_done}
 use Rattle.sizes.specs.Sizes.{all_of, coarsest_of, levels_fit}
 use Rattle.sizes.proofs.Laws.{sized, side_most}
@@ -23,14 +22,13 @@ use Rattle.nls.specs.Stream.{after}
 use Rattle.nls.specs.Judging.{Begins, Fits, Verdict, taken, contradiction, beyond, Judged}
 use Rattle.nls.proofs.Verdicts.{fits_fewer}
 use Rattle.room.specs.Room.{body_bits}
-use Rattle.decoder.specs.Body.{read_answer, Tables, own_tables, over}
-use Rattle.decoder.specs.Ending.{ending}
-use Rattle.decoder.specs.declared.ending.Ending.{Ending}
 use Rattle.reading.specs.Reading.{bars_zero}
-use Rattle.decoder.specs.declared.body.ReadAnswer.{ReadAnswer}
-use Rattle.decoder.proofs.Decided.{reads_one}
 use Rattle.reading.proofs.NextBit.{bars_next, next_beyond, next_taken, next_barred}
 use Rattle.reading.proofs.Received.{bits_more}
+use Rattle.decoder.specs.Body.{read_answer, Tables, own_tables, over, ReadAnswer}
+use Rattle.decoder.specs.Ending.{ending}
+use Rattle.decoder.specs.declared.ending.Ending.{Ending}
+use Rattle.decoder.proofs.Decided.{reads_one}
 use Rattle.steps.specs.Records.{record_after, state_in, Step, step, stays}
 use Rattle.steps.specs.Moved.{barred, raised_to, raised, lowered}
 use Rattle.steps.specs.Steps.{usable_bits, record_checks, forward_checks, back_checks, own_of, within, forward_to, forward_of, back_to, back_of, FollowsTo, Follows}
@@ -57,13 +55,13 @@ module _ (N L P : ℕ) (u : List Bool) (r : Record) (held : Tables) (g : Good N 
   abbrev most : ℕ
   most = usable_bits declared body
 
-  pub record_done : length u ≤ usable_bits declared body → first_failing (record_checks r (usable_bits declared body) (length held.values) (length held.precisions) (length held.marks)) ≡ outcome.Done
+  pub record_done : length u ≤ usable_bits declared body → first_failing (record_checks r (usable_bits declared body) (length held.values) (length held.precisions) (length held.marks)) ≡ Ok tt
   record_done h =
       let e : all_of r.n ≡ all_of N = ap all_of (good_side N L P u r held g) in
       checks_done r most (length held.values) (length held.precisions) (length held.marks) (good_range N L P u r held g) (omega (arith, good_used N L P u r held g, h))
       (omega (arith, e, g.values_room)) (omega (arith, e, g.precisions_room)) (omega (arith, e, g.marks_room))
 
-  forward_done : length u < most → first_failing (forward_checks r most (length held.values) (length held.precisions) (length held.marks)) ≡ outcome.Done
+  forward_done : length u < most → first_failing (forward_checks r most (length held.values) (length held.precisions) (length held.marks)) ≡ Ok tt
   forward_done h =
       first_then_done (record_checks r most (length held.values) (length held.precisions) (length held.marks)) (need (ltb r.used most) Spent ∷ []) (record_done (omega (arith, h)))
       ∙ first_holds (ltb r.used most) Spent [] (lt-ltb r.used most (omega (arith, good_used N L P u r held g, h)))
@@ -73,7 +71,7 @@ module _ (N L P : ℕ) (u : List Bool) (r : Record) (held : Tables) (g : Good N 
   pub forward_spent : length u ≡ usable_bits declared body → forward_of declared body r held ≡ stays Spent r held
   forward_spent h = sym (forward_at_end declared body r held most refl (sym (record_done (omega (arith, h)))) (good_used N L P u r held g ∙ h))
 
-  back_done : length u ≤ most → 0 < length u → first_failing (back_checks r most (length held.values) (length held.precisions) (length held.marks)) ≡ outcome.Done
+  back_done : length u ≤ most → 0 < length u → first_failing (back_checks r most (length held.values) (length held.precisions) (length held.marks)) ≡ Ok tt
   back_done h k =
       first_then_done (record_checks r most (length held.values) (length held.precisions) (length held.marks)) (need (ltb 0 r.used) First ∷ []) (record_done h)
       ∙ first_holds (ltb 0 r.used) First [] (lt-ltb 0 r.used (omega (arith, good_used N L P u r held g, k)))

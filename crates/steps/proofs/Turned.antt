@@ -8,9 +8,10 @@ use native.Mathlib.Omega.{arith}
 use borrow.Author.Tests.{leb-true, le-leb, lt-leb}
 use lib.Dec.{leb}
 use lib.ListN.{length, take}
+use Rattle.std.specs.Prelude.{Ok, Err}
 use Rattle.refusals.specs.declared.Refusal.{Refusal}
 use Rattle.refusals.specs.declared.Refusal.TheVariants.{Contradiction, Beyond, Spent}
-use Rattle.refusals.specs.declared.Outcome.{Outcome}
+use Rattle.refusals.specs.Checks.{Outcome}
 use Rattle.sizes.specs.Sizes.{all_of, levels_fit}
 use Rattle.sizes.proofs.Laws.{sized}
 use Rattle.bits.specs.Bits.{bits_of}
@@ -21,9 +22,7 @@ use Rattle.nls.specs.Stream.{after}
 use Rattle.nls.specs.Judging.{Fits, Verdict, taken, contradiction, beyond, Contradicts, IsBeyond, Judged}
 use Rattle.nls.proofs.Verdicts.{verdict, verdict_judged, judged_only}
 use Rattle.room.specs.Room.{body_bits}
-use Rattle.decoder.specs.{Body.read_answer, Body.Tables, Body.own_tables, Body.over, Body.ReadsBy, Body.Reads, Ending.ending, declared.ending.Ending.Ending}
-use Rattle.decoder.specs.declared.body.ReadAnswer.{ReadAnswer}
-use Rattle.decoder.specs.declared.body.ReadAnswer.TheVariants as decode
+use Rattle.decoder.specs.{Body.read_answer, Body.Tables, Body.own_tables, Body.over, Body.ReadsBy, Body.Reads, Ending.ending, declared.ending.Ending.Ending, Body.ReadAnswer}
 use Rattle.decoder.specs.declared.body.ReadTo.{ReadTo}
 use Rattle.decoder.proofs.Decided.{reads_one}
 use Rattle.steps.specs.Records.{record_after, stand_in, Step, step}
@@ -36,13 +35,13 @@ use Rattle.steps.proofs.OneBit.{stopped, decoded, stopped_over, stopped_here, Fo
 -- ---- one step of a turn
 
 module _ (f : Record → Tables → Step) (k : ℕ) (s : Step) (r : Record) (t : Tables) where
-  steps_done : (d : ReadTo) → f s.dial s.held ≡ step (decode.Done d) r t → steps_of f (suc k) s ≡ steps_of f k (step (decode.Done d) r t)
+  steps_done : (d : ReadTo) → f s.dial s.held ≡ step (Ok d) r t → steps_of f (suc k) s ≡ steps_of f k (step (Ok d) r t)
   unfolding steps_of
-  steps_done d e = ap (λ (x : Step). elim x.answer as (λ _. Step) [ decode.Done c ↦ steps_of f k x | decode.Refused why ↦ x ]) e
+  steps_done d e = ap (λ (x : Step). elim x.answer as (λ _. Step) [ Ok c ↦ steps_of f k x | Err why ↦ x ]) e
 
-  steps_refused : (why : Refusal) → f s.dial s.held ≡ step (decode.Refused why) r t → steps_of f (suc k) s ≡ step (decode.Refused why) r t
+  steps_refused : (why : Refusal) → f s.dial s.held ≡ step (Err why) r t → steps_of f (suc k) s ≡ step (Err why) r t
   unfolding steps_of
-  steps_refused why e = ap (λ (x : Step). elim x.answer as (λ _. Step) [ decode.Done c ↦ steps_of f k x | decode.Refused why ↦ x ]) e
+  steps_refused why e = ap (λ (x : Step). elim x.answer as (λ _. Step) [ Ok c ↦ steps_of f k x | Err why ↦ x ]) e
 
 steps_none : (f : Record → Tables → Step) (s : Step) → steps_of f 0 s ≡ s
 unfolding steps_of
@@ -82,15 +81,15 @@ module _ (N L P declared : ℕ) (body : List ℕ) where
 
   -- by the verdict on the bits of the turn
   abbrev ends_at : Verdict → ℕ → Tables → Step
-  ends_at taken to held = stopped N L P body (cond (leb to most) (read_answer word N L P (bits_of (min to most) body) taken) (decode.Refused Spent)) (min to most) held
-  ends_at (contradiction k) to held = stopped N L P body (decode.Refused (Contradiction k)) k held
-  ends_at (beyond k) to held = stopped N L P body (decode.Refused (Beyond k)) k held
+  ends_at taken to held = stopped N L P body (cond (leb to most) (read_answer word N L P (bits_of (min to most) body) taken) (Err Spent)) (min to most) held
+  ends_at (contradiction k) to held = stopped N L P body (Err (Contradiction k)) k held
+  ends_at (beyond k) to held = stopped N L P body (Err (Beyond k)) k held
 
   module _ (l : levels_fit N L ≡ true) (n : ℕ) (held : Tables) where
     ends_over : (v : Verdict) (to : ℕ) → ends_at v to (over (all_of N) (own_tables midpoint N L P (bits_of n body) taken) held) ≡ ends_at v to held
-    ends_over taken to = stopped_over N L P body n l (cond (leb to most) (read_answer word N L P (bits_of (min to most) body) taken) (decode.Refused Spent)) (min to most) held
-    ends_over (contradiction k) to = stopped_over N L P body n l (decode.Refused (Contradiction k)) k held
-    ends_over (beyond k) to = stopped_over N L P body n l (decode.Refused (Beyond k)) k held
+    ends_over taken to = stopped_over N L P body n l (cond (leb to most) (read_answer word N L P (bits_of (min to most) body) taken) (Err Spent)) (min to most) held
+    ends_over (contradiction k) to = stopped_over N L P body n l (Err (Contradiction k)) k held
+    ends_over (beyond k) to = stopped_over N L P body n l (Err (Beyond k)) k held
 
   module _ (n : ℕ) (r : Record) (held : Tables) (g : Good N L P (bits_of n body) r held) where
     only_taken : (e : ℕ) → e ≤ n → (v : Verdict) → Judged N L P (bits_of e body) v → v ≡ taken
@@ -98,7 +97,7 @@ module _ (N L P declared : ℕ) (body : List ℕ) where
 
   ends_all : (to : ℕ) (held : Tables) → to ≤ most → ends_at taken to held ≡ decoded word N L P body to held
   ends_all to held h =
-      ap (λ (x : Bool). stopped N L P body (cond x (read_answer word N L P (bits_of (min to most) body) taken) (decode.Refused Spent)) (min to most) held) (le-leb to most h)
+      ap (λ (x : Bool). stopped N L P body (cond x (read_answer word N L P (bits_of (min to most) body) taken) (Err Spent)) (min to most) held) (le-leb to most h)
       ∙ ap (λ (k : ℕ). decoded word N L P body k held) {x = min to most} {y = to} (omega (arith, h))
 
   -- ---- steps back
@@ -151,9 +150,9 @@ module _ (N L P declared : ℕ) (body : List ℕ) where
       spent : (n < most → ⊥) → steps_of (forward_of declared body) (suc k) first ≡ ends_at v (n + suc k) held
       spent x =
           steps_refused (forward_of declared body) k first r held Spent (forward_spent N L P (bits_of n body) r held g declared body (omega (arith, h, x, bits_of_length n body)))
-          ∙ stopped_here N L P body n r held g (decode.Refused Spent)
-          ∙ ap (λ (e : ℕ). stopped N L P body (decode.Refused Spent) e held) {x = n} {y = min (n + suc k) most} (omega (arith, h, x))
-          ∙ ap (λ (t : Bool). stopped N L P body (cond t (read_answer word N L P (bits_of (min (n + suc k) most) body) taken) (decode.Refused Spent)) (min (n + suc k) most) held) (sym (lt-leb (n + suc k) most (omega (arith, h, x))))
+          ∙ stopped_here N L P body n r held g (Err Spent)
+          ∙ ap (λ (e : ℕ). stopped N L P body (Err Spent) e held) {x = n} {y = min (n + suc k) most} (omega (arith, h, x))
+          ∙ ap (λ (t : Bool). stopped N L P body (cond t (read_answer word N L P (bits_of (min (n + suc k) most) body) taken) (Err Spent)) (min (n + suc k) most) held) (sym (lt-leb (n + suc k) most (omega (arith, h, x))))
           ∙ ap (λ (x : Verdict). ends_at x (n + suc k) held) (sym (only_taken n r held g (min (n + suc k) most) (omega (arith, h, x)) v j))
 
       -- the same verdict on all bits
@@ -171,11 +170,11 @@ module _ (N L P declared : ℕ) (body : List ℕ) where
           ∙ ends_over g.levels (n + 1) held v (n + suc k)
       on x (clashes w e) =
           steps_refused (forward_of declared body) k first r held (Contradiction n) e
-          ∙ stopped_here N L P body n r held g (decode.Refused (Contradiction n))
+          ∙ stopped_here N L P body n r held g (Err (Contradiction n))
           ∙ verdict_is (contradiction n) (longer_12 N L P body n (min (n + suc k) most) (omega (arith, x)) w)
       on x (ends w e) =
           steps_refused (forward_of declared body) k first r held (Beyond n) e
-          ∙ stopped_here N L P body n r held g (decode.Refused (Beyond n))
+          ∙ stopped_here N L P body n r held g (Err (Beyond n))
           ∙ verdict_is (beyond n) (longer_13 N L P body n (min (n + suc k) most) (omega (arith, x)) w)
 
       go : Dec (n < most) → steps_of (forward_of declared body) (suc k) first ≡ ends_at v (n + suc k) held
@@ -226,8 +225,8 @@ module _ (N L P declared : ℕ) (body : List ℕ) where
             ∙ ap (λ (w : Verdict). ends_at w to held) (sym (only_taken n r held g (min to most) (omega (arith, x)) v j))
 
     -- where a bit is refused: decoding those before it
-    refused_at : (why : Refusal) (k e : ℕ) → k < e → e ≤ 8 * length body → Fits N L P (take k (bits_of e body)) → turn_of declared to body r held ≡ stopped N L P body (decode.Refused why) k held
-        → (answer : ReadAnswer) (last : Tables) → Reads midpoint N L P k body held answer last → turn_of declared to body r held ≡ step (decode.Refused why) (record_after N L P (body_bits k body)) last
+    refused_at : (why : Refusal) (k e : ℕ) → k < e → e ≤ 8 * length body → Fits N L P (take k (bits_of e body)) → turn_of declared to body r held ≡ stopped N L P body (Err why) k held
+        → (answer : ReadAnswer) (last : Tables) → Reads midpoint N L P k body held answer last → turn_of declared to body r held ≡ step (Err why) (record_after N L P (body_bits k body)) last
     refused_at why k e l i w t answer last p =
         let b : bits_of k body ≡ body_bits k body = sym (body_bits_lem k body (omega (arith, l, i))) in
         let fits : Fits N L P (body_bits k body) = subst (λ (x : List Bool). Fits N L P x) (take_bits_of k e body (omega (arith, l)) ∙ b) w in
@@ -235,14 +234,14 @@ module _ (N L P declared : ℕ) (body : List ℕ) where
         reads_one midpoint (ending k body) N L P k body held answer (read_answer (ending k body) N L P (body_bits k body) taken) last (over (all_of N) (own_tables midpoint N L P (body_bits k body) taken) held) p
         (reads_judged N L P (bits_of n body) r held g (ending k body) body k taken fits) in
         t
-        ∙ ap (λ (x : List Bool). step (decode.Refused why) (record_after N L P x) (over (all_of N) (own_tables midpoint N L P x taken) held)) b
-        ∙ ap (λ (x : Tables). step (decode.Refused why) (record_after N L P (body_bits k body)) x) (sym one.1)
+        ∙ ap (λ (x : List Bool). step (Err why) (record_after N L P x) (over (all_of N) (own_tables midpoint N L P x taken) held)) b
+        ∙ ap (λ (x : Tables). step (Err why) (record_after N L P (body_bits k body)) x) (sym one.1)
 
     turned : (v : Verdict) → Judged N L P (bits_of (min to most) body) v
         → TurnsTo (read_answer word N L P (bits_of (min to most) body) v) (over (all_of N) (own_tables midpoint N L P (bits_of (min to most) body) v) held) N L P most to body held (turn_of declared to body r held)
     turned taken j =
         turn_ends taken j
-        ∙ ap (λ (x : List Bool). step (cond (leb to most) (read_answer word N L P (bits_of (min to most) body) taken) (decode.Refused Spent)) (record_after N L P x) (over (all_of N) (own_tables midpoint N L P (bits_of (min to most) body) taken) held))
+        ∙ ap (λ (x : List Bool). step (cond (leb to most) (read_answer word N L P (bits_of (min to most) body) taken) (Err Spent)) (record_after N L P x) (over (all_of N) (own_tables midpoint N L P (bits_of (min to most) body) taken) held))
         (sym (body_bits_lem (min to most) body (omega arith)))
     turned (contradiction k) j = refused_at (Contradiction k) k (min to most) (omega (arith, j.there, bits_of_length (min to most) body)) (omega arith) j.before (turn_ends (contradiction k) j)
     turned (beyond k) j = refused_at (Beyond k) k (min to most) (omega (arith, j.there, bits_of_length (min to most) body)) (omega arith) j.before (turn_ends (beyond k) j)
@@ -261,20 +260,20 @@ module _ (N L P declared : ℕ) (body : List ℕ) where
         (turned v j))
 
     -- a turn that is done ends behind `to` bits, and answers as decoding them does, with the word of that position in the body at hand
-    pub turn_said : (d : ReadTo) → (turn_of declared to body r held).answer ≡ decode.Done d → (to ≤ usable_bits declared body) × (decode.Done d ≡ read_answer (ending declared body) N L P (bits_of to body) taken)
+    pub turn_said : (d : ReadTo) → (turn_of declared to body r held).answer ≡ Ok d → (to ≤ usable_bits declared body) × (Ok d ≡ read_answer (ending declared body) N L P (bits_of to body) taken)
     turn_said d is = on (verdict N L P (bits_of (min to most) body)) (verdict_judged N L (sized N L g.levels) P (bits_of (min to most) body))
       where
-        at : (v : Verdict) → Judged N L P (bits_of (min to most) body) v → decode.Done d ≡ (ends_at v to held).answer
+        at : (v : Verdict) → Judged N L P (bits_of (min to most) body) v → Ok d ≡ (ends_at v to held).answer
         at v j = sym is ∙ ap (λ (s : Step). s.answer) (turn_ends v j)
 
-        tell : (x : Bool) → leb to most ≡ x → decode.Done d ≡ cond x (read_answer word N L P (bits_of (min to most) body) taken) (decode.Refused Spent)
-            → (to ≤ most) × (decode.Done d ≡ read_answer word N L P (bits_of to body) taken)
+        tell : (x : Bool) → leb to most ≡ x → Ok d ≡ cond x (read_answer word N L P (bits_of (min to most) body) taken) (Err Spent)
+            → (to ≤ most) × (Ok d ≡ read_answer word N L P (bits_of to body) taken)
         tell true q e =
             let l : to ≤ most = leb-true to most q in
             (l, e ∙ ap (λ (k : ℕ). read_answer word N L P (bits_of k body) taken) {x = min to most} {y = to} (omega (arith, l)))
         tell false q e = let z : ◌≡◌ {A = ℕ} 0 1 = cc in absurd (omega (arith, z))
 
-        on : (v : Verdict) → Judged N L P (bits_of (min to most) body) v → (to ≤ most) × (decode.Done d ≡ read_answer word N L P (bits_of to body) taken)
+        on : (v : Verdict) → Judged N L P (bits_of (min to most) body) v → (to ≤ most) × (Ok d ≡ read_answer word N L P (bits_of to body) taken)
         on taken j = tell (leb to most) refl (at taken j)
-        on (contradiction k) j = let e : decode.Done d ≡ decode.Refused (Contradiction k) = at (contradiction k) j in let z : ◌≡◌ {A = ℕ} 0 1 = cc in absurd (omega (arith, z))
-        on (beyond k) j = let e : decode.Done d ≡ decode.Refused (Beyond k) = at (beyond k) j in let z : ◌≡◌ {A = ℕ} 0 1 = cc in absurd (omega (arith, z))
+        on (contradiction k) j = let e : Ok d ≡ Err (Contradiction k) = at (contradiction k) j in let z : ◌≡◌ {A = ℕ} 0 1 = cc in absurd (omega (arith, z))
+        on (beyond k) j = let e : Ok d ≡ Err (Beyond k) = at (beyond k) j in let z : ◌≡◌ {A = ℕ} 0 1 = cc in absurd (omega (arith, z))

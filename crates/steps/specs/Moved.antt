@@ -1,9 +1,9 @@
 -- What a step leaves, in any tables: words of inner contracts, and of the field `decided` of a step's contract, which the promise in the
 -- words of decoding does not use. That they are what decoding one bit more or one bit fewer leaves is `forward_follows` and `back_follows` of
 -- proofs/Demands.antt.
-use Rattle.std.specs.Prelude.{ℕ, ◌+◌, ◌-◌, ◌*◌, ◌/◌, ◌^◌}
 use mathlib.Core.{Bool.Bool, Bool.not, Bool.◌&&◌, Bool.cond, Option.Option, Option.none, Option.some, List.List}
 use lib.{Dec.eqb, Dec.leb, IntN.ℤ, IntN.pos, ListN.set}
+use Rattle.std.specs.Prelude.{ℕ, ◌+◌, ◌-◌, ◌*◌, ◌/◌, ◌^◌, Ok}
 use Rattle.refusals.specs.declared.Refusal.TheVariants.{Contradiction, Beyond}
 use Rattle.sizes.specs.Sizes.{limit, all_of, coarsest_of}
 use Rattle.coef.specs.Coef.{at, magnitude, negative, signed}
@@ -12,8 +12,7 @@ use Rattle.nls.specs.{Scan.Question, Scan.bit_of, Scan.sign_of, Scan.in_desc, Sc
 use Rattle.moves.specs.Moves.{onward}
 use Rattle.undo.specs.Back.{big_in, back}
 use Rattle.reading.specs.Reading.{bars_zero}
-use Rattle.decoder.specs.{Body.Tables, Body.tables, declared.body.ReadAnswer.ReadAnswer, declared.ending.Ending.Ending}
-use Rattle.decoder.specs.declared.body.ReadAnswer.TheVariants as decode
+use Rattle.decoder.specs.{Body.Tables, Body.tables, declared.ending.Ending.Ending, Body.ReadAnswer}
 use Rattle.steps.specs.{Records.record_of, Records.Step, Records.step, Records.stays, declared.Record.Record, declared.Asked.Asked}
 use Rattle.steps.specs.declared.Asked.TheVariants as asked
 
@@ -73,7 +72,7 @@ unheard asked.Grand i l v = v
 
 -- "planes finished and the worst error", where `left` planes are not finished; and the word for that position
 abbrev pub reached : (ℕ → ℕ → Ending) → ℕ → ℕ → ℕ → ReadAnswer
-reached word P used left = decode.Done (record { used = used; finished = P - left; error = 2 ^ left - 1; ending = word used left })
+reached word P used left = Ok (record { used = used; finished = P - left; error = 2 ^ left - 1; ending = word used left })
 
 -- Over tables of I entries, by a record r whose state is s:
 module _ (r : Record) where

@@ -1,14 +1,13 @@
 -- The scan record of the stepped decoder (document 02, T-01): the scan's state at rest, at its next question with silent moves made.
-use Rattle.std.specs.Prelude.{ℕ, ◌+◌, ◌-◌}
 use mathlib.Core.{Bool.Bool, Bool.false, Bool.cond, Bool.◌&&◌, Bool.◌||◌, List.List}
 use lib.{Dec.ltb, Dec.leb, Dec.eqb, ListN.length}
+use Rattle.std.specs.Prelude.{ℕ, ◌+◌, ◌-◌, Err}
 use Rattle.refusals.specs.declared.Refusal.{Refusal}
 use Rattle.sizes.specs.Sizes.{all_of, side_fits, levels_fit, most_planes}
 use Rattle.bits.specs.Bits.{digit}
 use Rattle.nls.specs.{Scan.State, Stream.after}
 use Rattle.moves.specs.{Stands.pass_number, Stands.stand, Stands.state_of, declared.Stand.Stand}
-use Rattle.decoder.specs.{Body.Tables, declared.body.ReadAnswer.ReadAnswer}
-use Rattle.decoder.specs.declared.body.ReadAnswer.TheVariants as decode
+use Rattle.decoder.specs.{Body.Tables, Body.ReadAnswer}
 use Rattle.steps.specs.declared.Record.{Record}
 
 -- "a small scan record (N, L, P, plane, pass, place, bits used, a pending sign)"; the passes are 0, 1 and 2
@@ -54,4 +53,4 @@ step answer dial held = record { answer = answer; dial = dial; held = held }
 
 -- a refusal, which changes nothing
 abbrev pub stays : Refusal → Record → Tables → Step
-stays why dial held = step (decode.Refused why) dial held
+stays why dial held = step (Err why) dial held

@@ -7,9 +7,8 @@ ghost use Rattle.steps.specs.Steps.{usable_bits, Starts, Forwards, Backs, Turns}
 ghost use Rattle.steps.specs.Ready.{CallReady, forward_in, back_in, own_steps};
 
 use crate::{Record, Stepped};
-use bits::Next;
-use decoder::{ReadAnswer, ReadTo};
-use refusals::{Outcome, Refusal};
+use decoder::ReadTo;
+use refusals::Refusal;
 
 // Steps forward over the own entries of the tables.
 fn climb_own(
@@ -75,18 +74,18 @@ pub fn take_start(
 {
     let none = [0u8; 1];
     match decoder::decode_midpoint(n, l, p, &none, 0, values, precisions, marks) {
-        ReadAnswer::Done(to) => Stepped {
+        Ok(to) => Stepped {
             dial: crate::records::first(n, l, p),
-            answer: ReadAnswer::Done(ReadTo {
+            answer: Ok(ReadTo {
                 used: to.used,
                 finished: to.finished,
                 error: to.error,
-                ending: decoder::ending_of(p, Next::Bit(false)),
+                ending: decoder::ending_of(p, Ok(false)),
             }),
         },
-        ReadAnswer::Refused(why) => Stepped {
+        Err(why) => Stepped {
             dial,
-            answer: ReadAnswer::Refused(why),
+            answer: Err(why),
         },
     }
 }
@@ -104,11 +103,11 @@ pub fn take_forward(
 {
     let most = room::usable_of(declared, body.len());
     match crate::records::check(dial, most, values.len(), precisions.len(), marks.len()) {
-        Outcome::Done => {
+        Ok(()) => {
             if dial.used == most {
                 return Stepped {
                     dial,
-                    answer: ReadAnswer::Refused(Refusal::Spent),
+                    answer: Err(Refusal::Spent),
                 };
             }
             climb_own(
@@ -121,9 +120,9 @@ pub fn take_forward(
                 marks,
             )
         }
-        Outcome::Refused(why) => Stepped {
+        Err(why) => Stepped {
             dial,
-            answer: ReadAnswer::Refused(why),
+            answer: Err(why),
         },
     }
 }
@@ -141,11 +140,11 @@ pub fn take_back(
 {
     let most = room::usable_of(declared, body.len());
     match crate::records::check(dial, most, values.len(), precisions.len(), marks.len()) {
-        Outcome::Done => {
+        Ok(()) => {
             if dial.used == 0 {
                 return Stepped {
                     dial,
-                    answer: ReadAnswer::Refused(Refusal::First),
+                    answer: Err(Refusal::First),
                 };
             }
             descend_own(
@@ -158,9 +157,9 @@ pub fn take_back(
                 marks,
             )
         }
-        Outcome::Refused(why) => Stepped {
+        Err(why) => Stepped {
             dial,
-            answer: ReadAnswer::Refused(why),
+            answer: Err(why),
         },
     }
 }
@@ -179,15 +178,15 @@ pub fn take_turn(
 {
     let most = room::usable_of(declared, body.len());
     match crate::records::check(dial, most, values.len(), precisions.len(), marks.len()) {
-        Outcome::Done => {
+        Ok(()) => {
             if to <= dial.used {
                 return descend_own(dial, body, declared, to, values, precisions, marks);
             }
             climb_own(dial, body, declared, to, values, precisions, marks)
         }
-        Outcome::Refused(why) => Stepped {
+        Err(why) => Stepped {
             dial,
-            answer: ReadAnswer::Refused(why),
+            answer: Err(why),
         },
     }
 }

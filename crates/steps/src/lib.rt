@@ -10,10 +10,12 @@ ghost use Rattle.decoder.specs.Body.{tables};
 ghost use Rattle.steps.specs.Steps.{Starts, Forwards, Backs, Turns};
 
 pub use by_value::{take_back, take_forward, take_start, take_turn};
-use decoder::ReadAnswer;
+use decoder::ReadTo;
+use refusals::Refusal;
 
 // The scan record: the sizes, the plane in progress, the pass (0, 1 or 2), the place, the bits used, and whether a sign is pending (1) or
 // not (0). At the end, and for P = 0, it is plane 0, pass 2, place I.
+// Kept: eight numbers, since the C interface lends them, whatever they are.
 #[derive(Clone, Copy)]
 pub struct Record {
     pub n: u32,
@@ -30,7 +32,7 @@ pub struct Record {
 #[derive(Clone, Copy)]
 pub struct Stepped {
     pub dial: Record,
-    pub answer: ReadAnswer,
+    pub answer: Result<ReadTo, Refusal>,
 }
 
 // What is asked where the scan stands: nothing, a sign, the bit of a coefficient that is not found, a refinement bit, a DESC or a GRAND.
@@ -53,7 +55,7 @@ pub fn start(
     values: &mut [i32],
     precisions: &mut [u8],
     marks: &mut [u8],
-) -> ReadAnswer
+) -> Result<ReadTo, Refusal>
     ensures { Starts n l p dial.old (tables values.old precisions.old marks.old) result dial.new (tables values.new precisions.new marks.new) }
 {
     let t = by_value::take_start(*dial, n, l, p, values, precisions, marks);
@@ -69,7 +71,7 @@ pub fn forward(
     values: &mut [i32],
     precisions: &mut [u8],
     marks: &mut [u8],
-) -> ReadAnswer
+) -> Result<ReadTo, Refusal>
     ensures { Forwards declared body.now dial.old (tables values.old precisions.old marks.old) result dial.new (tables values.new precisions.new marks.new) }
 {
     let t = by_value::take_forward(*dial, body, declared, values, precisions, marks);
@@ -85,7 +87,7 @@ pub fn back(
     values: &mut [i32],
     precisions: &mut [u8],
     marks: &mut [u8],
-) -> ReadAnswer
+) -> Result<ReadTo, Refusal>
     ensures { Backs declared body.now dial.old (tables values.old precisions.old marks.old) result dial.new (tables values.new precisions.new marks.new) }
 {
     let t = by_value::take_back(*dial, body, declared, values, precisions, marks);
@@ -102,7 +104,7 @@ pub fn turn(
     values: &mut [i32],
     precisions: &mut [u8],
     marks: &mut [u8],
-) -> ReadAnswer
+) -> Result<ReadTo, Refusal>
     ensures { Turns declared to body.now dial.old (tables values.old precisions.old marks.old) result dial.new (tables values.new precisions.new marks.new) }
 {
     let t = by_value::take_turn(*dial, body, declared, to, values, precisions, marks);

@@ -12,8 +12,6 @@ ghost use Rattle.steps.specs.Steps.{usable_bits, steps_of, position_of};
 ghost use Rattle.steps.specs.Ready.{Ready, Stood, forward_in, back_in};
 
 use crate::{Record, Stepped};
-use bits::Next;
-use decoder::ReadAnswer;
 use moves::Stand;
 use refusals::Refusal;
 
@@ -35,7 +33,7 @@ fn refuse(dial: Record, used: u32, at: Stand, why: Refusal) -> Stepped
 {
     Stepped {
         dial: crate::records::record_of(dial, used, at),
-        answer: ReadAnswer::Refused(why),
+        answer: Err(why),
     }
 }
 
@@ -123,7 +121,7 @@ pub(crate) fn climb(
     let mut used = dial.used;
     while used < to {
         match view::read(body, used as usize, declared as usize) {
-            Next::Bit(bit) => {
+            Ok(bit) => {
                 if at.left == 0 {
                     return refuse(dial, used, at, Refusal::Beyond(used));
                 }
@@ -133,7 +131,7 @@ pub(crate) fn climb(
                 at = tell(dial, at, bit, values, precisions, marks);
                 used = used + 1;
             }
-            Next::NoMore(_) => {
+            Err(_) => {
                 return refuse(dial, used, at, Refusal::Spent);
             }
         }
@@ -159,12 +157,12 @@ pub(crate) fn descend(
     let mut used = dial.used;
     while to < used {
         match view::read(body, used as usize - 1, declared as usize) {
-            Next::Bit(bit) => {
+            Ok(bit) => {
                 at = undo::go_back(marks, values, coarsest, dial.p, at);
                 untell(dial, at, bit, values, precisions, marks);
                 used = used - 1;
             }
-            Next::NoMore(_) => {
+            Err(_) => {
                 return refuse(dial, used, at, Refusal::Spent);
             }
         }

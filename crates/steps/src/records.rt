@@ -9,9 +9,9 @@ ghost use Rattle.steps.specs.Moved as moved;
 ghost use Rattle.steps.specs.Steps.{record_checks};
 
 use crate::Record;
-use decoder::{ReadAnswer, ReadTo};
+use decoder::ReadTo;
 use moves::Stand;
-use refusals::{Outcome, Refusal};
+use refusals::Refusal;
 
 // Whether a record stands at the end.
 fn is_end(dial: Record) -> bool
@@ -73,14 +73,14 @@ pub(crate) fn check(
     values: usize,
     precisions: usize,
     marks: usize,
-) -> Outcome
+) -> Result<(), Refusal>
     ensures { result ≡ first_failing (record_checks dial most values precisions marks) }
 {
     if !in_range(dial) {
-        return Outcome::Refused(Refusal::Record);
+        return Err(Refusal::Record);
     }
     if most < dial.used {
-        return Outcome::Refused(Refusal::Record);
+        return Err(Refusal::Record);
     }
     room::check_tables(sizes::all_of(dial.n), values, precisions, marks)
 }
@@ -136,11 +136,17 @@ pub(crate) fn record_of(dial: Record, used: u32, at: Stand) -> Record
 }
 
 // The bits used, the planes finished, the worst error and the word, where `left` of p planes are not finished.
-pub(crate) fn reached(p: u32, body: &[u8], declared: u32, used: u32, left: u32) -> ReadAnswer
+pub(crate) fn reached(
+    p: u32,
+    body: &[u8],
+    declared: u32,
+    used: u32,
+    left: u32,
+) -> Result<ReadTo, Refusal>
     requires { (left ≤ p) × (p ≤ most_planes) }
     ensures { result ≡ moved.reached (ending declared body.now) p used left }
 {
-    ReadAnswer::Done(ReadTo {
+    Ok(ReadTo {
         used,
         finished: p - left,
         error: (1u32 << left) - 1,

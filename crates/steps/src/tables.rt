@@ -49,27 +49,15 @@ pub(crate) fn asked(marks: &[u8], at: Stand) -> Asked
     Asked::Nothing
 }
 
-// a - b, and 0 where that would be below.
-fn less(a: u32, b: u32) -> u32
-    ensures { result ≡ a - b }
-{
-    if b < a {
-        return a - b;
-    }
-    0
-}
-
 // A value of a sign and a magnitude; 0 for one over the limit.
 fn value_of(negative: bool, magnitude: u32) -> i32
     ensures { result ≡ moved.joined_or0 negative magnitude }
 {
-    match coef::join_of(coef::Signed {
+    coef::join_of(coef::Signed {
         negative,
         magnitude,
-    }) {
-        coef::Joined::Is(v) => v,
-        coef::Joined::TooLarge => 0,
-    }
+    })
+    .unwrap_or(0)
 }
 
 // A coefficient found in plane b.
@@ -89,7 +77,7 @@ fn finer(value: i32, b: u32, bit: bool) -> i32
     if bit {
         return value_of(coef::is_negative(value), size);
     }
-    value_of(coef::is_negative(value), less(size, 1u32 << b))
+    value_of(coef::is_negative(value), size.saturating_sub(1u32 << b))
 }
 
 // A coefficient whose last bit is taken back: it is known down to plane `left`.
@@ -157,7 +145,7 @@ fn fill_rows(precisions: &mut [u8], first: usize, size: usize, plane: u8)
     let mut at = first;
     let mut wide = size;
     while at < all {
-        marking::fill(&mut precisions[at..at + wide], plane);
+        precisions[at..at + wide].fill(plane);
         at = 4 * at;
         wide = 4 * wide;
     }

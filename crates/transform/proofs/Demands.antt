@@ -8,8 +8,8 @@ use native.Mathlib.Omega.{arith}
 use borrow.Author.Tests.{le-leb, eq-eqb, eqb-true}
 use lib.IntN.{ℤ, pos, negsuc, nat_abs, sub_ℕ, ◌+ℤ◌}
 use lib.ListN.{length, get_or-eq_default}
+use Rattle.std.specs.Prelude.{Ok, Err}
 use Rattle.refusals.specs.Checks.{first_failing}
-use Rattle.refusals.specs.declared.Outcome.TheVariants.{Done, Refused}
 use Rattle.refusals.specs.declared.Refusal.TheVariants.{Restored}
 use Rattle.refusals.proofs.Laws.{AllHold, passed, all_pass, first_then_done}
 use Rattle.sizes.specs.Sizes.{all_of}
@@ -106,7 +106,7 @@ module _ (N L : ℕ) (g : L ≤ N) where
 -- the calls, for any lengths lent
 module _ (N L : ℕ) (out work : ℕ) where
   -- where the transform is done, the inverse takes its coefficients and gives the samples again
-  pub forward_then_inverse : (A : List ℤ) → first_failing (transform_checks N L A out work) ≡ Done → (first_failing (restore_checks N L (coefficients_of N L A) out work) ≡ Done) × (samples_of N L (coefficients_of N L A) ≡ A)
+  pub forward_then_inverse : (A : List ℤ) → first_failing (transform_checks N L A out work) ≡ Ok tt → (first_failing (restore_checks N L (coefficients_of N L A) out work) ≡ Ok tt) × (samples_of N L (coefficients_of N L A) ≡ A)
   unfolding AllHold
   forward_then_inverse A e =
       let all = passed (transform_checks N L A out work) e in
@@ -117,7 +117,7 @@ module _ (N L : ℕ) (out work : ℕ) where
       (all_pass (restore_checks N L C out work) (all.0, (all.1.0, (eq-eqb (length C) (all_of N) (coefficients_length N L A), (eq-eqb (first_over C) (length C) (never_over N L g A o), (all.1.1.1.0, (rw b all.1.1.1.1.0, tt)))))), b)
 
   -- where the inverse is done, the transform takes its samples and gives the coefficients again
-  pub inverse_then_forward : (C : List ℤ) → first_failing (restore_checks N L C out work) ≡ Done → (first_failing (transform_checks N L (samples_of N L C) out work) ≡ Done) × (coefficients_of N L (samples_of N L C) ≡ C)
+  pub inverse_then_forward : (C : List ℤ) → first_failing (restore_checks N L C out work) ≡ Ok tt → (first_failing (transform_checks N L (samples_of N L C) out work) ≡ Ok tt) × (coefficients_of N L (samples_of N L C) ≡ C)
   unfolding AllHold
   inverse_then_forward C e =
       let all = passed (restore_checks N L C out work) e in
@@ -126,8 +126,8 @@ module _ (N L : ℕ) (out work : ℕ) where
       (all_pass (transform_checks N L A out work) (all.0, (all.1.0, (eq-eqb (length A) (all_of N) (samples_length N L C), (all.1.1.1.1.0, (all.1.1.1.1.1.0, tt))))), back_and_there N L g C (eqb-true (length C) (all_of N) all.1.1.0))
 
   -- once 1 to 5 are passed, 18 refuses exactly the coefficients that no square of samples has
-  module _ (C : List ℤ) (entered : first_failing (entry_checks N L C out work) ≡ Done) where
-    pub restored_only : (A : List ℤ) → HasCoefficients N L A C → (first_failing (restore_checks N L C out work) ≡ Done) × (samples_of N L C ≡ A)
+  module _ (C : List ℤ) (entered : first_failing (entry_checks N L C out work) ≡ Ok tt) where
+    pub restored_only : (A : List ℤ) → HasCoefficients N L A C → (first_failing (restore_checks N L C out work) ≡ Ok tt) × (samples_of N L C ≡ A)
     unfolding AllHold
     restored_only A t =
         let all = passed (entry_checks N L C out work) entered in
@@ -135,14 +135,14 @@ module _ (N L : ℕ) (out work : ℕ) where
         let b : samples_of N L C ≡ A = ap (samples_of N L) (sym t.gives) ∙ there_and_back N L g A t.size in
         (first_then_done (entry_checks N L C out work) (restored_check (samples_of N L C) ∷ []) entered ∙ sym (restored_well (samples_of N L C) (subst (λ (l : List ℤ). first_outside l ≡ length l) (sym b) t.inside)), b)
 
-    pub restored_some : first_failing (restore_checks N L C out work) ≡ Done → HasCoefficients N L (samples_of N L C) C
+    pub restored_some : first_failing (restore_checks N L C out work) ≡ Ok tt → HasCoefficients N L (samples_of N L C) C
     unfolding AllHold
     restored_some e =
         let all = passed (restore_checks N L C out work) e in
         record { size = samples_length N L C; inside = eqb-true (first_outside (samples_of N L C)) (length (samples_of N L C)) all.1.1.1.1.1.0; gives = (inverse_then_forward C e).1 }
 
-    pub refused_exactly : first_failing (restore_checks N L C out work) ≡ Refused Restored → (A : List ℤ) → HasCoefficients N L A C → ⊥
+    pub refused_exactly : first_failing (restore_checks N L C out work) ≡ Err Restored → (A : List ℤ) → HasCoefficients N L A C → ⊥
     refused_exactly e A t =
-        let f : Refused Restored ≡ Done = sym e ∙ (restored_only A t).0 in
+        let f : Err Restored ≡ Ok tt = sym e ∙ (restored_only A t).0 in
         let z : ◌≡◌ {A = ℕ} 0 1 = cc in
         absurd (omega arith)

@@ -9,9 +9,8 @@ use borrow.Author.Tests.{eq-eqb, ne_eqb, le-leb}
 use lib.IntN.{ℤ, pos, nat_abs}
 use lib.ListN.{length, drop, replicate, length-replicate, drop_of_length-le, get_or-eq_default}
 use lib.Signed.{mag}
-use Rattle.refusals.specs.Checks.{first_failing, lent_after}
-use Rattle.refusals.specs.declared.Outcome.{Outcome}
-use Rattle.refusals.specs.declared.Outcome.TheVariants.{Done}
+use Rattle.std.specs.Prelude.{Ok}
+use Rattle.refusals.specs.Checks.{first_failing, lent_after, Outcome}
 use Rattle.refusals.proofs.Laws.{lent_done}
 use Rattle.sizes.specs.Sizes.{all_of, side_fits, levels_fit}
 use Rattle.sizes.specs.Tables.{table}
@@ -33,7 +32,7 @@ whole own held e = ap (λ (l : List ℤ). own ++ l) (drop_of_length-le held {i =
 
 -- a whole array in the other order
 module _ (N : ℕ) (A held l : List ℤ) (r : Outcome) (s : side_fits N ≡ true) (a : length A ≡ all_of N) (h : length held ≡ all_of N) (e : r ≡ first_failing (reorder_checks N (length A) (length held))) where
-  ordered : r ≡ Done
+  ordered : r ≡ Ok tt
   unfolding first_failing
   ordered = e ∙ rw (s, eq-eqb (length A) (all_of N) a, le-leb (all_of N) (length held) (omega arith))
 
@@ -92,5 +91,5 @@ pub restored_none : (N L : ℕ) (C : List ℤ) → (first_outside (samples_of N 
 restored_none N L C e = rw (ne_eqb (first_outside (samples_of N L C)) (length (samples_of N L C)) e)
 
 -- a lent array of which the first I entries were lent on, after a call whose checks are passed
-pub own_first : (N all : ℕ) (r : Outcome) → r ≡ Done → all ≡ all_of N → (l own held : List ℤ) → l ≡ own → length own ≡ all_of N → l ++ drop all held ≡ lent_after r own held
+pub own_first : (N all : ℕ) (r : Outcome) → r ≡ Ok tt → all ≡ all_of N → (l own held : List ℤ) → l ≡ own → length own ≡ all_of N → l ++ drop all held ≡ lent_after r own held
 own_first N all r done e l own held q n = rw (q, e, ← n) (sym (lent_done r own held done))

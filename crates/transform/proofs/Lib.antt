@@ -3,7 +3,6 @@ pub mod Levels
 pub mod Range
 pub mod Held
 pub mod Arrays
-pub mod Cleared
 pub mod Outside
 pub mod Runs
 pub mod Same

@@ -1,21 +1,17 @@
 -- Samples: the range, the test, and the first place outside.
-use mathlib.Core.Path.{◌≡◌, refl, sym, ap, ◌∙◌, subst}
-use mathlib.Core.Bool.{Bool, true, false, ◌&&◌, cond, true≢false}
+use mathlib.Core.Path.{◌≡◌, refl, sym, ◌∙◌, subst}
+use mathlib.Core.Bool.{Bool, true, false, ◌&&◌, cond}
 use mathlib.Core.List.{List, [], ◌∷◌}
 use Prim.Native.Nat.{ℕ, zero, suc, ◌≤◌, ◌<◌}
 use native.Mathlib.Decide.{dec_lt}
 use native.Mathlib.Omega.{arith}
-use borrow.Author.Tests.{ltb-true, ltb-false, leb-true, le-leb, lt-leb}
+use borrow.Author.Tests.{leb-true, le-leb}
 use lib.Dec.{leb}
 use lib.IntN.{ℤ, pos, negsuc}
-use lib.ListN.{length, drop, drop_of_length-le, get_or-eq_default}
-use lib.Seq.{drop-cons}
-use lib.Signed.{mag, lt_z, le_z}
-use mir.Facts.{to_z-of_z}
-use mir.Syntax.{w32}
-use mir.Val.{SFits, of_z, to_z}
-use Rattle.transform.specs.Answers.{is_sample, first_outside}
+use lib.ListN.{length, get_or-eq_default}
+use lib.Signed.{mag}
 use Rattle.coef.specs.Coef.{at}
+use Rattle.transform.specs.Answers.{is_sample, first_outside}
 
 and_true : (t : Bool) → (t && true) ≡ t
 and_true true = refl
@@ -31,34 +27,6 @@ sample_mag z e = leb-true (mag z) 32767 (sym (sample_test z) ∙ e)
 
 pub mag_sample : (z : ℤ) → mag z ≤ 32767 → is_sample z ≡ true
 mag_sample z h = sample_test z ∙ le-leb (mag z) 32767 h
-
--- the two tests of the code
-pub too_low : (z : ℤ) → SFits w32 z → lt_z (to_z w32 (of_z w32 z)) (negsuc 32767) ≡ true → is_sample z ≡ false
-too_low z f e = go z (sym (ap (λ (y : ℤ). lt_z y (negsuc 32767)) (to_z-of_z f)) ∙ e)
-  where
-    go : (z : ℤ) → lt_z z (negsuc 32767) ≡ true → is_sample z ≡ false
-    go (pos n) q = absurd (true≢false (sym q))
-    go (negsuc n) q = sample_test (negsuc n) ∙ lt-leb n 32767 (ltb-true 32767 n q)
-
-pub not_too_low : (z : ℤ) → SFits w32 z → lt_z (to_z w32 (of_z w32 z)) (negsuc 32767) ≡ false → le_z (to_z w32 (of_z w32 z)) (pos 32767) ≡ is_sample z
-not_too_low z f e = ap (λ (y : ℤ). le_z y (pos 32767)) (to_z-of_z f) ∙ go z (sym (ap (λ (y : ℤ). lt_z y (negsuc 32767)) (to_z-of_z f)) ∙ e)
-  where
-    go : (z : ℤ) → lt_z z (negsuc 32767) ≡ false → le_z z (pos 32767) ≡ is_sample z
-    go (pos n) q = sym (sample_test (pos n))
-    go (negsuc n) q = sym (sample_test (negsuc n) ∙ le-leb n 32767 (ltb-false 32767 n q))
-
--- the first place outside
-pub outside_stop : (A : List ℤ) (i : ℕ) → i < length A → is_sample (at A i) ≡ false → first_outside (drop i A) ≡ 0
-unfolding first_outside
-outside_stop A i h e = rw (drop-cons A i (pos 0) h, e)
-
-pub outside_step : (A : List ℤ) (i : ℕ) → i < length A → is_sample (at A i) ≡ true → first_outside (drop i A) ≡ suc (first_outside (drop (suc i) A))
-unfolding first_outside
-outside_step A i h e = rw (drop-cons A i (pos 0) h, e)
-
-pub outside_end : (A : List ℤ) (i : ℕ) → length A ≤ i → first_outside (drop i A) ≡ 0
-unfolding first_outside
-outside_end A i h = rw (drop_of_length-le A {i = i} h)
 
 -- none is outside exactly if the first such place is the length
 pub outside_before : (A : List ℤ) (i : ℕ) → i < first_outside A → is_sample (at A i) ≡ true

@@ -1,8 +1,8 @@
 -- The checks of the two calls (document 02, T-05), and what lent arrays hold afterwards.
-use Rattle.std.specs.Prelude.{ℕ, suc}
 use mathlib.Core.{Path.◌≡◌, Bool.Bool, Bool.cond, Bool.◌&&◌, List.List, List.[], List.◌∷◌, List.◌++◌}
 use lib.{Dec.leb, Dec.eqb, IntN.ℤ, IntN.pos, IntN.negsuc, ListN.length, ListN.replicate, Signed.le_z}
-use Rattle.refusals.specs.{Checks.Check, Checks.need, Checks.first_failing, Checks.lent_after, declared.Outcome.Outcome, declared.Refusal.TheVariants.Lent, declared.Refusal.TheVariants.Sample, declared.Refusal.TheVariants.Restored}
+use Rattle.std.specs.Prelude.{ℕ, suc}
+use Rattle.refusals.specs.{Checks.Check, Checks.need, Checks.first_failing, Checks.lent_after, declared.Refusal.TheVariants.Lent, declared.Refusal.TheVariants.Sample, declared.Refusal.TheVariants.Restored, Checks.Outcome}
 use Rattle.sizes.specs.{Sizes.all_of, Checks.size_checks}
 use Rattle.coef.specs.Coef.{coefficient_check}
 use Rattle.transform.specs.Transform.{coefficients_of, samples_of}

@@ -115,11 +115,9 @@ pub(crate) fn level_down(quarter: usize, work: &mut [i32], out: &mut [i32])
     ensures coarse { at work.new ≡ onward quarter (bands quarter (at work.old)) (at work.old) }
     ensures fine { at out.new ≡ onward quarter (at out.old) (onward (4 * quarter) (bands quarter (at work.old)) (at out.old)) }
 {
-    let mut k = 0;
-    while k < quarter {
+    for k in 0..quarter {
         let v = block_at(&work[..], k);
         put_bands(quarter, k, v, work, out);
-        k += 1;
     }
 }
 
@@ -156,9 +154,7 @@ pub(crate) fn level_up(quarter: usize, from: &[i32], work: &mut [i32])
     requires { (4 * quarter ≤ length from.now) × (4 * quarter ≤ length work.old) × ((i : ℕ) → i < quarter → nat_abs (at work.old i) ≤ widest_coarse) × ((i : ℕ) → nat_abs (at from.now i) ≤ limit) }
     ensures { at work.new ≡ onward (4 * quarter) (unbands quarter (onward quarter (at work.old) (at from.now))) (at work.old) }
 {
-    let mut k = quarter;
-    while 0 < k {
-        k -= 1;
+    for k in (0..quarter).rev() {
         let v = unblock_at(quarter, k, &work[..], from);
         put_block(k, v, work);
     }

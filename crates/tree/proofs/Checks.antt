@@ -7,10 +7,9 @@ use borrow.Author.Tests.{eqb-true, eq-eqb, ne_eqb, leb-true, le-leb, lt-leb}
 use lib.Dec.{leb, eqb}
 use lib.IntN.{ℤ}
 use lib.ListN.{length}
-use Rattle.refusals.specs.Checks.{first_failing}
+use Rattle.std.specs.Prelude.{Ok, Err}
+use Rattle.refusals.specs.Checks.{first_failing, Outcome}
 use Rattle.refusals.specs.declared.Refusal.TheVariants.{Coefficient, Lent}
-use Rattle.refusals.specs.declared.Outcome.{Outcome}
-use Rattle.refusals.specs.declared.Outcome.TheVariants.{Done, Refused}
 use Rattle.refusals.proofs.Laws.{first_holds, first_fails, then_more, AllHold, passed, all_pass}
 use Rattle.sizes.specs.Sizes.{all_of}
 use Rattle.sizes.specs.Checks.{size_checks}
@@ -24,23 +23,23 @@ use Rattle.tree.specs.Filling.{Ready}
 -- ---- number 5
 
 module _ (all descs grands : ℕ) where
-  pub no_desc : descs < all / 4 → Refused Lent ≡ first_failing (lent_checks all descs grands)
+  pub no_desc : descs < all / 4 → Err Lent ≡ first_failing (lent_checks all descs grands)
   unfolding first_failing
   no_desc d = rw (lt-leb (all / 4) descs d)
 
   module _ (d : all / 4 ≤ descs) where
-    pub no_grand : grands < all / 16 → Refused Lent ≡ first_failing (lent_checks all descs grands)
+    pub no_grand : grands < all / 16 → Err Lent ≡ first_failing (lent_checks all descs grands)
     unfolding first_failing
     no_grand g = rw (le-leb (all / 4) descs d, lt-leb (all / 16) grands g)
 
-    pub lent_well : all / 16 ≤ grands → Done ≡ first_failing (lent_checks all descs grands)
+    pub lent_well : all / 16 ≤ grands → (Ok tt) ≡ first_failing (lent_checks all descs grands)
     unfolding first_failing
     lent_well g = rw (le-leb (all / 4) descs d, le-leb (all / 16) grands g)
 
 -- ---- number 4, between them
 
-module _ (N L over count descs grands : ℕ) {r : Outcome} (is : r ≡ first_failing (size_checks N L count)) (done : r ≡ Done) where
-  pub no_coefficient : over < count → Refused (Coefficient over) ≡ first_failing (checks_over over N L count descs grands)
+module _ (N L over count descs grands : ℕ) {r : Outcome} (is : r ≡ first_failing (size_checks N L count)) (done : r ≡ Ok tt) where
+  pub no_coefficient : over < count → Err (Coefficient over) ≡ first_failing (checks_over over N L count descs grands)
   no_coefficient o =
       then_more (size_checks N L count) (over_check over count ∷ lent_checks (all_of N) descs grands) is done
       (sym (first_fails (eqb over count) (Coefficient over) (lent_checks (all_of N) descs grands) (ne_eqb over count (λ (e : over ≡ count). omega arith))))
@@ -71,17 +70,17 @@ module _ (N L : ℕ) (A : List ℤ) (descs grands : ℕ) where
         grand_room = leb-true (all_of N / 16) grands (both_right (leb (all_of N / 4) descs) (leb (all_of N / 16) grands) rooms);
       }
 
-  pub fill_ready : {r : Outcome} → r ≡ first_failing (fill_checks N L (length A) descs grands) → r ≡ Done → Ready N L A descs grands
+  pub fill_ready : {r : Outcome} → r ≡ first_failing (fill_checks N L (length A) descs grands) → r ≡ Ok tt → Ready N L A descs grands
   fill_ready is done = asks (passed (fill_checks N L (length A) descs grands) (sym is ∙ done))
 
-  pub fill_well : Ready N L A descs grands → first_failing (fill_checks N L (length A) descs grands) ≡ Done
+  pub fill_well : Ready N L A descs grands → first_failing (fill_checks N L (length A) descs grands) ≡ Ok tt
   unfolding AllHold
   fill_well r =
       all_pass (fill_checks N L (length A) descs grands)
       (r.side, (r.levels, (eq-eqb (length A) (all_of N) r.whole, (both (le-leb (all_of N / 4) descs r.desc_room) (le-leb (all_of N / 16) grands r.grand_room), tt))))
 
   -- those of `summaries` say that too
-  pub ready : {r : Outcome} → r ≡ first_failing (summary_checks N L A descs grands) → r ≡ Done → Ready N L A descs grands
+  pub ready : {r : Outcome} → r ≡ first_failing (summary_checks N L A descs grands) → r ≡ Ok tt → Ready N L A descs grands
   unfolding AllHold
   ready is done =
       let all = passed (summary_checks N L A descs grands) (sym is ∙ done) in

@@ -2,19 +2,31 @@
 use mathlib.Core.Path.{◌≡◌, refl, sym, ap, ◌∙◌}
 use mathlib.Core.List.{List, [], ◌∷◌, ◌++◌, map, append_assoc}
 use Prim.Native.Nat.{ℕ, suc, ◌+◌, ◌*◌, ◌-◌, ◌≤◌, ◌<◌}
+use native.Mathlib.Numerals.{add-one}
 use native.Mathlib.Omega.{arith}
-use lib.Bits.{bit_or, or_zero_r}
+use lib.Bits.{bit_or}
 use lib.ListN.{length, get_or, take, drop, set, length-append, length-drop, take-append-drop, get_or-append}
 use lib.Seq.{length-take-le, take-suc, drop-cons, set_at, drop_at, get_or-append-add, get_or-drop, get_or-take, take-append-le, take-take, drop-append-le, drop-append-add, drop-drop, ext_get_or}
+use Rattle.std.specs.List.{fold, slice_range}
 use Rattle.sizes.specs.Tables.{table}
 use Rattle.sizes.proofs.Tables.{table_length, table_at, table_front, table_is}
 use Rattle.bits.specs.Bits.{or_all}
+use Rattle.coef.proofs.Laws.{or_folded}
 use Rattle.tree.specs.Tree.{fours}
 use Rattle.tree.specs.Filling.{filled_from}
 
-pub or_four : (f : ℕ → ℕ) (i : ℕ) → bit_or (f (4 * i)) (bit_or (f (4 * i + 1)) (bit_or (f (4 * i + 2)) (f (4 * i + 3)))) ≡ or_all (map f (fours i))
-unfolding or_all
-or_four f i = rw (or_zero_r (f (4 * i + 3)))
+-- the OR of what g makes of the entries at the children of place i, as a fold over that part of the list
+pub or_part : {X : Type 0} (g : X → ℕ) (d : X) (A : List X) (i : ℕ) → 4 * i + 3 < length A
+    → fold (λ m x. bit_or m (g x)) 0 (slice_range A (4 * i) (4 * i + 4)) ≡ or_all (map (λ j. g (get_or A j d)) (fours i))
+or_part g d A i h =
+    let j = 4 * i in
+    let n : j + 4 - j ≡ 4 = omega arith in
+    let part : slice_range A j (j + 4) ≡ map (λ k. get_or A k d) (fours i) =
+    rw (n, next j (j + 1) refl (omega arith), next (j + 1) (j + 2) (omega arith) (omega arith), next (j + 2) (j + 3) (omega arith) (omega arith), next (j + 3) (j + 4) (omega arith) (omega arith)) refl in
+    rw part (or_folded g (map (λ k. get_or A k d) (fours i)) 0)
+  where
+    next : (j k : ℕ) → k ≡ j + 1 → j < length A → drop j A ≡ get_or A j d ∷ drop k A
+    next j k e h = rw (e, add-one) (drop-cons A j d h)
 
 module _ (own held : List ℕ) (room : length own ≤ length held) where
   full_length : length (own ++ drop (length own) held) ≡ length held

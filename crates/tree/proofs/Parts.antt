@@ -4,14 +4,22 @@ use mathlib.Core.List.{List, ◌++◌}
 use Prim.Native.Nat.{ℕ, ◌/◌, ◌≤◌}
 use native.Mathlib.Omega.{arith}
 use lib.IntN.{ℤ}
-use lib.ListN.{length, drop}
+use lib.ListN.{length, take, drop, replicate, length-replicate, get_or-replicate}
+use lib.Seq.{length-take-le}
 use Rattle.sizes.specs.Sizes.{all_of, coarsest_of, Sized}
 use Rattle.sizes.specs.Tables.{table}
 use Rattle.sizes.proofs.Laws.{coarsest_all}
+use Rattle.sizes.proofs.Tables.{table_is}
 use Rattle.tree.specs.Summaries.{desc_or, grand_or, desc_table, grand_table}
 use Rattle.tree.specs.Filling.{children_or, children_table, filled_from}
 use Rattle.tree.proofs.Filling.{on, filled_same, filled_whole}
 use Rattle.tree.proofs.Ors.{desc_last, desc_zero, grand_zero}
+
+-- a table whose first entries are overwritten with zeros
+pub zeros_first : (front held : List ℕ) (n : ℕ) → n ≤ length held → front ≡ replicate (length (take n held)) 0 → front ++ drop n held ≡ table n (λ k. 0) ++ drop n held
+zeros_first front held n h e =
+    let l : length front ≡ n = rw e (length-replicate (length (take n held)) 0) ∙ length-take-le n held h in
+    ap (λ (f : List ℕ). f ++ drop n held) (table_is n (λ k. 0) 0 front l (λ i k. rw e (get_or-replicate (length (take n held)) i 0 0 (omega (arith, length-take-le n held h)))))
 
 module _ (N L : ℕ) (A : List ℤ) (z : Sized N L) where
   -- D/4 is I/16 at most

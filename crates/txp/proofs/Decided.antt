@@ -4,9 +4,8 @@ use mathlib.Core.Bool.{Bool}
 use mathlib.Core.List.{List}
 use Prim.Native.Nat.{ℕ}
 use lib.ListN.{length}
-use Rattle.refusals.specs.Checks.{first_failing}
-use Rattle.refusals.specs.declared.Outcome.{Outcome}
-use Rattle.refusals.specs.declared.Outcome.TheVariants.{Done, Refused}
+use Rattle.std.specs.Prelude.{Ok, Err}
+use Rattle.refusals.specs.Checks.{first_failing, Outcome}
 use Rattle.refusals.proofs.Decided.{OneAnswer, OneOutcome}
 use Rattle.sizes.specs.Sizes.{Sized}
 use Rattle.nls.specs.Reading.{lower, midpoint}
@@ -16,10 +15,9 @@ use Rattle.encoder.specs.Body.{Loan, loan}
 use Rattle.decoder.specs.Body.{Tables, tables}
 use Rattle.decoder.specs.declared.ending.Ending.{Ending}
 use Rattle.txp.specs.declared.Header.{Header}
-use Rattle.txp.specs.declared.DecodeAnswer.{DecodeAnswer}
 use Rattle.txp.specs.Header.{header_of}
 use Rattle.txp.specs.File.{usable_bits, ending_of}
-use Rattle.txp.specs.Calls.{decode_checks, decode_answer, DecodedFile, DecodesTo, Decodes}
+use Rattle.txp.specs.Calls.{decode_checks, decode_answer, DecodedFile, DecodesTo, Decodes, DecodeAnswer}
 use Rattle.txp.proofs.CallLaws.{in_range}
 use Rattle.txp.proofs.letters_fit.Reads as letters_fit
 use Rattle.txp.proofs.version_fits.Reads as version_fits
@@ -52,9 +50,9 @@ module _ (rule : ℕ → ℕ → ℕ) (word : ℕ → ℕ → Ending) (h : Heade
       let v : p.verdict ≡ q.verdict = judged_only h.n h.l z h.p u p.verdict q.verdict p.judged q.judged in
       (p.answered ∙ ap (λ (x : Verdict). decode_answer word h u x) v ∙ sym q.answered, p.filled ∙ rw v (sym q.filled))
 
-  one_outcome : (o : Outcome) → (o ≡ Done → Sized h.n h.l) → DecodesTo o rule word h u held r left → DecodesTo o rule word h u held r' left' → (r ≡ r') × (left ≡ left')
-  one_outcome Done z p q = one_verdict (z refl) p q
-  one_outcome (Refused why) z p q = (p.0 ∙ sym q.0, p.1 ∙ sym q.1)
+  one_outcome : (o : Outcome) → (o ≡ Ok tt → Sized h.n h.l) → DecodesTo o rule word h u held r left → DecodesTo o rule word h u held r' left' → (r ≡ r') × (left ≡ left')
+  one_outcome (Ok tt) z p q = one_verdict (z refl) p q
+  one_outcome (Err why) z p q = (p.0 ∙ sym q.0, p.1 ∙ sym q.1)
 
 -- so two outcomes of reading one file are equal
 pub decodes_one : (rule : ℕ → ℕ → ℕ) (file : List ℕ) (held : Tables) (r r' : DecodeAnswer) (left left' : Tables) → Decodes rule file held r left → Decodes rule file held r' left' → (r ≡ r') × (left ≡ left')

@@ -12,12 +12,11 @@ use lib.IntN.{ℤ, pos, nat_abs, ◌-ℤ◌}
 use lib.Pow.{pow_mono}
 use lib.ListN.{length, take, drop, replicate, length-take, length-append}
 use lib.Seq.{take_all, take_at}
+use Rattle.std.specs.Prelude.{Ok, Err}
 use Rattle.refusals.specs.declared.Refusal.{Refusal}
 use Rattle.refusals.specs.declared.Refusal.TheVariants.{Letters, Contradiction, Beyond}
-use Rattle.refusals.specs.declared.Outcome.{Outcome}
-use Rattle.refusals.specs.declared.Outcome.TheVariants.{Done, Refused}
 use Rattle.refusals.specs.Refusals.{number_of}
-use Rattle.refusals.specs.Checks.{first_failing, lent_after}
+use Rattle.refusals.specs.Checks.{first_failing, lent_after, Outcome}
 use Rattle.sizes.specs.Sizes.{all_of, coarsest_of, side_fits, levels_fit, limit, most_planes, Sized}
 use Rattle.sizes.specs.Tables.{table}
 use Rattle.sizes.proofs.Laws.{side_most, sized}
@@ -44,14 +43,10 @@ use Rattle.decoder.specs.declared.ending.Ending.TheVariants.{Whole, Budget, Cut}
 use Rattle.decoder.proofs.Endings.{ending_whole, ending_budget, ending_cut, whole_asks_none, none_asked_whole, some_left, whole_all, all_whole}
 use Rattle.txp.specs.declared.Header.{Header}
 use Rattle.txp.specs.declared.Encoded.{Encoded}
-use Rattle.txp.specs.declared.EncodeAnswer.{EncodeAnswer}
-use Rattle.txp.specs.declared.EncodeAnswer.TheVariants as encode
 use Rattle.txp.specs.declared.Decoded.{Decoded}
-use Rattle.txp.specs.declared.DecodeAnswer.{DecodeAnswer}
-use Rattle.txp.specs.declared.DecodeAnswer.TheVariants as decode
 use Rattle.txp.specs.Header.{header_size, header_bytes, header_of, body_of, letters_fit}
 use Rattle.txp.specs.File.{header_for, file_of, usable_bits, ending_of}
-use Rattle.txp.specs.Calls.{encode_answer, encode_outcome, Encodes, padding_fits, decode_checks, decode_answer, DecodedFile, DecodesTo, Decodes}
+use Rattle.txp.specs.Calls.{encode_answer, encode_outcome, Encodes, padding_fits, decode_checks, decode_answer, DecodedFile, DecodesTo, Decodes, DecodeAnswer, EncodeAnswer}
 use Rattle.txp.proofs.Headers as headers
 use Rattle.txp.proofs.Headers.{header_length, letters_read, version_read, header_read, body_read}
 use Rattle.txp.proofs.Files.{cut_file, cut_bits, all_bits, no_surplus, padding_zero, padding_refused, refused_padding}
@@ -136,7 +131,7 @@ module _ (N L : ℕ) (side : side_fits N ≡ true) (levels : levels_fit N L ≡ 
   -- A file cut after any byte of its body, or after none: no check of decoding but that of room refuses it
   module _ (k : ℕ) where
     pub cut_passes : (values precisions marks : ℕ) → room_in (all_of N) values precisions marks ≡ true
-        → first_failing (decode_checks (take (header_size + k) (file_of N L A budget)) values precisions marks) ≡ Done
+        → first_failing (decode_checks (take (header_size + k) (file_of N L A budget)) values precisions marks) ≡ Ok tt
     unfolding first_failing
     cut_passes values precisions marks room =
         rw (
@@ -240,27 +235,27 @@ module _ (N L : ℕ) (side : side_fits N ≡ true) (levels : levels_fit N L ≡ 
         (got.answered ∙ rw v, got.filled ∙ rw v)
 
   -- a cut before the body leaves no header
-  pub cut_early : (k values precisions marks : ℕ) → k < header_size → first_failing (decode_checks (take k (file_of N L A budget)) values precisions marks) ≡ Refused Letters
+  pub cut_early : (k values precisions marks : ℕ) → k < header_size → first_failing (decode_checks (take k (file_of N L A budget)) values precisions marks) ≡ Err Letters
   unfolding first_failing letters_fit
   cut_early k values precisions marks h =
       rw (lt-leb header_size (length (take k (file_of N L A budget))) (omega (arith, h, length-take k (file_of N L A budget))))
 
 -- the word of an answer
-told_word : (answer : DecodeAnswer) (d' d : Decoded) → answer ≡ decode.Done d → answer ≡ decode.Done d' → d.ending ≡ d'.ending
+told_word : (answer : DecodeAnswer) (d' d : Decoded) → answer ≡ Ok d → answer ≡ Ok d' → d.ending ≡ d'.ending
 told_word answer d' d is so =
-    let same : decode.Done d ≡ decode.Done d' = sym is ∙ so in
+    let same : Ok d ≡ Ok d' = sym is ∙ so in
     cc
 
 -- ---- THE CALLS. Encoding, for which its contract allows the answer `r` and leaves `left` of what it is lent, answered that it is done.
-module _ (N L : ℕ) (A : List ℤ) (budget : ℕ) (held left : Loan) (r : EncodeAnswer) (encodes : Encodes N L A budget held r left) (e : Encoded) (done : r ≡ encode.Done e) where
-  told : (o : Outcome) → encode.Done e ≡ encode_answer N L A budget o → (o ≡ Done)
+module _ (N L : ℕ) (A : List ℤ) (budget : ℕ) (held left : Loan) (r : EncodeAnswer) (encodes : Encodes N L A budget held r left) (e : Encoded) (done : r ≡ Ok e) where
+  told : (o : Outcome) → Ok e ≡ encode_answer N L A budget o → (o ≡ Ok tt)
       × (e ≡ record { planes = planes_of A; bits = length (sent_bits N L A budget); bytes = header_size + bytes_for (length (sent_bits N L A budget)) })
-  told Done q = (refl, cc)
-  told (Refused why) q =
+  told (Ok tt) q = (refl, cc)
+  told (Err why) q =
       let bad : ◌≡◌ {A = ℕ} 0 1 = cc in
       absurd (omega arith)
 
-  says : (encode_outcome N L A budget held ≡ Done)
+  says : (encode_outcome N L A budget held ≡ Ok tt)
       × (e ≡ record { planes = planes_of A; bits = length (sent_bits N L A budget); bytes = header_size + bytes_for (length (sent_bits N L A budget)) })
   says = told (encode_outcome N L A budget held) (sym done ∙ encodes.answered)
 
@@ -308,7 +303,7 @@ module _ (N L : ℕ) (A : List ℤ) (budget : ℕ) (held left : Loan) (r : Encod
 
       -- and if bytes of its body are missing, the answer says `cut`
       pub cut_word : (k : ℕ) → header_size + k < e.bytes → Decodes rule (take (header_size + k) (take e.bytes left.out)) given answer after
-          → (d : Decoded) → answer ≡ decode.Done d → d.ending ≡ Cut
+          → (d : Decoded) → answer ≡ Ok d → d.ending ≡ Cut
       cut_word k h p d is =
           let cut : take (header_size + k) (take e.bytes left.out) ≡ take (header_size + k) (file_of N L A budget) = ap (λ (s : List ℕ). take (header_size + k) s) file_stands in
           let fewer : k < bytes_for (length (sent_bits N L A budget)) = omega (arith, h, ap (λ (x : Encoded). x.bytes) says.1) in
@@ -348,7 +343,7 @@ module _ (N L : ℕ) (A : List ℤ) (budget : ℕ) (held left : Loan) (r : Encod
 
         -- WHOLE, where the budget cut nothing: the array, precisions 0, the encoder's marks; all planes finished, worst error 0
         pub given_back_by : Between rule → length (stream N L (planes_of A) A) ≤ budget
-            → (answer ≡ decode.Done (record { n = N; l = L; p = e.planes; declared = e.bits; used = e.bits; finished = e.planes; error = 0; ending = Whole }))
+            → (answer ≡ Ok (record { n = N; l = L; p = e.planes; declared = e.bits; used = e.bits; finished = e.planes; error = 0; ending = Whole }))
             × (after ≡ over (all_of N) (tables A (replicate (all_of N) 0) (sent_marks N L A budget)) given)
         given_back_by fair h =
             let P : ℕ = planes_of A in
@@ -361,25 +356,25 @@ module _ (N L : ℕ) (A : List ℤ) (budget : ℕ) (held left : Loan) (r : Encod
             let exact : precisions N L P u ≡ replicate (all_of N) 0 = ap (λ (v : List Bool). precisions N L P v) whole ∙ scan.whole_precisions N L P z A so.whole (planes_of_lem A) in
             let word : ending_of (file_of N L A budget) (length u) (last_plane N L P u) ≡ Whole =
             written_whole N L so.side so.levels A so.whole so.limited budget narrow h in
-            let answered : decode_answer (ending_of (file_of N L A budget)) (header_for N L A budget) u taken ≡ decode.Done (record { n = N; l = L; p = e.planes; declared = e.bits; used = e.bits; finished = e.planes; error = 0; ending = Whole }) =
+            let answered : decode_answer (ending_of (file_of N L A budget)) (header_for N L A budget) u taken ≡ Ok (record { n = N; l = L; p = e.planes; declared = e.bits; used = e.bits; finished = e.planes; error = 0; ending = Whole }) =
             rw says.1 cc in
             let filled : own_tables rule N L P u taken ≡ tables A (replicate (all_of N) 0) (sent_marks N L A budget) = cc in
             (all_taken.0 ∙ answered, all_taken.1 ∙ ap (λ (x : Tables). over (all_of N) x given) filled)
 
         -- and where it cut something the answer says `budget`
-        pub budget_word : budget < length (stream N L (planes_of A) A) → (d : Decoded) → answer ≡ decode.Done d → d.ending ≡ Budget
+        pub budget_word : budget < length (stream N L (planes_of A) A) → (d : Decoded) → answer ≡ Ok d → d.ending ≡ Budget
         budget_word h d is = told_word answer _ d is all_taken.0 ∙ written_budget N L so.side so.levels A so.whole so.limited budget narrow h
 
     -- So `decode`, by the rule in use, and `decode_midpoint` give the array back.
     module _ (given after : Tables) (answer : DecodeAnswer)
         (room : room_in (all_of N) (length given.values) (length given.precisions) (length given.marks) ≡ true) where
       pub given_back : Decodes lower (take e.bytes left.out) given answer after → length (stream N L (planes_of A) A) ≤ budget
-          → (answer ≡ decode.Done (record { n = N; l = L; p = e.planes; declared = e.bits; used = e.bits; finished = e.planes; error = 0; ending = Whole }))
+          → (answer ≡ Ok (record { n = N; l = L; p = e.planes; declared = e.bits; used = e.bits; finished = e.planes; error = 0; ending = Whole }))
           × (after ≡ over (all_of N) (tables A (replicate (all_of N) 0) (sent_marks N L A budget)) given)
       given_back d = given_back_by lower given after answer room d lower_between
 
       pub given_back_midpoint : Decodes midpoint (take e.bytes left.out) given answer after → length (stream N L (planes_of A) A) ≤ budget
-          → (answer ≡ decode.Done (record { n = N; l = L; p = e.planes; declared = e.bits; used = e.bits; finished = e.planes; error = 0; ending = Whole }))
+          → (answer ≡ Ok (record { n = N; l = L; p = e.planes; declared = e.bits; used = e.bits; finished = e.planes; error = 0; ending = Whole }))
           × (after ≡ over (all_of N) (tables A (replicate (all_of N) 0) (sent_marks N L A budget)) given)
       given_back_midpoint d = given_back_by midpoint given after answer room d midpoint_between
 
@@ -405,10 +400,10 @@ padding_exactly declared body = (padding_refused declared body, λ p. refused_pa
 
 -- Any file whose checks hold, and what decode's contract allows: it is refused by 12 or 13 exactly if no array fits its usable bits.
 abbrev pub Refuses : DecodeAnswer → Type 0
-Refuses answer = (why : Refusal) × (answer ≡ decode.Refused why) × ((number_of why ≡ 12) ⊎ (number_of why ≡ 13))
+Refuses answer = (why : Refusal) × (answer ≡ Err why) × ((number_of why ≡ 12) ⊎ (number_of why ≡ 13))
 
 module _ (rule : ℕ → ℕ → ℕ) (file : List ℕ) (held left : Tables) (answer : DecodeAnswer)
-    (passes : first_failing (decode_checks file (length held.values) (length held.precisions) (length held.marks)) ≡ Done) (decoded : Decodes rule file held answer left) where
+    (passes : first_failing (decode_checks file (length held.values) (length held.precisions) (length held.marks)) ≡ Ok tt) (decoded : Decodes rule file held answer left) where
   pub refused_exactly : (Refuses answer → Fits (header_of file).n (header_of file).l (header_of file).p (usable_bits file) → ⊥)
       × ((Fits (header_of file).n (header_of file).l (header_of file).p (usable_bits file) → ⊥) → Refuses answer)
   refused_exactly = (some, none)
@@ -425,7 +420,7 @@ module _ (rule : ℕ → ℕ → ℕ) (file : List ℕ) (held left : Tables) (an
       some : Refuses answer → Fits (header_of file).n (header_of file).l (header_of file).p (usable_bits file) → ⊥
       some refuses w =
           let v : got.verdict ≡ taken = exact.1 w in
-          let bad : decode.Refused refuses.0 ≡ decode_answer (ending_of file) (header_of file) (usable_bits file) taken = sym refuses.1 ∙ got.answered ∙ rw v in
+          let bad : Err refuses.0 ≡ decode_answer (ending_of file) (header_of file) (usable_bits file) taken = sym refuses.1 ∙ got.answered ∙ rw v in
           let z : ◌≡◌ {A = ℕ} 0 1 = cc in
           omega arith
 

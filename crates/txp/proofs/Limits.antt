@@ -8,19 +8,17 @@ use native.Mathlib.Omega.{arith}
 use lib.Dec.{leb}
 use lib.IntN.{ℤ}
 use lib.ListN.{length}
-use Rattle.refusals.specs.Checks.{Check, need, first_failing}
+use Rattle.refusals.specs.Checks.{Check, need, first_failing, Outcome}
 use Rattle.refusals.specs.declared.Refusal.TheVariants.{Side, Levels, Letters, Version, Planes}
-use Rattle.refusals.specs.declared.Outcome.{Outcome}
 use Rattle.refusals.proofs.Laws.{side_asks}
 use Rattle.sizes.specs.Sizes.{most_n, most_planes, side_fits, levels_fit}
 use Rattle.sizes.proofs.Laws.{side_fits_to, side_same}
 use Rattle.room.specs.Room.{write_checks}
 use Rattle.encoder.specs.Body.{Loan}
 use Rattle.decoder.specs.Body.{Tables}
-use Rattle.txp.specs.declared.DecodeAnswer.{DecodeAnswer}
 use Rattle.txp.specs.Header.{header_size, letters_fit, version_fits, header_of, body_of}
 use Rattle.txp.specs.File.{usable_bits, ending_of}
-use Rattle.txp.specs.Calls.{encode_outcome, header_checks, body_checks, decode_checks, DecodesTo, Decodes}
+use Rattle.txp.specs.Calls.{encode_outcome, header_checks, body_checks, decode_checks, DecodesTo, Decodes, DecodeAnswer}
 
 -- the largest N before T-02
 abbrev most_before : ℕ

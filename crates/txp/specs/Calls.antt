@@ -1,10 +1,9 @@
 -- The calls on a file: what they check, what they answer, and what is lent to them holds afterwards (document 01, "Numbers for no").
-use Rattle.std.specs.Prelude.{ℕ, ◌+◌, ◌-◌, ◌/◌, ◌%◌, ◌^◌}
 use mathlib.Core.{Path.◌≡◌, Bool.Bool, Bool.true, Bool.cond, List.List, List.◌∷◌, List.◌++◌}
 use lib.{Dec.leb, Dec.eqb, IntN.ℤ, ListN.length, ListN.get_or}
+use Rattle.std.specs.Prelude.{ℕ, ◌+◌, ◌-◌, ◌/◌, ◌%◌, ◌^◌, Result, Ok, Err}
 use Rattle.refusals.specs.declared.Refusal.TheVariants as refusal
-use Rattle.refusals.specs.{declared.Outcome.Outcome, Checks.Check, Checks.need, Checks.first_failing}
-use Rattle.refusals.specs.declared.Outcome.TheVariants as outcome
+use Rattle.refusals.specs.{declared.Refusal.Refusal, Checks.Outcome, Checks.Check, Checks.need, Checks.first_failing}
 use Rattle.sizes.specs.Sizes.{all_of}
 use Rattle.bits.specs.Bits.{bytes_for}
 use Rattle.coef.specs.Coef.{planes_of}
@@ -12,17 +11,24 @@ use Rattle.nls.specs.{Reading.last_plane, Reading.planes_finished, Reading.worst
 use Rattle.room.specs.Room.{worst_checks, table_checks}
 use Rattle.encoder.specs.Body.{sent_bits, Loan, write_outcome, lent_to}
 use Rattle.decoder.specs.{Body.Tables, Body.own_tables, Body.over, declared.ending.Ending.Ending}
-use Rattle.txp.specs.{declared.Header.Header, declared.HeaderAnswer.HeaderAnswer, declared.EncodeAnswer.EncodeAnswer, declared.DecodeAnswer.DecodeAnswer, Header.header_size, Header.letters_fit, Header.version_fits, Header.header_of, Header.body_of, File.file_of, File.usable_bits, File.ending_of}
-use Rattle.txp.specs.declared.HeaderAnswer.TheVariants as header
-use Rattle.txp.specs.declared.EncodeAnswer.TheVariants as encode
-use Rattle.txp.specs.declared.DecodeAnswer.TheVariants as decode
+use Rattle.txp.specs.{declared.Header.Header, declared.Encoded.Encoded, declared.Decoded.Decoded, Header.header_size, Header.letters_fit, Header.version_fits, Header.header_of, Header.body_of, File.file_of, File.usable_bits, File.ending_of}
+
+-- what the calls answer: what is said, or the refusal
+abbrev pub HeaderAnswer : Type 0
+HeaderAnswer = Result Header Refusal
+
+abbrev pub EncodeAnswer : Type 0
+EncodeAnswer = Result Encoded Refusal
+
+abbrev pub DecodeAnswer : Type 0
+DecodeAnswer = Result Decoded Refusal
 
 -- ---- encoding
 
 abbrev pub encode_answer : ℕ → ℕ → List ℤ → ℕ → Outcome → EncodeAnswer
-encode_answer N L A budget outcome.Done =
-    encode.Done (record { planes = planes_of A; bits = length (sent_bits N L A budget); bytes = header_size + bytes_for (length (sent_bits N L A budget)) })
-encode_answer N L A budget (outcome.Refused why) = encode.Refused why
+encode_answer N L A budget (Ok tt) =
+    Ok (record { planes = planes_of A; bits = length (sent_bits N L A budget); bytes = header_size + bytes_for (length (sent_bits N L A budget)) })
+encode_answer N L A budget (Err why) = Err why
 
 -- "Encoding checks 1 to 6 in that order": those of its body, which begins behind the header
 abbrev pub encode_outcome : ℕ → ℕ → List ℤ → ℕ → Loan → Outcome
@@ -58,13 +64,13 @@ decode_checks file values precisions marks = header_checks file ++ body_checks (
 
 -- what a call on the header alone answers
 abbrev pub header_answer : Outcome → Header → HeaderAnswer
-header_answer outcome.Done h = header.Done h
-header_answer (outcome.Refused why) h = header.Refused why
+header_answer (Ok tt) h = Ok h
+header_answer (Err why) h = Err why
 
 -- by the header, the usable bits and the verdict on them; `word` has why the bits ended, by the bits used and the planes left
 abbrev pub decode_answer : (ℕ → ℕ → Ending) → Header → List Bool → Verdict → DecodeAnswer
 decode_answer word h u taken =
-    decode.Done
+    Ok
     (record {
       n = h.n;
       l = h.l;
@@ -75,8 +81,8 @@ decode_answer word h u taken =
       error = worst_error h.n h.l h.p u;
       ending = word (length u) (last_plane h.n h.l h.p u);
     })
-decode_answer word h u (contradiction bit) = decode.Refused (refusal.Contradiction bit)
-decode_answer word h u (beyond bit) = decode.Refused (refusal.Beyond bit)
+decode_answer word h u (contradiction bit) = Err (refusal.Contradiction bit)
+decode_answer word h u (beyond bit) = Err (refusal.Beyond bit)
 
 -- a call whose checks all hold: the verdict on the usable bits decides the answer and the tables, whose values are by the rule named
 pub record DecodedFile (rule : ℕ → ℕ → ℕ) (word : ℕ → ℕ → Ending) (h : Header) (u : List Bool) (held : Tables) (answer : DecodeAnswer) (left : Tables) : Type 0 where
@@ -87,8 +93,8 @@ pub record DecodedFile (rule : ℕ → ℕ → ℕ) (word : ℕ → ℕ → Endi
 
 -- any call, by the outcome of the checks; "Numbers 1 to 11 touch no lent byte"
 abbrev pub DecodesTo : Outcome → (ℕ → ℕ → ℕ) → (ℕ → ℕ → Ending) → Header → List Bool → Tables → DecodeAnswer → Tables → Type 0
-DecodesTo outcome.Done rule word h u held answer left = DecodedFile rule word h u held answer left
-DecodesTo (outcome.Refused why) rule word h u held answer left = (answer ≡ decode.Refused why) × (left ≡ held)
+DecodesTo (Ok tt) rule word h u held answer left = DecodedFile rule word h u held answer left
+DecodesTo (Err why) rule word h u held answer left = (answer ≡ Err why) × (left ≡ held)
 
 abbrev pub Decodes : (ℕ → ℕ → ℕ) → List ℕ → Tables → DecodeAnswer → Tables → Type 0
 Decodes rule file held answer left =

@@ -14,8 +14,8 @@ ghost use Rattle.txp.specs.Calls.{Encodes, padding_fits, header_checks, body_che
 ghost use Rattle.txp.specs.Under.{with_header};
 ghost use Rattle.txp.specs.Header.{body_of, header_size, header_bytes, two_at, two_bytes, letters_fit, version_fits, header_of};
 
-use decoder::{Ending, Rule};
-use refusals::{Outcome, Refusal};
+use decoder::{Ending, ReadTo, Rule};
+use refusals::Refusal;
 
 // The bytes before the body.
 pub const HEADER_SIZE: usize = 12;
@@ -29,26 +29,12 @@ pub struct Header {
     pub declared: u32,
 }
 
-// What `read_header` answers.
-#[derive(Clone, Copy)]
-pub enum HeaderAnswer {
-    Done(Header),
-    Refused(Refusal),
-}
-
 // The planes of the array, the bits written, and the bytes of the file.
 #[derive(Clone, Copy)]
 pub struct Encoded {
     pub planes: u32,
     pub bits: u32,
     pub bytes: usize,
-}
-
-// What `encode` answers.
-#[derive(Clone, Copy)]
-pub enum EncodeAnswer {
-    Done(Encoded),
-    Refused(Refusal),
 }
 
 // What the header says, the bits used, the planes finished, the worst error, and why the bits ended.
@@ -62,13 +48,6 @@ pub struct Decoded {
     pub finished: u32,
     pub error: u32,
     pub ending: Ending,
-}
-
-// What `decode` and `decode_midpoint` answer.
-#[derive(Clone, Copy)]
-pub enum DecodeAnswer {
-    Done(Decoded),
-    Refused(Refusal),
 }
 
 // The byte at a place, 0 past the end.
@@ -187,53 +166,53 @@ fn padding_fits(file: &[u8], declared: u32) -> bool
 }
 
 // The checks that the header decides, in their order: 7, 8, 1, 2, 9.
-fn check_header(file: &[u8]) -> Outcome
+fn check_header(file: &[u8]) -> Result<(), Refusal>
     ensures { result ≡ first_failing (header_checks file.now) }
 {
     if !letters_fit(file) {
-        return Outcome::Refused(Refusal::Letters);
+        return Err(Refusal::Letters);
     }
     if !version_fits(file) {
-        return Outcome::Refused(Refusal::Version);
+        return Err(Refusal::Version);
     }
     let h = header_of(file);
     room::check_worst(h.n, h.l, h.p)
 }
 
 // What the header says. It reads the first 12 bytes alone, so that a caller can learn N before it lends any table.
-pub fn read_header(file: &[u8]) -> HeaderAnswer
+pub fn read_header(file: &[u8]) -> Result<Header, Refusal>
     ensures { result ≡ header_answer (first_failing (header_checks file.now)) (header_of file.now) }
 {
-    let checked = check_header(file);
-    match checked {
-        Outcome::Done => HeaderAnswer::Done(header_of(file)),
-        Outcome::Refused(why) => HeaderAnswer::Refused(why),
-    }
+    check_header(file)?;
+    Ok(header_of(file))
 }
 
 // The checks behind those of the header, in their order: 10, 11, 5.
-fn check_body(h: Header, file: &[u8], values: usize, precisions: usize, marks: usize) -> Outcome
+fn check_body(
+    h: Header,
+    file: &[u8],
+    values: usize,
+    precisions: usize,
+    marks: usize,
+) -> Result<(), Refusal>
     requires { (header_size ≤ length file.now) × (side_fits h.n ≡ true) }
     ensures { result ≡ first_failing (body_checks h (body_of file.now) values precisions marks) }
 {
     if bytes_for(h.declared) < file.len() - HEADER_SIZE {
-        return Outcome::Refused(Refusal::Surplus);
+        return Err(Refusal::Surplus);
     }
     if !padding_fits(file, h.declared) {
-        return Outcome::Refused(Refusal::Padding);
+        return Err(Refusal::Padding);
     }
     room::check_tables(sizes::all_of(h.n), values, precisions, marks)
 }
 
 // The checks of decoding but for 12 and 13, in their order.
-fn check_decode(file: &[u8], values: usize, precisions: usize, marks: usize) -> Outcome
+fn check_decode(file: &[u8], values: usize, precisions: usize, marks: usize) -> Result<(), Refusal>
     ensures { result ≡ first_failing (decode_checks file.now values precisions marks) }
 {
-    let checked = check_header(file);
-    match checked {
-        Outcome::Done => check_body(header_of(file), file, values, precisions, marks),
-        Outcome::Refused(why) => Outcome::Refused(why),
-    }
+    check_header(file)?;
+    check_body(header_of(file), file, values, precisions, marks)
 }
 
 // Writes the file of a linear array of coefficients, with at most `budget` bits in its body.
@@ -247,49 +226,39 @@ pub fn encode(
     marks: &mut [u8],
     out: &mut [u8],
     budget: u32,
-) -> EncodeAnswer
+) -> Result<Encoded, Refusal>
     ensures { Encodes n l coefs.now budget (loan desc.old grand.old marks.old out.old) result (loan desc.new grand.new marks.new out.new) }
 {
-    let body = encoder::encode(n, l, coefs, desc, grand, marks, out, HEADER_SIZE, budget);
-    match body {
-        encoder::WriteAnswer::Done(written) => {
-            let h = Header {
-                n,
-                l,
-                p: written.planes,
-                declared: written.bits,
-            };
-            put_header(out, h);
-            EncodeAnswer::Done(Encoded {
-                planes: written.planes,
-                bits: written.bits,
-                bytes: HEADER_SIZE + bytes_for(written.bits),
-            })
-        }
-        encoder::WriteAnswer::Refused(why) => EncodeAnswer::Refused(why),
-    }
+    let written = encoder::encode(n, l, coefs, desc, grand, marks, out, HEADER_SIZE, budget)?;
+    let h = Header {
+        n,
+        l,
+        p: written.planes,
+        declared: written.bits,
+    };
+    put_header(out, h);
+    Ok(Encoded {
+        planes: written.planes,
+        bits: written.bits,
+        bytes: HEADER_SIZE + bytes_for(written.bits),
+    })
 }
 
 // The answer on a body under its header.
-fn with_header(h: Header, body: decoder::ReadAnswer) -> DecodeAnswer
+fn with_header(h: Header, body: Result<ReadTo, Refusal>) -> Result<Decoded, Refusal>
     ensures { result ≡ with_header h body }
 {
-    match body {
-        decoder::ReadAnswer::Done(read) => {
-            let ending = read.ending;
-            DecodeAnswer::Done(Decoded {
-                n: h.n,
-                l: h.l,
-                p: h.p,
-                declared: h.declared,
-                used: read.used,
-                finished: read.finished,
-                error: read.error,
-                ending,
-            })
-        }
-        decoder::ReadAnswer::Refused(why) => DecodeAnswer::Refused(why),
-    }
+    let read = body?;
+    Ok(Decoded {
+        n: h.n,
+        l: h.l,
+        p: h.p,
+        declared: h.declared,
+        used: read.used,
+        finished: read.finished,
+        error: read.error,
+        ending: read.ending,
+    })
 }
 
 // Reads a file, whole or cut, into the three tables, I entries each: values by the rule named.
@@ -299,28 +268,23 @@ fn decode_by(
     precisions: &mut [u8],
     marks: &mut [u8],
     rule: Rule,
-) -> DecodeAnswer
+) -> Result<Decoded, Refusal>
     ensures { Decodes (rule_of rule) file.now (tables values.old precisions.old marks.old) result (tables values.new precisions.new marks.new) }
 {
-    let checked = check_decode(file, values.len(), precisions.len(), marks.len());
-    match checked {
-        Outcome::Done => {
-            let h = header_of(file);
-            let body = decoder::decode_by(
-                h.n,
-                h.l,
-                h.p,
-                &file[HEADER_SIZE..],
-                h.declared,
-                values,
-                precisions,
-                marks,
-                rule,
-            );
-            with_header(h, body)
-        }
-        Outcome::Refused(why) => DecodeAnswer::Refused(why),
-    }
+    check_decode(file, values.len(), precisions.len(), marks.len())?;
+    let h = header_of(file);
+    let body = decoder::decode_by(
+        h.n,
+        h.l,
+        h.p,
+        &file[HEADER_SIZE..],
+        h.declared,
+        values,
+        precisions,
+        marks,
+        rule,
+    );
+    with_header(h, body)
 }
 
 // Reads a file, whole or cut, by the default rule: known bits stand for themselves.
@@ -329,7 +293,7 @@ pub fn decode(
     values: &mut [i32],
     precisions: &mut [u8],
     marks: &mut [u8],
-) -> DecodeAnswer
+) -> Result<Decoded, Refusal>
     ensures { Decodes lower file.now (tables values.old precisions.old marks.old) result (tables values.new precisions.new marks.new) }
 {
     decode_by(file, values, precisions, marks, Rule::Lower)
@@ -341,7 +305,7 @@ pub fn decode_midpoint(
     values: &mut [i32],
     precisions: &mut [u8],
     marks: &mut [u8],
-) -> DecodeAnswer
+) -> Result<Decoded, Refusal>
     ensures { Decodes midpoint file.now (tables values.old precisions.old marks.old) result (tables values.new precisions.new marks.new) }
 {
     decode_by(file, values, precisions, marks, Rule::Midpoint)

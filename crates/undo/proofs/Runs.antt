@@ -27,12 +27,6 @@ use Rattle.undo.proofs.Steps.{many_none, pixel_quiet, refining_other, refining_n
 
 -- ---- tests
 
-pub not_both : (a s t : Bool) → a ≡ true → s ≡ t → not s ≡ (a && not t)
-not_both a s t e f = rw (e, f)
-
-pub none_both : (a t : Bool) → a ≡ false → false ≡ (a && t)
-none_both a t e = rw e
-
 both_not : (a t : Bool) → (a && not t) ≡ true → (a ≡ true) × (t ≡ false)
 both_not a t e = (both_left a (not t) e, not-true t (both_right a (not t) e))
 

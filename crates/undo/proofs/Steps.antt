@@ -5,7 +5,7 @@ use mathlib.Core.Bool.{Bool, true, false, ◌&&◌, ◌||◌}
 use mathlib.Core.List.{List}
 use native.Mathlib.Numerals.{add-one}
 use native.Mathlib.Omega.{arith}
-use borrow.Author.Tests.{lt-ltb, le-ltb, lt-leb, le-leb, leb-true, eq-eqb, ne_eqb, eqb-true}
+use borrow.Author.Tests.{lt-ltb, le-ltb, leb-true, eq-eqb, ne_eqb, eqb-true}
 use lib.Dec.{ltb, leb, eqb, lit<}
 use lib.ListN.{length, get_or, set, get_or-eq_default}
 use Rattle.sizes.proofs.Laws.{both_left, both_right}
@@ -18,18 +18,6 @@ use Rattle.undo.specs.declared.Before.TheVariants.{Nothing, Quiet, Answer}
 use Rattle.undo.specs.Undoing.{Was}
 
 -- ---- tests
-
-pub alone_none : (k : ℕ) → k ≡ 0 → false ≡ (ltb 0 k && ltb k 4)
-alone_none k h = rw (le-ltb 0 k (omega arith))
-
-pub alone_some : (k : ℕ) → (k ≡ 0 → ⊥) → ltb k 4 ≡ (ltb 0 k && ltb k 4)
-alone_some k h = rw (lt-ltb 0 k (omega arith))
-
-pub new_root : (D q : ℕ) (t : Bool) → q < D → false ≡ (leb D q && t)
-new_root D q t h = rw (lt-leb D q h)
-
-pub new_below : (D q : ℕ) (s t : Bool) → D ≤ q → s ≡ t → s ≡ (leb D q && t)
-new_below D q s t h e = rw (le-leb D q h) e
 
 -- where four DESC begin is a multiple of 16, and below the roots
 pub many_far : (D : ℕ) (m : List ℕ) (q : ℕ) → many_descs D m q ≡ true → (q % 16 ≡ 0) × (4 * D ≤ q)

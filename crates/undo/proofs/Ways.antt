@@ -4,7 +4,7 @@ use mathlib.Core.Path.{◌≡◌, refl, sym, ap, subst, ◌∙◌}
 use mathlib.Core.Bool.{Bool, true, false, cond}
 use mathlib.Core.List.{List}
 use native.Mathlib.Omega.{arith}
-use borrow.Author.Tests.{lt-ltb, le-ltb, lt-leb, le-leb, ltb-true, leb-true, eq-eqb, ne_eqb, eqb-true}
+use borrow.Author.Tests.{ltb-true, leb-true, eqb-true}
 use lib.Dec.{ltb, leb, eqb}
 use lib.IntN.{ℤ}
 use lib.ListN.{length}
@@ -51,38 +51,9 @@ module _ (I D P : ℕ) (big : ℕ → ℕ → Bool) (l p q : ℕ) (m m' : List �
       let x = subst (λ (t : ℕ). Hushed t D P big l' (pass_of p') q' m' i k) z (f P g.1) in
       (omega arith, g.1, g.2, omega arith, x.same ∙ g.4)
 
--- ---- the tests
+-- ---- what the tests tell
 
 module _ (I n D : ℕ) where
-  pub table_large : all_of most_n < I → false ≡ table_fits I n D
-  unfolding table_fits
-  table_large h = rw (lt-leb I (all_of most_n) h)
-
-  module _ (h : I ≤ all_of most_n) where
-    pub table_count : (n ≡ I → ⊥) → false ≡ table_fits I n D
-    unfolding table_fits
-    table_count k = rw (le-leb I (all_of most_n) h, ne_eqb n I k)
-
-    module _ (k : n ≡ I) where
-      pub table_odd : (I % 16 ≡ 0 → ⊥) → false ≡ table_fits I n D
-      unfolding table_fits
-      table_odd o = rw (le-leb I (all_of most_n) h, eq-eqb n I k, ne_eqb (I % 16) 0 o)
-
-      module _ (o : I % 16 ≡ 0) where
-        pub table_none : D < 4 → false ≡ table_fits I n D
-        unfolding table_fits
-        table_none w = rw (le-leb I (all_of most_n) h, eq-eqb n I k, eq-eqb (I % 16) 0 o, lt-leb 4 D w)
-
-        module _ (w : 4 ≤ D) where
-          pub table_over : I < 4 * D → false ≡ table_fits I n D
-          unfolding table_fits
-          table_over f = rw (le-leb I (all_of most_n) h, eq-eqb n I k, eq-eqb (I % 16) 0 o, le-leb 4 D w, lt-leb (4 * D) I f)
-
-          pub table_fits_lem : 4 * D ≤ I → true ≡ table_fits I n D
-          unfolding table_fits
-          table_fits_lem f = rw (le-leb I (all_of most_n) h, eq-eqb n I k, eq-eqb (I % 16) 0 o, le-leb 4 D w, le-leb (4 * D) I f)
-
-  -- what the test tells
   pub table_told : table_fits I n D ≡ true → (I ≤ all_of most_n) × (n ≡ I) × (I % 16 ≡ 0) × (4 ≤ D) × (4 * D ≤ I)
   unfolding table_fits
   table_told e =
@@ -92,24 +63,6 @@ module _ (I n D : ℕ) where
       (leb-true I (all_of most_n) (both_left (leb I (all_of most_n)) _ e), eqb-true n I (both_left (eqb n I) _ a), eqb-true (I % 16) 0 (both_left (eqb (I % 16) 0) _ b), leb-true 4 D (both_left (leb 4 D) _ d), leb-true (4 * D) I (both_right (leb 4 D) _ d))
 
 module _ (I P : ℕ) (t : Stand) where
-  pub stand_planes : most_planes < P → false ≡ stand_fits I P t
-  unfolding stand_fits
-  stand_planes h = rw (lt-leb P most_planes h)
-
-  module _ (h : P ≤ most_planes) where
-    pub stand_left : P < t.left → false ≡ stand_fits I P t
-    unfolding stand_fits
-    stand_left k = rw (le-leb P most_planes h, lt-leb t.left P k)
-
-    module _ (k : t.left ≤ P) where
-      pub stand_pass : 2 < t.pass → false ≡ stand_fits I P t
-      unfolding stand_fits
-      stand_pass f = rw (le-leb P most_planes h, le-leb t.left P k, le-ltb t.pass 3 (omega arith))
-
-      pub stand_place : t.pass ≤ 2 → leb t.place I ≡ stand_fits I P t
-      unfolding stand_fits
-      stand_place f = rw (le-leb P most_planes h, le-leb t.left P k, lt-ltb t.pass 3 (omega arith))
-
   pub stand_told : stand_fits I P t ≡ true → (P ≤ most_planes) × (t.left ≤ P) × (t.pass < 3) × (t.place ≤ I)
   unfolding stand_fits
   stand_told e =
@@ -117,11 +70,11 @@ module _ (I P : ℕ) (t : Stand) where
       let b = both_right (leb t.left P) _ a in
       (leb-true P most_planes (both_left (leb P most_planes) _ e), leb-true t.left P (both_left (leb t.left P) _ a), ltb-true t.pass 3 (both_left (ltb t.pass 3) _ b), leb-true t.place I (both_right (ltb t.pass 3) _ b))
 
-pub room_told : (m : List ℕ) (v : List ℤ) (D P : ℕ) (t : Stand) → table_fits (length m) (length v) D ≡ true → stand_fits (length m) P t ≡ true → Room (length m) D m t.place × Scanned (length m) P v t.left t.pass
+pub room_told : (m : List ℕ) (v : List ℤ) (D P : ℕ) (t : Stand) → table_fits (length m) (length v) D ≡ true → stand_fits (length m) P t ≡ true → Room D m t.place × Scanned (length m) P v t.left t.pass
 room_told m v D P t e f =
     let a = table_told (length m) (length v) D e in
     let b = stand_told (length m) P t f in
-    (record { size = refl; near = a.0; whole = a.2; wide = a.3; roots = a.4; within = b.3 }, record { each = a.1; most = b.0; lefts = b.1; passes = b.2 })
+    (record { near = a.0; whole = a.2; wide = a.3; roots = a.4; within = b.3 }, record { each = a.1; most = b.0; lefts = b.1; passes = b.2 })
 
 -- ---- the whole way
 

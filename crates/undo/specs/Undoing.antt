@@ -43,14 +43,13 @@ pub record Stood (t : State) (st : Stand) (m : List ℕ) : Type 0 where
   pub same : t ≡ state_of st m
   pub passed : st.pass < 3
 
--- what a move back asks of a table of I marks, a coarsest band of D places and a place
-pub record Room (I D : ℕ) (m : List ℕ) (place : ℕ) : Type 0 where
-  pub size : length m ≡ I
-  pub near : I ≤ all_of most_n
-  pub whole : I % 16 ≡ 0
+-- what a move back asks of a table of marks, a coarsest band of D places and a place
+pub record Room (D : ℕ) (m : List ℕ) (place : ℕ) : Type 0 where
+  pub near : length m ≤ all_of most_n
+  pub whole : length m % 16 ≡ 0
   pub wide : 4 ≤ D
-  pub roots : 4 * D ≤ I
-  pub within : place ≤ I
+  pub roots : 4 * D ≤ length m
+  pub within : place ≤ length m
 
 -- and of as many values, P planes, the planes left and the pass
 pub record Scanned (I P : ℕ) (v : List ℤ) (left pass : ℕ) : Type 0 where

@@ -20,16 +20,6 @@ pub enum Before {
     Answer(Stand),
 }
 
-// a - b, and 0 where that would be below.
-fn less(a: usize, b: usize) -> usize
-    ensures { result ≡ a - b }
-{
-    if b < a {
-        return a - b;
-    }
-    0
-}
-
 // Where the block of places that ends at `end` begins.
 fn block(marks: &[u8], end: usize) -> usize
     requires { (1 ≤ length marks.now) × (end ≤ length marks.now) }
@@ -37,13 +27,13 @@ fn block(marks: &[u8], end: usize) -> usize
 {
     let mut size = 1;
     for _ in 0..sizes::MOST_N {
-        let at = less(end, size);
+        let at = end.saturating_sub(size);
         if marks[at] != marking::NO_MARK {
             return at;
         }
         size = 4 * size;
     }
-    less(end, size)
+    end.saturating_sub(size)
 }
 
 // Whether the value at a place has a bit of plane `left` or above.
@@ -56,26 +46,26 @@ fn is_big(values: &[i32], left: u32, place: usize) -> bool
 }
 
 // A push, and the mark above it, taken back.
-fn wipe(marks: &mut [u8], all: usize, place: usize)
-    requires { (length marks.old ≡ all) × (all ≤ all_of most_n) × (1 ≤ place) × (place < all) }
-    ensures { marks.new ≡ spec.wiped all place marks.old }
+fn wipe(marks: &mut [u8], place: usize)
+    requires { (length marks.old ≤ all_of most_n) × (1 ≤ place) × (place < length marks.old) }
+    ensures { marks.new ≡ spec.wiped (length marks.old) place marks.old }
 {
     marks[place] = marking::NO_MARK;
     let mut at = 4 * place;
-    while at < all {
+    while at < marks.len() {
         marks[at] = marking::NO_MARK;
         at = 4 * at;
     }
 }
 
 // The marks below a GRAND: MN3 at 4i, MN4 at 16i and so on.
-fn push_grand(marks: &mut [u8], all: usize, place: usize)
-    requires { (length marks.old ≡ all) × (all ≤ all_of most_n) × (16 ≤ place) × (place < all) }
-    ensures { marks.new ≡ push_from all all (4 * place) (MN 3) marks.old }
+fn push_grand(marks: &mut [u8], place: usize)
+    requires { (length marks.old ≤ all_of most_n) × (16 ≤ place) × (place < length marks.old) }
+    ensures { marks.new ≡ push_from (length marks.old) (length marks.old) (4 * place) (MN 3) marks.old }
 {
     let mut at = 4 * place;
     for k in marking::MN2 + 1..marking::CODES_END {
-        if all <= at {
+        if marks.len() <= at {
             break;
         }
         marks[at] = k;
@@ -84,29 +74,29 @@ fn push_grand(marks: &mut [u8], all: usize, place: usize)
 }
 
 // DESC is one set again.
-fn join_desc(marks: &mut [u8], all: usize, place: usize)
-    requires { (length marks.old ≡ all) × (all ≤ all_of most_n) × (place + 3 < all) }
-    ensures { marks.new ≡ spec.join_desc all place marks.old (ltb (4 * place) all) }
+fn join_desc(marks: &mut [u8], place: usize)
+    requires { (length marks.old ≤ all_of most_n) × (place + 3 < length marks.old) }
+    ensures { marks.new ≡ spec.join_desc (length marks.old) place marks.old (ltb (4 * place) (length marks.old)) }
 {
     marks[place] = marking::MD;
     marks[place + 1] = marking::NO_MARK;
     marks[place + 2] = marking::NO_MARK;
     marks[place + 3] = marking::NO_MARK;
-    if 4 * place < all {
+    if 4 * place < marks.len() {
         marks[4 * place] = marking::MN2;
     }
 }
 
 // GRAND is one set again.
-fn join_grand(marks: &mut [u8], all: usize, place: usize)
-    requires { (length marks.old ≡ all) × (all ≤ all_of most_n) × (16 ≤ place) × (place + 12 < all) }
-    ensures { marks.new ≡ spec.join_grand all place marks.old }
+fn join_grand(marks: &mut [u8], place: usize)
+    requires { (length marks.old ≤ all_of most_n) × (16 ≤ place) × (place + 12 < length marks.old) }
+    ensures { marks.new ≡ spec.join_grand (length marks.old) place marks.old }
 {
-    wipe(marks, all, place + 12);
-    wipe(marks, all, place + 8);
-    wipe(marks, all, place + 4);
+    wipe(marks, place + 12);
+    wipe(marks, place + 8);
+    wipe(marks, place + 4);
     marks[place] = marking::MG;
-    push_grand(marks, all, place);
+    push_grand(marks, place);
 }
 
 // Whether none of four marks is MSP.
@@ -114,56 +104,32 @@ fn none_old(marks: &[u8], place: usize) -> bool
     requires { place + 3 < length marks.now }
     ensures { result ≡ spec.none_is marks.now place MSP }
 {
-    if marks[place] == marking::MSP {
-        return false;
-    }
-    if marks[place + 1] == marking::MSP {
-        return false;
-    }
-    if marks[place + 2] == marking::MSP {
-        return false;
-    }
-    marks[place + 3] != marking::MSP
+    marks[place] != marking::MSP
+        && marks[place + 1] != marking::MSP
+        && marks[place + 2] != marking::MSP
+        && marks[place + 3] != marking::MSP
 }
 
 // Whether the four at a place were split in the plane in progress.
-fn fresh(marks: &[u8], all: usize, place: usize) -> bool
-    requires { (length marks.now ≡ all) × (all ≤ all_of most_n) × (place + 3 < all) }
-    ensures { result ≡ (spec.none_is marks.now place MSP && (leb all (4 * place) || spec.is marks.now (4 * place) MG)) }
+fn fresh(marks: &[u8], place: usize) -> bool
+    requires { (length marks.now ≤ all_of most_n) × (place + 3 < length marks.now) }
+    ensures { result ≡ (spec.none_is marks.now place MSP && (leb (length marks.now) (4 * place) || spec.is marks.now (4 * place) MG)) }
 {
-    if none_old(marks, place) {
-        if all <= 4 * place {
-            return true;
-        }
-        return marks[4 * place] == marking::MG;
-    }
-    false
+    none_old(marks, place) && (marks.len() <= 4 * place || marks[4 * place] == marking::MG)
 }
 
 // Whether four DESC begin here: those of a GRAND that was split.
-fn four_descs(marks: &[u8], all: usize, coarsest: usize, place: usize) -> bool
-    requires { (length marks.now ≡ all) × (all ≤ all_of most_n) × (coarsest ≤ all) × (place < all) }
+fn four_descs(marks: &[u8], coarsest: usize, place: usize) -> bool
+    requires { (length marks.now ≤ all_of most_n) × (coarsest ≤ length marks.now) × (place < length marks.now) }
     ensures { result ≡ spec.many_descs coarsest marks.now place }
 {
-    if place % 16 != 0 {
-        return false;
-    }
-    if place < 4 * coarsest {
-        return false;
-    }
-    if all <= place + 12 {
-        return false;
-    }
-    if marks[place] != marking::MD {
-        return false;
-    }
-    if marks[place + 4] != marking::MD {
-        return false;
-    }
-    if marks[place + 8] != marking::MD {
-        return false;
-    }
-    marks[place + 12] == marking::MD
+    place % 16 == 0
+        && 4 * coarsest <= place
+        && place + 12 < marks.len()
+        && marks[place] == marking::MD
+        && marks[place + 4] == marking::MD
+        && marks[place + 8] == marking::MD
+        && marks[place + 12] == marking::MD
 }
 
 // The answer of a coefficient whose mark was `mark` is taken back: MNP shows that it was the sign.
@@ -183,20 +149,13 @@ fn unasked(marks: &mut [u8], left: u32, pass: u32, place: usize, mark: u8) -> Be
 }
 
 // One move back in the pixel pass.
-fn prior_pixels(
-    marks: &mut [u8],
-    all: usize,
-    coarsest: usize,
-    planes: u32,
-    left: u32,
-    place: usize,
-) -> Before
-    requires { Room all coarsest marks.old place }
-    ensures { (big : ℕ → ℕ → Bool) → Was (spec.prior all coarsest planes big (state_at left pixels place marks.old)) result marks.old marks.new }
+fn prior_pixels(marks: &mut [u8], coarsest: usize, planes: u32, left: u32, place: usize) -> Before
+    requires { Room coarsest marks.old place }
+    ensures { (big : ℕ → ℕ → Bool) → Was (spec.prior (length marks.old) coarsest planes big (state_at left pixels place marks.old)) result marks.old marks.new }
 {
     if place == 0 {
         if left < planes {
-            return Before::Quiet(left + 1, 2, all);
+            return Before::Quiet(left + 1, 2, marks.len());
         }
         return Before::Nothing;
     }
@@ -215,17 +174,16 @@ fn prior_pixels(
 fn prior_refining(
     marks: &mut [u8],
     values: &[i32],
-    all: usize,
     coarsest: usize,
     planes: u32,
     left: u32,
     place: usize,
 ) -> Before
-    requires { Room all coarsest marks.old place × Scanned all planes values.now left 2 }
-    ensures { Was (spec.prior all coarsest planes (spec.big_in values.now) (state_at left refining place marks.old)) result marks.old marks.new }
+    requires { Room coarsest marks.old place × Scanned (length marks.old) planes values.now left 2 }
+    ensures { Was (spec.prior (length marks.old) coarsest planes (spec.big_in values.now) (state_at left refining place marks.old)) result marks.old marks.new }
 {
     if place == 0 {
-        return Before::Quiet(left, 1, all);
+        return Before::Quiet(left, 1, marks.len());
     }
     let at = block(marks, place);
     let mark = marks[at];
@@ -248,31 +206,25 @@ fn prior_refining(
 fn alone(mark: u8) -> bool
     ensures { result ≡ (ltb no_mark mark && ltb mark MCP) }
 {
-    if mark == marking::NO_MARK {
-        return false;
-    }
-    mark < marking::MCP
+    marking::NO_MARK < mark && mark < marking::MCP
 }
 
 // Whether the four at a place, below some root, were split in the plane in progress.
-fn new_four(marks: &[u8], all: usize, coarsest: usize, place: usize) -> bool
-    requires { (length marks.now ≡ all) × (all ≤ all_of most_n) × (place + 3 < all) }
-    ensures { result ≡ (leb coarsest place && (spec.none_is marks.now place MSP && (leb all (4 * place) || spec.is marks.now (4 * place) MG))) }
+fn new_four(marks: &[u8], coarsest: usize, place: usize) -> bool
+    requires { (length marks.now ≤ all_of most_n) × (place + 3 < length marks.now) }
+    ensures { result ≡ (leb coarsest place && (spec.none_is marks.now place MSP && (leb (length marks.now) (4 * place) || spec.is marks.now (4 * place) MG))) }
 {
-    if place < coarsest {
-        return false;
-    }
-    fresh(marks, all, place)
+    coarsest <= place && fresh(marks, place)
 }
 
 // One move back in the set pass, to what ends at a place.
-fn prior_block(marks: &mut [u8], all: usize, coarsest: usize, left: u32, place: usize) -> Before
-    requires { Room all coarsest marks.old place × (4 ≤ place) }
-    ensures { (planes : ℕ) (big : ℕ → ℕ → Bool) → Was (spec.prior_block all coarsest planes big left place marks.old (spec.alone marks.old (place - 4)) (leb coarsest (place - 4) && spec.fresh all coarsest planes big marks.old (place - 4))) result marks.old marks.new }
+fn prior_block(marks: &mut [u8], coarsest: usize, left: u32, place: usize) -> Before
+    requires { Room coarsest marks.old place × (4 ≤ place) }
+    ensures { (planes : ℕ) (big : ℕ → ℕ → Bool) → Was (spec.prior_block (length marks.old) coarsest planes big left place marks.old (spec.alone marks.old (place - 4)) (leb coarsest (place - 4) && spec.fresh (length marks.old) coarsest planes big marks.old (place - 4))) result marks.old marks.new }
 {
     let head = place - 4;
     if alone(marks[head]) {
-        if new_four(marks, all, coarsest, head) {
+        if new_four(marks, coarsest, head) {
             return unasked(marks, left, 1, place - 1, marking::MCP);
         }
         return Before::Quiet(left, 1, head);
@@ -299,18 +251,18 @@ fn prior_block(marks: &mut [u8], all: usize, coarsest: usize, left: u32, place: 
 }
 
 // One move back in the set pass.
-fn prior_sets(marks: &mut [u8], all: usize, coarsest: usize, left: u32, place: usize) -> Before
-    requires { Room all coarsest marks.old place }
-    ensures { (planes : ℕ) (big : ℕ → ℕ → Bool) → Was (spec.prior all coarsest planes big (state_at left sets place marks.old)) result marks.old marks.new }
+fn prior_sets(marks: &mut [u8], coarsest: usize, left: u32, place: usize) -> Before
+    requires { Room coarsest marks.old place }
+    ensures { (planes : ℕ) (big : ℕ → ℕ → Bool) → Was (spec.prior (length marks.old) coarsest planes big (state_at left sets place marks.old)) result marks.old marks.new }
 {
     if place % 4 != 0 {
         return unasked(marks, left, 1, place - 1, marking::MCP);
     }
-    if all <= place {
-        return prior_block(marks, all, coarsest, left, place);
+    if marks.len() <= place {
+        return prior_block(marks, coarsest, left, place);
     }
     if marks[place] == marking::MCP {
-        join_desc(marks, all, place);
+        join_desc(marks, place);
         return Before::Answer(Stand {
             left,
             pass: 1,
@@ -318,8 +270,8 @@ fn prior_sets(marks: &mut [u8], all: usize, coarsest: usize, left: u32, place: u
             pending: false,
         });
     }
-    if four_descs(marks, all, coarsest, place) {
-        join_grand(marks, all, place);
+    if four_descs(marks, coarsest, place) {
+        join_grand(marks, place);
         return Before::Answer(Stand {
             left,
             pass: 1,
@@ -328,9 +280,9 @@ fn prior_sets(marks: &mut [u8], all: usize, coarsest: usize, left: u32, place: u
         });
     }
     if place == 0 {
-        return Before::Quiet(left, 0, all);
+        return Before::Quiet(left, 0, marks.len());
     }
-    prior_block(marks, all, coarsest, left, place)
+    prior_block(marks, coarsest, left, place)
 }
 
 // One move back from where no sign is pending.
@@ -343,27 +295,23 @@ fn prior(
     pass: u32,
     place: usize,
 ) -> Before
-    requires { Room (length marks.old) coarsest marks.old place × Scanned (length marks.old) planes values.now left pass }
+    requires { Room coarsest marks.old place × Scanned (length marks.old) planes values.now left pass }
     ensures { Was (spec.prior (length marks.old) coarsest planes (spec.big_in values.now) (state_at left (pass_of pass) place marks.old)) result marks.old marks.new }
 {
-    let all = marks.len();
     if pass == 0 {
-        return prior_pixels(marks, all, coarsest, planes, left, place);
+        return prior_pixels(marks, coarsest, planes, left, place);
     }
     if pass == 1 {
-        return prior_sets(marks, all, coarsest, left, place);
+        return prior_sets(marks, coarsest, left, place);
     }
-    prior_refining(marks, values, all, coarsest, planes, left, place)
+    prior_refining(marks, values, coarsest, planes, left, place)
 }
 
 // Whether the four coefficients before a place were found before this plane, or in it.
 fn four_found(marks: &[u8], place: usize) -> bool
     ensures { result ≡ four_found marks.now place }
 {
-    if place < 4 {
-        return false;
-    }
-    marking::same_four(marks, place - 4, marking::MSP)
+    4 <= place && marking::same_four(marks, place - 4, marking::MSP)
 }
 
 // Back over the coefficients before a place that are found, four at a time where it can be: the pixel pass asked nothing there.
@@ -403,10 +351,7 @@ fn four_new(marks: &[u8], values: &[i32], left: u32, place: usize) -> bool
     requires { (length values.now ≡ length marks.now) × (left ≤ most_planes) }
     ensures { result ≡ (four_found marks.now place && not (any_big (spec.big_in values.now) left (place - 4))) }
 {
-    if four_found(marks, place) {
-        return !any_big(values, left, place - 4);
-    }
-    false
+    four_found(marks, place) && !any_big(values, left, place - 4)
 }
 
 // Whether the refinement pass asked nothing at a place, since the coefficient there is not found, or was found in this plane; MSP
@@ -417,10 +362,7 @@ fn was_new(marks: &mut [u8], values: &[i32], left: u32, place: usize) -> bool
     ensures marks_after { marks.new ≡ cond (is_new (spec.big_in values.now) left marks.old place) (set marks.old place MNP) marks.old }
 {
     let mark = marks[place];
-    if mark == marking::MSP {
-        if is_big(values, left, place) {
-            return false;
-        }
+    if mark == marking::MSP && !is_big(values, left, place) {
         marks[place] = marking::MNP;
         return true;
     }
@@ -447,24 +389,21 @@ fn back_new(marks: &mut [u8], values: &[i32], left: u32, place: usize) -> usize
 }
 
 // Whether the four at a place are in no set, and were split before this plane.
-fn old_four(marks: &[u8], all: usize, coarsest: usize, place: usize) -> bool
-    requires { (length marks.now ≡ all) × (all ≤ all_of most_n) × (place + 3 < all) }
-    ensures { result ≡ (spec.alone marks.now place && not (leb coarsest place && (spec.none_is marks.now place MSP && (leb all (4 * place) || spec.is marks.now (4 * place) MG)))) }
+fn old_four(marks: &[u8], coarsest: usize, place: usize) -> bool
+    requires { (length marks.now ≤ all_of most_n) × (place + 3 < length marks.now) }
+    ensures { result ≡ (spec.alone marks.now place && not (leb coarsest place && (spec.none_is marks.now place MSP && (leb (length marks.now) (4 * place) || spec.is marks.now (4 * place) MG)))) }
 {
-    if alone(marks[place]) {
-        return !new_four(marks, all, coarsest, place);
-    }
-    false
+    alone(marks[place]) && !new_four(marks, coarsest, place)
 }
 
 // Back over such fours before a place, which is the end, or where such a four begins: the set pass asked nothing there.
-fn back_alone(marks: &[u8], all: usize, coarsest: usize, place: usize) -> usize
-    requires { Room all coarsest marks.now place × (place % 4 ≡ 0) × (place < all → spec.alone marks.now place ≡ true) }
-    ensures { (P l : ℕ) (big : ℕ → ℕ → Bool) → l ≤ P → Hushed all coarsest P big l sets place marks.now result marks.now }
+fn back_alone(marks: &[u8], coarsest: usize, place: usize) -> usize
+    requires { Room coarsest marks.now place × (place % 4 ≡ 0) × (place < length marks.now → spec.alone marks.now place ≡ true) }
+    ensures { (P l : ℕ) (big : ℕ → ℕ → Bool) → l ≤ P → Hushed (length marks.now) coarsest P big l sets place marks.now result marks.now }
 {
     let mut at = place;
     while 4 <= at {
-        if !old_four(marks, all, coarsest, at - 4) {
+        if !old_four(marks, coarsest, at - 4) {
             return at;
         }
         at -= 4;
@@ -473,17 +412,11 @@ fn back_alone(marks: &[u8], all: usize, coarsest: usize, place: usize) -> usize
 }
 
 // Whether a place is the end, or where four begin that are in no set.
-fn at_four(marks: &[u8], all: usize, place: usize) -> bool
-    requires { (length marks.now ≡ all) × (place ≤ all) }
-    ensures { result ≡ (eqb (place % 4) 0 && (leb all place || spec.alone marks.now place)) }
+fn at_four(marks: &[u8], place: usize) -> bool
+    requires { place ≤ length marks.now }
+    ensures { result ≡ (eqb (place % 4) 0 && (leb (length marks.now) place || spec.alone marks.now place)) }
 {
-    if place % 4 != 0 {
-        return false;
-    }
-    if all <= place {
-        return true;
-    }
-    alone(marks[place])
+    place % 4 == 0 && (marks.len() <= place || alone(marks[place]))
 }
 
 // Back over the places of a pass where it asked nothing, as far as it is seen by their marks alone, or by values of their own.
@@ -495,25 +428,24 @@ fn run_back(
     pass: u32,
     place: usize,
 ) -> usize
-    requires { Room (length marks.old) coarsest marks.old place × (length values.now ≡ length marks.old) × (left ≤ most_planes) × (pass < 3) }
+    requires { Room coarsest marks.old place × (length values.now ≡ length marks.old) × (left ≤ most_planes) × (pass < 3) }
     ensures { (P : ℕ) → left ≤ P → Hushed (length marks.old) coarsest P (spec.big_in values.now) left (pass_of pass) place marks.old result marks.new }
 {
-    let all = marks.len();
     if pass == 0 {
         return back_old(marks, place);
     }
     if pass == 2 {
         return back_new(marks, values, left, place);
     }
-    if at_four(marks, all, place) {
-        return back_alone(marks, all, coarsest, place);
+    if at_four(marks, place) {
+        return back_alone(marks, coarsest, place);
     }
     place
 }
 
 // The way back from where no sign is pending: silent moves, and the answer before them.
 fn way_back(marks: &mut [u8], values: &[i32], coarsest: usize, planes: u32, from: Stand) -> Stand
-    requires { Room (length marks.old) coarsest marks.old from.place × Scanned (length marks.old) planes values.now from.left from.pass }
+    requires { Room coarsest marks.old from.place × Scanned (length marks.old) planes values.now from.left from.pass }
     ensures { Stood (spec.back (length marks.old) coarsest planes (spec.big_in values.now) (state_at from.left (pass_of from.pass) from.place marks.old)) result marks.new }
 {
     let mut left = from.left;
@@ -542,41 +474,23 @@ fn way_back(marks: &mut [u8], values: &[i32], coarsest: usize, planes: u32, from
 }
 
 // Whether tables of this many marks and values may be gone back in.
+#[tactic(auto, unfolding(crate::specs::Undoing::table_fits))]
 fn table_fits(all: usize, count: usize, coarsest: usize) -> bool
     ensures { result ≡ table_fits all count coarsest }
 {
-    if sizes::all_of(sizes::MOST_N) < all {
-        return false;
-    }
-    if count != all {
-        return false;
-    }
-    if all % 16 != 0 {
-        return false;
-    }
-    if coarsest < 4 {
-        return false;
-    }
-    if all / 4 < coarsest {
-        return false;
-    }
-    true
+    all <= sizes::all_of(sizes::MOST_N)
+        && count == all
+        && all % 16 == 0
+        && 4 <= coarsest
+        && coarsest <= all / 4
 }
 
 // Whether the scan can stand there.
+#[tactic(auto, unfolding(crate::specs::Undoing::stand_fits))]
 fn stand_fits(all: usize, planes: u32, from: Stand) -> bool
     ensures { result ≡ stand_fits all planes from }
 {
-    if sizes::MOST_PLANES < planes {
-        return false;
-    }
-    if planes < from.left {
-        return false;
-    }
-    if 2 < from.pass {
-        return false;
-    }
-    from.place <= all
+    planes <= sizes::MOST_PLANES && from.left <= planes && from.pass < 3 && from.place <= all
 }
 
 // One bit back: where the scan stood before its last answer, with its marks in `marks`. It tells by the values which coefficients

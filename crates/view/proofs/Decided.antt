@@ -9,8 +9,8 @@ use contract.Lifetimes.{Lfts}
 use contract.Monad.{Fun, fact, fact_i, fact_use}
 use denote.Triple.Clauses.{Ended, AtExit, Clauses}
 use denote.Triple.Entry.{Args, Res}
-use Rattle.bits.specs.declared.Next.{Next}
 use Rattle.refusals.proofs.Decided.{OneAnswer}
+use Rattle.bits.specs.Bits.{Next}
 use Rattle.view.specs.declared.BitView.{BitView}
 use Rattle.view.proofs.bit_at.Reads as bit_at
 use Rattle.view.proofs.read.Reads as read

@@ -10,12 +10,11 @@ use denote.Ref.{Bor}
 use lib.Dec.{leb}
 use lib.ListN.{length}
 use lib.Seq.{append_snoc}
+use Rattle.std.specs.Prelude.{Ok, Err}
 use Rattle.sizes.specs.Tables.{table}
-use Rattle.bits.specs.declared.Next.{Next}
-use Rattle.bits.specs.declared.Next.TheVariants.{Bit, NoMore}
 use Rattle.bits.specs.declared.Why.{Why}
 use Rattle.bits.specs.declared.Why.TheVariants.{Declared, Short}
-use Rattle.bits.specs.Bits.{bit_at, bits_of}
+use Rattle.bits.specs.Bits.{bit_at, bits_of, Next}
 use Rattle.bits.proofs.Laws.{bits_of_suc}
 use Rattle.view.specs.declared.BitView.{BitView}
 use Rattle.view.specs.View.{viewed, next_after, moved_to, view_of, past}
@@ -25,23 +24,23 @@ abbrev pub span : List ℕ → ℕ → ℕ
 span body declared = min declared (8 * length body)
 
 abbrev is_bit : Next → Bool
-is_bit (Bit x) = true
-is_bit (NoMore why) = false
+is_bit (Ok x) = true
+is_bit (Err why) = false
 
 -- ---- one read
 
 module _ (body : List ℕ) (at declared : ℕ) where
-  pub viewed_bit : at < span body declared → viewed body at declared ≡ Bit (bit_at body at)
+  pub viewed_bit : at < span body declared → viewed body at declared ≡ Ok (bit_at body at)
   unfolding viewed
   viewed_bit h = rw (lt-ltb at declared (omega arith), lt-ltb (at / 8) (length body) (omega arith))
 
   -- "declared count reached (also where both fall at one bit)"
-  pub viewed_declared : declared ≤ at → viewed body at declared ≡ NoMore Declared
+  pub viewed_declared : declared ≤ at → viewed body at declared ≡ Err Declared
   unfolding viewed
   viewed_declared h = rw (le-ltb at declared h)
 
   -- "or file short"
-  pub viewed_short : at < declared → 8 * length body ≤ at → viewed body at declared ≡ NoMore Short
+  pub viewed_short : at < declared → 8 * length body ≤ at → viewed body at declared ≡ Err Short
   unfolding viewed
   viewed_short h l = rw (lt-ltb at declared h, le-ltb (at / 8) (length body) (omega arith))
 
@@ -49,21 +48,21 @@ module _ (body : List ℕ) (at declared : ℕ) where
   abbrev pub why_none : Why
   why_none = cond (leb declared at) Declared Short
 
-  pub viewed_none : span body declared ≤ at → viewed body at declared ≡ NoMore why_none
+  pub viewed_none : span body declared ≤ at → viewed body at declared ≡ Err why_none
   viewed_none h = tell (dec_lt at declared)
     where
-      tell : Dec (at < declared) → viewed body at declared ≡ NoMore why_none
-      tell (yes l) = viewed_short l (omega arith) ∙ ap (λ (x : Bool). NoMore (cond x Declared Short)) (sym (lt-leb declared at l))
-      tell (no l) = viewed_declared (omega arith) ∙ ap (λ (x : Bool). NoMore (cond x Declared Short)) (sym (le-leb declared at (omega arith)))
+      tell : Dec (at < declared) → viewed body at declared ≡ Err why_none
+      tell (yes l) = viewed_short l (omega arith) ∙ ap (λ (x : Bool). Err (cond x Declared Short)) (sym (lt-leb declared at l))
+      tell (no l) = viewed_declared (omega arith) ∙ ap (λ (x : Bool). Err (cond x Declared Short)) (sym (le-leb declared at (omega arith)))
 
-  pub viewed_within : (x : Bool) → viewed body at declared ≡ Bit x → at < span body declared
+  pub viewed_within : (x : Bool) → viewed body at declared ≡ Ok x → at < span body declared
   viewed_within x e = tell (dec_lt at (span body declared))
     where
       tell : Dec (at < span body declared) → at < span body declared
       tell (yes l) = l
       tell (no l) = absurd (true≢false (ap is_bit (sym e ∙ viewed_none (omega arith))))
 
-  pub viewed_past : (why : Why) → viewed body at declared ≡ NoMore why → span body declared ≤ at
+  pub viewed_past : (why : Why) → viewed body at declared ≡ Err why → span body declared ≤ at
   viewed_past why e = tell (dec_lt at (span body declared))
     where
       tell : Dec (at < span body declared) → span body declared ≤ at
@@ -80,8 +79,8 @@ module _ (body : List ℕ) (at declared : ℕ) where
 
 -- a read's bit before the bits of later reads
 abbrev pub onto : Next → List Bool → List Bool
-onto (Bit x) l = x ∷ l
-onto (NoMore why) l = l
+onto (Ok x) l = x ∷ l
+onto (Err why) l = l
 
 -- the bits that n reads give
 unfoldable pub bits_read : ℕ → BitView → List Bool

@@ -4,7 +4,7 @@
 ghost use Rattle.std.specs.Prelude.{◌≡◌};
 ghost use Rattle.view.specs.View.{viewed, moved_to, view_of, past};
 
-use bits::{Next, Why, fetch};
+use bits::{Why, fetch};
 
 // The lent body, the number of the next bit, and the declared count.
 #[derive(Clone, Copy)]
@@ -17,18 +17,18 @@ pub struct BitView<'a> {
 // A bit, or why there are no more, and the number of the next bit.
 #[derive(Clone, Copy)]
 struct Taken {
-    next: Next,
+    next: Result<bool, Why>,
     at: usize,
 }
 
 // The bit with number `at` of a body of `declared` bits. Where these are reached, no more are asked of the body.
-pub fn bit_at(body: &[u8], at: usize, declared: usize) -> Next
+pub fn bit_at(body: &[u8], at: usize, declared: usize) -> Result<bool, Why>
     ensures { result ≡ viewed body.now at declared }
 {
     if at < declared {
         return fetch(body, at);
     }
-    Next::NoMore(Why::Declared)
+    Err(Why::Declared)
 }
 
 // The same bit, and the number of the next one: where there are no more, it stays.
@@ -36,14 +36,11 @@ fn take_at(body: &[u8], at: usize, declared: usize) -> Taken
     ensures { (result.next ≡ viewed body.now at declared) × (result.at ≡ moved_to body.now at declared) }
 {
     match bit_at(body, at, declared) {
-        Next::Bit(x) => Taken {
-            next: Next::Bit(x),
+        Ok(x) => Taken {
+            next: Ok(x),
             at: at + 1,
         },
-        Next::NoMore(why) => Taken {
-            next: Next::NoMore(why),
-            at,
-        },
+        Err(why) => Taken { next: Err(why), at },
     }
 }
 
@@ -59,7 +56,7 @@ pub fn view<'a>(body: &'a [u8], declared: usize) -> BitView<'a>
 }
 
 // The bit that is next.
-pub fn next_bit<'a>(v: BitView<'a>) -> Next
+pub fn next_bit<'a>(v: BitView<'a>) -> Result<bool, Why>
     ensures { result ≡ viewed v.entry.body.now v.entry.at v.entry.declared }
 {
     bit_at(v.body, v.at, v.declared)
@@ -78,14 +75,14 @@ pub fn moved<'a>(v: BitView<'a>) -> BitView<'a>
 }
 
 // The bit with number `at` of a body of `declared` bits, read through a view that is made for it.
-pub fn read(body: &[u8], at: usize, declared: usize) -> Next
+pub fn read(body: &[u8], at: usize, declared: usize) -> Result<bool, Why>
     ensures { result ≡ viewed body.now at declared }
 {
     next_bit(BitView { body, at, declared })
 }
 
 // The bit that is next. The view is lent, and moved past it in place.
-pub fn take<'s, 'a>(v: &'s mut BitView<'a>) -> Next
+pub fn take<'s, 'a>(v: &'s mut BitView<'a>) -> Result<bool, Why>
     ensures { (result ≡ viewed v.old.body.now v.old.at v.old.declared) × (v.new ≡ past v.old) }
 {
     let t = take_at(v.body, v.at, v.declared);

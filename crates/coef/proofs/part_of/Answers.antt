@@ -3,8 +3,8 @@ use mathlib.Core.Bool.{Bool, true}
 use Prim.Native.Nat.{ℕ}
 use native.Mathlib.Omega.{arith}
 use mir.Facts.{to_z-of_z}
+use Rattle.std.specs.Prelude.{Some}
 use Rattle.coef.specs.Coef.{negative, magnitude, within}
-use Rattle.coef.specs.declared.Parted.TheVariants.{Is}
 use Rattle.coef.proofs.Held.{lt_zero}
 use Rattle.coef.proofs.Laws.{within_le}
 use Rattle.coef.proofs.part_of.Goals as goal
@@ -29,4 +29,4 @@ returns c =
     let e : m ≡ magnitude x = c.negated_if_below-size.ensures ∙ ap magnitude (to_z-of_z f) in
     let w : within x ≡ true = sym (told) ∙ c.if-not-is_within.false in
     rw w
-    (ap (λ (n : Bool). Is (record { negative = n; magnitude = m })) (lt_zero x f) ∙ ap (λ (k : ℕ). Is (record { negative = negative x; magnitude = k })) e)
+    (ap (λ (n : Bool). Some (record { negative = n; magnitude = m })) (lt_zero x f) ∙ ap (λ (k : ℕ). Some (record { negative = negative x; magnitude = k })) e)

@@ -1,14 +1,10 @@
 use mathlib.Core.Path.{◌≡◌}
 use mathlib.Core.List.{◌++◌}
-use Prim.Native.Nat.{◌*◌, ◌-◌, ◌^◌, ◌≤◌}
-use lib.ListN.{length, drop}
-use Rattle.sizes.specs.Sizes.{most_planes}
+use Prim.Native.Nat.{◌*◌, ◌^◌}
+use lib.ListN.{drop}
 use Rattle.figures.specs.Figures.{figures_below}
 use Rattle.figures.specs.Tables.{reach_of}
 use Rattle.figures.proofs.count_all.Given as goal
 
 abbrev pub invariant-loop-plane : goal.invariant-loop-plane
-invariant-loop-plane l = (l.plane ≤ most_planes) × (length l.out ≡ length l.initial.out) × (l.here ≡ reach_of (2 ^ l.plane) l.values l.desc l.grand) × (l.out ≡ figures_below l.n l.l l.values l.plane ++ drop (4 * l.plane) l.initial.out)
-
-abbrev pub decreases-loop-plane : goal.decreases-loop-plane
-decreases-loop-plane l = most_planes - l.plane
+invariant-loop-plane l = (l.here ≡ reach_of (2 ^ l.plane) l.values l.desc l.grand) × (l.out ≡ figures_below l.n l.l l.values l.plane ++ drop (4 * l.plane) l.initial.out)

@@ -1,66 +1,55 @@
-use mathlib.Core.Path.{◌≡◌, refl, sym}
+use mathlib.Core.Path.{◌≡◌, sym}
 use mathlib.Core.Bool.{true}
-use Prim.Native.Nat.{◌/◌}
+use Prim.Native.Nat.{◌≤◌, ◌/◌}
 use borrow.Author.Tests.{ltb-true}
 use lib.Dec.{ltb}
 use lib.ListN.{length}
 use lib.Seq.{length-take-le}
+use Rattle.std.specs.Prelude.{Ok}
 use Rattle.refusals.specs.Checks.{need, first_failing}
 use Rattle.refusals.specs.declared.Refusal.TheVariants.{Planes}
-use Rattle.refusals.specs.declared.Outcome.TheVariants.{Done}
 use Rattle.sizes.specs.Sizes.{most_planes}
 use Rattle.tree.specs.Summaries.{summary_checks}
 use Rattle.figures.proofs.Checks.{both_met, desc_is, grand_is, desc_room, grand_room, filled}
 use Rattle.figures.proofs.figures_of.Goals as goal
+use Rattle.figures.proofs.figures_of.Goals.{After-summaries}
+
+-- both checks hold
+met : (c : After-summaries) → (first_failing (summary_checks c.args.n c.args.l c.args.values.now (length c.args.desc.now) (length c.args.grand.now)) ≡ Ok tt) × (ltb c.args.plane most_planes ≡ true)
+met c = let a = c.args in
+    both_met (summary_checks a.n a.l a.values.now (length a.desc.now) (length a.grand.now)) (need (ltb a.plane most_planes) Planes) c.check_more.ensures c.in_ok-check_more.was
+
+-- there is room for both tables
+rooms : (c : After-summaries) → (length c.args.values.now / 4 ≤ length c.summaries.new.desc) × (length c.args.values.now / 16 ≤ length c.summaries.new.grand)
+rooms c = let a = c.args in
+    let e = c.summaries.ensures in
+    let m = (met c).0 in
+    (desc_room a.n a.l a.values.now a.desc.now a.grand.now m e.answer e.descs e.grands, grand_room a.n a.l a.values.now a.desc.now a.grand.now m e.answer e.descs e.grands)
 
 pub slice_bounds-count-end : goal.slice_bounds-count-end
-slice_bounds-count-end c =
-    let met : let a = c.args in (first_failing (summary_checks a.n a.l a.values.now (length a.desc.now) (length a.grand.now)) ≡ Done) × (ltb a.plane most_planes ≡ true) = let a = c.args in both_met (summary_checks a.n a.l a.values.now (length a.desc.now) (length a.grand.now)) (need (ltb a.plane most_planes) Planes) c.check_more-checked.ensures c.in-Done.is in
-    let a = c.args in
-    desc_room a.n a.l a.values.now a.desc.now a.grand.now
-    (met).0 c.summaries.ensures.answer c.summaries.ensures.descs c.summaries.ensures.grands
+slice_bounds-count-end c = (rooms (goal.at.slice_bounds-count-end c).After-summaries).0
 
-pub slice_bounds-count-end-in-Done : goal.slice_bounds-count-end-in-Done
-slice_bounds-count-end-in-Done c =
-    let met : let a = c.args in (first_failing (summary_checks a.n a.l a.values.now (length a.desc.now) (length a.grand.now)) ≡ Done) × (ltb a.plane most_planes ≡ true) = let a = c.args in both_met (summary_checks a.n a.l a.values.now (length a.desc.now) (length a.grand.now)) (need (ltb a.plane most_planes) Planes) c.check_more-checked.ensures c.in-Done.is in
-    let a = c.args in
-    sym
-    (length-take-le (length a.values.now / 4) c.summaries.new.desc
-    (desc_room a.n a.l a.values.now a.desc.now a.grand.now
-    (met).0 c.summaries.ensures.answer c.summaries.ensures.descs c.summaries.ensures.grands))
+pub slice_bounds-count-end-2 : goal.slice_bounds-count-end-2
+slice_bounds-count-end-2 c = sym (length-take-le (length c.args.values.now / 4) c.summaries.new.desc (rooms (goal.at.slice_bounds-count-end-2 c).After-summaries).0)
 
-pub slice_bounds-count-end-in-Done-2 : goal.slice_bounds-count-end-in-Done-2
-slice_bounds-count-end-in-Done-2 c =
-    let met : let a = c.args in (first_failing (summary_checks a.n a.l a.values.now (length a.desc.now) (length a.grand.now)) ≡ Done) × (ltb a.plane most_planes ≡ true) = let a = c.args in both_met (summary_checks a.n a.l a.values.now (length a.desc.now) (length a.grand.now)) (need (ltb a.plane most_planes) Planes) c.check_more-checked.ensures c.in-Done.is in
-    let a = c.args in
-    grand_room a.n a.l a.values.now a.desc.now a.grand.now
-    (met).0 c.summaries.ensures.answer c.summaries.ensures.descs c.summaries.ensures.grands
+pub slice_bounds-count-end-3 : goal.slice_bounds-count-end-3
+slice_bounds-count-end-3 c = (rooms (goal.at.slice_bounds-count-end-3 c).After-summaries).1
 
-pub slice_bounds-count-end-in-Done-3 : goal.slice_bounds-count-end-in-Done-3
-slice_bounds-count-end-in-Done-3 c =
-    let met : let a = c.args in (first_failing (summary_checks a.n a.l a.values.now (length a.desc.now) (length a.grand.now)) ≡ Done) × (ltb a.plane most_planes ≡ true) = let a = c.args in both_met (summary_checks a.n a.l a.values.now (length a.desc.now) (length a.grand.now)) (need (ltb a.plane most_planes) Planes) c.check_more-checked.ensures c.in-Done.is in
-    let a = c.args in
-    sym
-    (length-take-le (length a.values.now / 16) c.summaries.new.grand
-    (grand_room a.n a.l a.values.now a.desc.now a.grand.now
-    (met).0 c.summaries.ensures.answer c.summaries.ensures.descs c.summaries.ensures.grands))
+pub slice_bounds-count-end-4 : goal.slice_bounds-count-end-4
+slice_bounds-count-end-4 c = sym (length-take-le (length c.args.values.now / 16) c.summaries.new.grand (rooms (goal.at.slice_bounds-count-end-4 c).After-summaries).1)
 
-pub count-figures-requires : goal.count-figures-requires
-count-figures-requires c =
-    let met : let a = c.args in (first_failing (summary_checks a.n a.l a.values.now (length a.desc.now) (length a.grand.now)) ≡ Done) × (ltb a.plane most_planes ≡ true) = let a = c.args in both_met (summary_checks a.n a.l a.values.now (length a.desc.now) (length a.grand.now)) (need (ltb a.plane most_planes) Planes) c.check_more-checked.ensures c.in-Done.is in
-    let a = c.args in
-    (filled a.n a.l a.values.now a.desc.now a.grand.now (met).0 c.summaries.ensures.answer c.summaries.ensures.descs c.summaries.ensures.grands, ltb-true a.plane most_planes (met).1)
+pub count-requires : goal.count-requires
+count-requires c = let a = c.args in
+    let e = c.summaries.ensures in
+    let m = met (goal.at.count-requires c).After-summaries in
+    (filled a.n a.l a.values.now a.desc.now a.grand.now m.0 e.answer e.descs e.grands, ltb-true a.plane most_planes m.1)
 
-pub returns-in-Done : goal.returns-in-Done
-returns-in-Done c =
-    let met : let a = c.args in (first_failing (summary_checks a.n a.l a.values.now (length a.desc.now) (length a.grand.now)) ≡ Done) × (ltb a.plane most_planes ≡ true) = let a = c.args in both_met (summary_checks a.n a.l a.values.now (length a.desc.now) (length a.grand.now)) (need (ltb a.plane most_planes) Planes) c.check_more-checked.ensures c.in-Done.is in
-    let a = c.args in record {
-      answer = rw (← c.check_more-checked.ensures, c.in-Done.is, c.count-figures.ensures);
-      descs = desc_is a.n a.l a.values.now a.desc.now a.grand.now
-          (met).0 c.summaries.ensures.answer c.summaries.ensures.descs c.summaries.ensures.grands;
-      grands = grand_is a.n a.l a.values.now a.desc.now a.grand.now
-          (met).0 c.summaries.ensures.answer c.summaries.ensures.descs c.summaries.ensures.grands;
-    }
+pub returns-clause-descs : goal.returns-clause-descs
+returns-clause-descs c = let a = c.args in
+    let e = c.summaries.ensures in
+    desc_is a.n a.l a.values.now a.desc.now a.grand.now (met (goal.at.returns-clause-descs c).After-summaries).0 e.answer e.descs e.grands
 
-pub returns-in-Refused : goal.returns-in-Refused
-returns-in-Refused c = record { answer = rw (← c.check_more-checked.ensures, c.in-Refused.is); descs = refl; grands = refl }
+pub returns-clause-grands : goal.returns-clause-grands
+returns-clause-grands c = let a = c.args in
+    let e = c.summaries.ensures in
+    grand_is a.n a.l a.values.now a.desc.now a.grand.now (met (goal.at.returns-clause-grands c).After-summaries).0 e.answer e.descs e.grands

@@ -8,7 +8,7 @@ pub slice_bounds-fill-end : goal.slice_bounds-fill-end
 slice_bounds-fill-end c = omega arith
 
 pub slice_bounds-fill-end-2 : goal.slice_bounds-fill-end-2
-slice_bounds-fill-end-2 c = sym (length-take-le _ c.fill.new.dst (omega arith))
+slice_bounds-fill-end-2 c = sym (length-take-le _ c.fill.new.self (omega arith))
 
 pub loop-j-init : goal.loop-j-init
 loop-j-init c = (refl, omega arith, refl)
@@ -36,4 +36,4 @@ pub shape_of-marks : goal.shape_of-marks
 shape_of-marks c = omega arith
 
 pub returns : goal.returns
-returns c = start_done _ _ _ c.args.marks.now c.fill.new.dst c.fill-2.new.dst _ c.requires.4 c.requires.3 c.requires.0 c.fill.ensures c.fill-2.ensures c.loop-j.invariant.2 c.loop-j-test.false
+returns c = start_done _ _ _ c.args.marks.now c.fill.new.self c.fill-2.new.self _ c.requires.4 c.requires.3 c.requires.0 (c.fill.ensures.after (λ y e. e)) (c.fill-2.ensures.after (λ y e. e)) c.loop-j.invariant.2 c.loop-j-test.false

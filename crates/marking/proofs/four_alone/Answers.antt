@@ -1,12 +1,9 @@
 use native.Mathlib.Omega.{arith}
-use lib.ListN.{length-set}
+use Rattle.marking.proofs.Laws.{four_filled}
 use Rattle.marking.proofs.four_alone.Goals as goal
 
-pub bounds-marks-place-then-place-marks : goal.bounds-marks-place-then-place-marks
-bounds-marks-place-then-place-marks c = simp length-set (omega arith)
-
-pub bounds-marks-place-then-place-marks-2 : goal.bounds-marks-place-then-place-marks-2
-bounds-marks-place-then-place-marks-2 c = simp length-set (omega arith)
+pub returns-then-place-marks : goal.returns-then-place-marks
+returns-then-place-marks c = four_filled c.args.marks.now c.fill.new.self c.args.place _ 4 (omega arith) (omega arith) (c.fill.ensures.after (λ y e. e))
 
 pub returns : goal.returns
 returns c = cc

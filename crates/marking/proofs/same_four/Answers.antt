@@ -1,42 +1,22 @@
-use lib.ListN.{length}
-use Rattle.marking.proofs.Laws.{four_inside}
-use mathlib.Core.Path.{refl, sym, ◌∙◌}
+use mathlib.Core.Path.{◌≡◌, sym, ◌∙◌}
+use mathlib.Core.Bool.{true}
+use Prim.Native.Nat.{◌+◌, ◌-◌}
 use native.Mathlib.Omega.{arith}
-use borrow.Author.Tests.{eq-eqb, ne_eqb}
+use borrow.Author.Rules.{rules}
+use borrow.Author.Tests.{leb-true}
+use lib.Dec.{leb, eqb}
+use lib.ListN.{length, take, drop}
+use Rattle.std.specs.List.{list_all}
+use Rattle.std.proofs.lemmas.Iterator.{YieldsList-from_slice}
+use Rattle.std.proofs.lemmas.Iterator.Search.{all_from_yields_List}
+use Rattle.marking.proofs.Laws.{all_four}
 use Rattle.marking.proofs.same_four.Goals as goal
 
-pub returns-then-not-four_in : goal.returns-then-not-four_in
-returns-then-not-four_in c = rw (sym c.four_in.ensures ∙ c.if-not-four_in.true) refl
-
-pub bounds-marks-place : goal.bounds-marks-place
-bounds-marks-place c = let h = four_inside (length c.args.marks.now) c.args.place _ c.four_in.ensures c.if-not-four_in.false in omega (arith, h)
-
-pub returns-then-marks-place : goal.returns-then-marks-place
-returns-then-marks-place c = rw (sym c.four_in.ensures ∙ c.if-not-four_in.false, ne_eqb _ _ c.if-marks-place.true) refl
-
-pub overflow_add-place : goal.overflow_add-place
-overflow_add-place c = let h = four_inside (length c.args.marks.now) c.args.place _ c.four_in.ensures c.if-not-four_in.false in omega (arith, h)
-
-pub bounds-marks-place-2 : goal.bounds-marks-place-2
-bounds-marks-place-2 c = let h = four_inside (length c.args.marks.now) c.args.place _ c.four_in.ensures c.if-not-four_in.false in omega (arith, h)
-
-pub returns-then-marks-place-2 : goal.returns-then-marks-place-2
-returns-then-marks-place-2 c = rw (sym c.four_in.ensures ∙ c.if-not-four_in.false, eq-eqb _ _ c.if-marks-place.false, ne_eqb _ _ c.if-marks-place-2.true) refl
-
-pub overflow_add-place-2 : goal.overflow_add-place-2
-overflow_add-place-2 c = let h = four_inside (length c.args.marks.now) c.args.place _ c.four_in.ensures c.if-not-four_in.false in omega (arith, h)
-
-pub bounds-marks-place-3 : goal.bounds-marks-place-3
-bounds-marks-place-3 c = let h = four_inside (length c.args.marks.now) c.args.place _ c.four_in.ensures c.if-not-four_in.false in omega (arith, h)
-
-pub returns-then-marks-place-3 : goal.returns-then-marks-place-3
-returns-then-marks-place-3 c = rw (sym c.four_in.ensures ∙ c.if-not-four_in.false, eq-eqb _ _ c.if-marks-place.false, eq-eqb _ _ c.if-marks-place-2.false, ne_eqb _ _ c.if-marks-place-3.true) refl
-
-pub overflow_add-result : goal.overflow_add-result
-overflow_add-result c = let h = four_inside (length c.args.marks.now) c.args.place _ c.four_in.ensures c.if-not-four_in.false in omega (arith, h)
-
-pub bounds-marks-place-4 : goal.bounds-marks-place-4
-bounds-marks-place-4 c = let h = four_inside (length c.args.marks.now) c.args.place _ c.four_in.ensures c.if-not-four_in.false in omega (arith, h)
-
 pub returns : goal.returns
-returns c = rw (sym c.four_in.ensures ∙ c.if-not-four_in.false, eq-eqb _ _ c.if-marks-place.false, eq-eqb _ _ c.if-marks-place-2.false, eq-eqb _ _ c.if-marks-place-3.false) refl
+returns c =
+    let a = c.args in
+    let inside : leb (a.place + 4) (length a.marks.now) ≡ true = sym c.four_in.ensures ∙ c.if-not-four_in.false in
+    let all : c.all.result ≡ list_all (λ x. eqb x a.mark) (take (a.place + 4 - a.place) (drop a.place a.marks.now)) =
+    all_from_yields_List (λ x. eqb x a.mark) _ _ c.all.result c.all.ensures.ran (YieldsList-from_slice (take (a.place + 4 - a.place) (drop a.place a.marks.now)) (search rules)) (λ x b q k. search rules) in
+    rw inside
+    (all ∙ all_four a.marks.now a.place (a.place + 4 - a.place) a.mark (omega arith) (leb-true (a.place + 4) (length a.marks.now) inside))

@@ -1,11 +1,17 @@
+use native.Mathlib.Omega.{arith}
+use lib.ListN.{length}
 use Rattle.moves.proofs.Passes.{pass_0, pass_1, pass_2}
+use Rattle.moves.proofs.Looks.{rests_either}
 use Rattle.moves.proofs.look.Goals as goal
 
-pub returns-then-pass-eq0 : goal.returns-then-pass-eq0
-returns-then-pass-eq0 c = rw (pass_0 c.args.pass c.if-pass-eq0.true) c.look_pixels.ensures
+pub returns-then-from : goal.returns-then-from
+returns-then-from c = rests_either (length c.args.marks.now) c.args.from c.args.marks.now c.then-from.either
 
-pub returns-then-pass-eq1 : goal.returns-then-pass-eq1
-returns-then-pass-eq1 c = rw (pass_1 c.args.pass c.if-pass-eq1.true) c.look_sets.ensures
+pub returns-in-0 : goal.returns-in-0
+returns-in-0 c = rw (pass_0 c.args.from.pass c.in-0.is, c.if-from.false) c.look_pixels.ensures
 
-pub returns : goal.returns
-returns c = rw (pass_2 c.args.pass c.if-pass-eq0.false c.if-pass-eq1.false) c.look_refining.ensures
+pub returns-in-1 : goal.returns-in-1
+returns-in-1 c = rw (pass_1 c.args.from.pass c.in-1.is, c.if-from.false) c.look_sets.ensures
+
+pub returns-in_default : goal.returns-in_default
+returns-in_default c = rw (pass_2 c.args.from.pass (λ e. omega (arith, e)) (λ e. omega (arith, e)), c.if-from.false) c.look_refining.ensures

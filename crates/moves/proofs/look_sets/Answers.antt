@@ -1,20 +1,16 @@
-use Rattle.moves.proofs.Looks.{behind_set, sets_end, sets_over, sets_desc, sets_grand, sets_rests, sets_goes}
+use native.Mathlib.Omega.{arith}
+use lib.ListN.{length}
+use Rattle.moves.proofs.Looks.{behind_set, sets_end, sets_over, sets_rests, sets_goes}
 use Rattle.moves.proofs.look_sets.Goals as goal
 
-pub returns-then-all-place : goal.returns-then-all-place
-returns-then-all-place c = sets_end c.args.all c.args.place c.args.marks.now c.args.left c.requires.2 c.if-all-place.true
+pub returns-then-marks-from : goal.returns-then-marks-from
+returns-then-marks-from c = rw c.at.ensures (sets_end (length c.args.marks.now) c.args.from.place c.args.marks.now c.args.from.left c.requires.1 c.if-marks-from.true)
 
 pub returns-then-mark-lt-MCP : goal.returns-then-mark-lt-MCP
-returns-then-mark-lt-MCP c = sets_over c.args.all c.args.place c.args.marks.now c.args.left _ c.over_alone-next.ensures c.requires.2 c.if-all-place.false c.if-mark-lt-MCP.true
-
-pub returns-then-mark-eq-MD : goal.returns-then-mark-eq-MD
-returns-then-mark-eq-MD c = sets_desc c.args.all c.args.place c.args.marks.now c.args.left c.requires.2 c.if-all-place.false c.if-mark-eq-MD.true
-
-pub returns-then-mark-eq-MG : goal.returns-then-mark-eq-MG
-returns-then-mark-eq-MG c = sets_grand c.args.all c.args.place c.args.marks.now c.args.left c.requires.2 c.if-all-place.false c.if-mark-eq-MD.false c.if-mark-eq-MG.true
+returns-then-mark-lt-MCP c = rw c.at-then-mark-lt-MCP.ensures (sets_over (length c.args.marks.now) c.args.from.place c.args.marks.now c.args.from.left _ c.over_alone.ensures c.requires.1 c.if-marks-from.false c.if-mark-lt-MCP.true)
 
 pub returns-then-mark-eq-MCP : goal.returns-then-mark-eq-MCP
-returns-then-mark-eq-MCP c = sets_rests c.args.all c.args.place c.args.marks.now c.args.left c.requires.2 c.if-all-place.false c.if-mark-eq-MD.false c.if-mark-eq-MG.false c.if-mark-eq-MCP.true
+returns-then-mark-eq-MCP c = sets_rests (length c.args.marks.now) c.args.from.place c.args.marks.now c.args.from.left c.requires.1 c.if-marks-from.false c.if-mark-lt-MCP.false (omega (arith, c.then-mark-eq-MCP.either))
 
 pub returns : goal.returns
-returns c = sets_goes c.args.all c.args.place c.args.marks.now c.args.left _ (behind_set _ _ _ _ c.behind-next.ensures c.if-mark-lt-MCP.false c.if-mark-eq-MCP.false) c.requires.2 c.if-all-place.false c.if-mark-eq-MD.false c.if-mark-eq-MG.false c.if-mark-eq-MCP.false
+returns c = rw c.at-2.ensures (sets_goes (length c.args.marks.now) c.args.from.place c.args.marks.now c.args.from.left _ (behind_set _ _ _ _ c.behind.ensures c.if-mark-lt-MCP.false c.if-mark-eq-MCP.false) c.requires.1 c.if-marks-from.false c.if-mark-eq-MD.false c.if-mark-eq-MG.false c.if-mark-eq-MCP.false)

@@ -1,16 +1,17 @@
 use Prim.Native.Nat.{◌-◌}
+use lib.ListN.{length}
 use Rattle.nls.specs.Scan.{refining}
 use Rattle.moves.specs.Moves.{Passed}
 use Rattle.moves.proofs.over_new.Given as goal
 
 abbrev pub invariant-loop-marks : goal.invariant-loop-marks
-invariant-loop-marks l = Passed l.all refining l.initial.at l.initial.marks l.at l.marks
+invariant-loop-marks l = Passed (length l.fn.marks) refining l.fn.place l.fn.marks l.at l.marks
 
 abbrev pub decreases-loop-marks : goal.decreases-loop-marks
-decreases-loop-marks l = l.all - l.at
+decreases-loop-marks l = length l.marks - l.at
 
 abbrev pub invariant-loop-at : goal.invariant-loop-at
-invariant-loop-at l = Passed l.all refining l.initial.at l.initial.marks l.at l.marks
+invariant-loop-at l = Passed (length l.fn.marks) refining l.fn.place l.fn.marks l.at l.marks
 
 abbrev pub decreases-loop-at : goal.decreases-loop-at
-decreases-loop-at l = l.all - l.at
+decreases-loop-at l = length l.marks - l.at

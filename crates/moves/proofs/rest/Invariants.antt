@@ -1,10 +1,15 @@
-use Rattle.moves.proofs.Looks.{Leads}
-use Rattle.nls.specs.Scan.{state_at, settle, moves_left}
-use Rattle.moves.specs.Stands.{pass_of}
+use mathlib.Core.Path.{◌≡◌}
+use Prim.Native.Nat.{◌<◌}
+use lib.ListN.{length}
+use Rattle.nls.specs.Scan.{settle, moves_left}
+use Rattle.moves.specs.Stands.{state_of}
 use Rattle.moves.proofs.rest.Given as goal
 
-abbrev pub invariant-loop-left : goal.invariant-loop-left
-invariant-loop-left l = Leads l.all (settle l.all (state_at l.initial.left (pass_of l.initial.pass) l.initial.place l.initial.marks)) l.left l.pass l.place l.marks
+abbrev pub invariant-loop-next : goal.invariant-loop-next
+invariant-loop-next l = record {
+  same : settle (length l.marks) (state_of l.stand l.marks) ≡ settle (length l.initial.marks) (state_of l.initial.stand l.initial.marks);
+  known : l.stand.pass < 3;
+}
 
-abbrev pub decreases-loop-left : goal.decreases-loop-left
-decreases-loop-left l = moves_left l.all (state_at l.left (pass_of l.pass) l.place l.marks)
+abbrev pub decreases-loop-next : goal.decreases-loop-next
+decreases-loop-next l = moves_left (length l.marks) (state_of l.stand l.marks)

@@ -1,14 +1,13 @@
-use mathlib.Core.Path.{◌≡◌, refl, ◌∙◌, ap}
-use Prim.Native.Nat.{ℕ, ◌+◌, ◌*◌, ◌/◌, ◌^◌, ◌≤◌, ◌<◌}
+use mathlib.Core.Path.{◌≡◌, refl, ◌∙◌}
+use Prim.Native.Nat.{◌+◌, ◌^◌, ◌≤◌}
 use native.Mathlib.Nat.{pow-le-pow_right}
 use native.Mathlib.Omega.{arith}
-use lib.IntN.{ℤ, pos}
-use lib.ListN.{length, get_or}
+use lib.ListN.{length}
 use Rattle.sizes.specs.Tables.{table}
 use Rattle.sizes.proofs.Laws.{four_up}
-use Rattle.places.specs.Order.{to_raster, linearly}
+use Rattle.places.specs.Order.{linearly}
 use Rattle.places.proofs.Laws.{linearly_length, raster_below}
-use Rattle.places.proofs.Fours.{away, raster_four, fill_four}
+use Rattle.places.proofs.Fours.{raster_four, linear_more}
 use Rattle.places.proofs.fill_linear.Goals as goal
 
 pub side_of-side-requires : goal.side_of-side-requires
@@ -16,7 +15,7 @@ side_of-side-requires c = c.requires.1
 
 pub loop-q-init : goal.loop-q-init
 unfolding table
-loop-q-init c = (refl, omega arith, refl, refl)
+loop-q-init c = (refl, omega arith, refl)
 
 pub overflow_cast-q : goal.overflow_cast-q
 overflow_cast-q c = omega (arith, pow-le-pow_right {n = 4} (omega arith) {i = c.args.n} {j = 16} c.requires.1)
@@ -33,20 +32,23 @@ copy_four-requires c = let a = c.args in
 
 pub loop-q-preserved : goal.loop-q-preserved
 loop-q-preserved c = let a = c.args in
-    let p = c.requires in
     let l = c.loop-q in
-    let A = a.from.now in
-    let f : ℕ → ℤ = λ k. get_or A (to_raster a.n k) (pos 0) in
-    let at = c.separate-p.result.0 in
-    let side = c.side_of-side in
-    let room : l.q + 4 ≤ length A = omega (arith, four_up a.n (omega (arith, p.0))) in
-    let spot : (k : ℕ) → k < 4 → at + away side.result k ≡ to_raster a.n (l.q + k) =
-    λ k h. omega (arith, ap (λ (x : ℕ). k / 2 * x) side.ensures, raster_four a.n l.q k (omega (arith, p.0)) l.invariant.0 h, c.separate-p.ensures) in
-    (omega arith, room, omega (arith, c.to-1.given), c.copy_four.ensures ∙ fill_four l.q at side.result f A a.to.now l.to l.invariant.3 (omega arith) (λ k h. ap (λ (x : ℕ). get_or A x (pos 0)) (spot k h)))
+    let room : l.q + 4 ≤ length a.from.now = omega (arith, four_up a.n (omega (arith, c.requires.0))) in
+    (omega arith, room, c.copy_four.ensures ∙ linear_more a.n l.q c.separate-p.result.0 a.from.now a.to.now l.to l.invariant.0 (omega arith) c.side_of-side.result (omega (arith, c.requires.0)) c.side_of-side.ensures c.separate-p.ensures l.invariant.2)
 
 pub returns : goal.returns
 unfolding linearly
 returns c = let a = c.args in
     let l = c.loop-q in
     let e : l.q ≡ 4 ^ a.n = omega arith in
-    rw (linearly_length a.n a.from.now, ← e) l.invariant.3
+    rw (linearly_length a.n a.from.now, ← e) l.invariant.2
+
+-- after the last four
+pub returns-2 : goal.returns-2
+unfolding linearly
+returns-2 c = let a = c.args in
+    let l = c.loop-q in
+    let room : l.q + 4 ≤ length a.from.now = omega (arith, four_up a.n (omega (arith, c.requires.0))) in
+    let e : l.q + 4 ≡ 4 ^ a.n = omega arith in
+    rw (linearly_length a.n a.from.now, ← e)
+    (c.copy_four.ensures ∙ linear_more a.n l.q c.separate-p.result.0 a.from.now a.to.now l.to l.invariant.0 (omega arith) c.side_of-side.result (omega (arith, c.requires.0)) c.side_of-side.ensures c.separate-p.ensures l.invariant.2)

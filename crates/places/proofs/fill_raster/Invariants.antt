@@ -8,7 +8,7 @@ use Rattle.places.specs.Order.{to_linear}
 use Rattle.places.proofs.fill_raster.Given as goal
 
 abbrev pub invariant-loop-p : goal.invariant-loop-p
-invariant-loop-p l = (l.p % 4 ≡ 0) × (l.p ≤ length l.from) × (length l.to ≡ length l.initial.to) × (l.to ≡ table l.p (λ k. get_or l.from (to_linear l.n k) (pos 0)) ++ drop l.p l.initial.to)
+invariant-loop-p l = (l.p % 4 ≡ 0) × (l.p ≤ length l.from) × (l.to ≡ table l.p (λ k. get_or l.from (to_linear l.n k) (pos 0)) ++ drop l.p l.initial.to)
 
 abbrev pub decreases-loop-p : goal.decreases-loop-p
 decreases-loop-p l = length l.from - l.p

@@ -4,23 +4,23 @@ use Rattle.marking.proofs.Laws.{split_grand_so}
 use Rattle.reading.proofs.ReadLaws.{told_bit, told_none, tested_none, tested_one, tested_bad, tested_zero}
 use Rattle.reading.proofs.test_grand.Goals as goal
 
+pub returns-in_default : goal.returns-in_default
+returns-in_default c = tested_none _ _ _ _ _ _ _ _ _ _ _ _ _ tt (told_none c.args.body.now c.args.n c.args.frame.usable c.read.ensures c.requires.5 c.in_default.is) (omega arith)
+
 pub overflow_add-result : goal.overflow_add-result
-overflow_add-result c = omega (arith, (told_bit c.args.body.now c.args.n c.args.usable c.read.ensures _ c.in-Bit.is).0, c.ranges.usable.fits)
+overflow_add-result c = omega (arith, (told_bit c.args.body.now c.args.n c.args.frame.usable c.read.ensures _ c.in-Ok.is).0)
 
 pub returns-then-x : goal.returns-then-x
-returns-then-x c = let b = told_bit c.args.body.now c.args.n c.args.usable c.read.ensures _ c.in-Bit.is in
+returns-then-x c = let b = told_bit c.args.body.now c.args.n c.args.frame.usable c.read.ensures _ c.in-Ok.is in
     tested_one _ _ _ _ _ _ _ _ _ _ _ _ _ tt _ b.1 b.0 _ c.if-x.true (split_grand_so _ _ c.args.marks.now _ c.split_grand.ensures c.requires.1 c.requires.2 c.requires.0)
 
 pub returns-then-grand_clash : goal.returns-then-grand_clash
-returns-then-grand_clash c = let b = told_bit c.args.body.now c.args.n c.args.usable c.read.ensures _ c.in-Bit.is in
+returns-then-grand_clash c = let b = told_bit c.args.body.now c.args.n c.args.frame.usable c.read.ensures _ c.in-Ok.is in
     tested_bad _ _ _ _ _ _ _ _ _ _ _ _ _ tt _ b.1 b.0 c.if-x.false _ c.grand_clash.ensures c.if-grand_clash.true
 
-pub overflow_add-result-in-Bit : goal.overflow_add-result-in-Bit
-overflow_add-result-in-Bit c = omega (arith, (told_bit c.args.body.now c.args.n c.args.usable c.read.ensures _ c.in-Bit.is).0, c.ranges.usable.fits)
+pub overflow_add-result-2 : goal.overflow_add-result-2
+overflow_add-result-2 c = omega (arith, (told_bit c.args.body.now c.args.n c.args.frame.usable c.read.ensures _ c.in-Ok.is).0)
 
-pub returns-else-grand_clash : goal.returns-else-grand_clash
-returns-else-grand_clash c = let b = told_bit c.args.body.now c.args.n c.args.usable c.read.ensures _ c.in-Bit.is in
+pub returns : goal.returns
+returns c = let b = told_bit c.args.body.now c.args.n c.args.frame.usable c.read.ensures _ c.in-Ok.is in
     tested_zero _ _ _ _ _ _ _ _ _ _ _ _ _ tt _ b.1 b.0 (lit≤ tt) c.if-x.false _ c.grand_clash.ensures c.if-grand_clash.false
-
-pub returns-in-NoMore : goal.returns-in-NoMore
-returns-in-NoMore c = tested_none _ _ _ _ _ _ _ _ _ _ _ _ _ tt (told_none c.args.body.now c.args.n c.args.usable c.read.ensures c.requires.5 c.in-NoMore.is) (omega arith)

@@ -1,11 +1,12 @@
+use native.Mathlib.Omega.{arith}
 use Rattle.reading.proofs.ReadLaws.{visited_pixels, visited_sets, visited_refining}
 use Rattle.reading.proofs.visit.Goals as goal
 
-pub returns-then-pass-eq0 : goal.returns-then-pass-eq0
-returns-then-pass-eq0 c = visited_pixels _ _ _ _ _ _ _ _ _ _ _ _ _ _ c.if-pass-eq0.true c.pixel.ensures
+pub returns-in-0 : goal.returns-in-0
+returns-in-0 c = visited_pixels _ _ _ _ _ _ _ _ _ _ _ _ _ _ c.in-0.is c.pixel.ensures
 
-pub returns-then-pass-eq1 : goal.returns-then-pass-eq1
-returns-then-pass-eq1 c = visited_sets _ _ _ _ _ _ _ _ _ _ _ _ _ _ c.if-pass-eq0.false c.if-pass-eq1.true c.sets.ensures
+pub returns-in-1 : goal.returns-in-1
+returns-in-1 c = visited_sets _ _ _ _ _ _ _ _ _ _ _ _ _ _ (λ z. omega (arith, z, c.in-1.is)) c.in-1.is c.sets.ensures
 
-pub returns : goal.returns
-returns c = visited_refining _ _ _ _ _ _ _ _ _ _ _ _ _ _ c.if-pass-eq0.false c.if-pass-eq1.false c.refine.ensures
+pub returns-in_default : goal.returns-in_default
+returns-in_default c = visited_refining _ _ _ _ _ _ _ _ _ _ _ _ _ _ (λ z. omega (arith, z)) (λ z. omega (arith, z)) c.refine.ensures

@@ -20,7 +20,7 @@ worst_of-requires c = c.requires
 pub returns-then-not-has_room : goal.returns-then-not-has_room
 returns-then-not-has_room c =
     let all_so : c.all_of.result ≡ all_of c.args.n = c.all_of.ensures ∙ rw c.requires.0 in
-    let room_so : let a = c.args in c.has_room.result ≡ leb (a.offset + bytes_for (min a.budget (worst_body a.n a.l a.p))) a.out = let a = c.args in c.has_room.ensures ∙ ap (λ (x : ℕ). leb (a.offset + bytes_for x) a.out) (c.smaller.ensures ∙ ap (λ (x : ℕ). min a.budget x) c.worst_of.ensures) in
+    let room_so : let a = c.args in c.has_room.result ≡ leb (a.offset + bytes_for (min a.budget (worst_body a.n a.l a.p))) a.out = let a = c.args in c.has_room.ensures ∙ ap (λ (x : ℕ). leb (a.offset + bytes_for x) a.out) (c.min.ensures ∙ ap (λ (x : ℕ). min a.budget x) c.worst_of.ensures) in
     let a = c.args in
     no_output a.n a.l a.p a.marks a.out a.offset a.budget (omega (arith, c.if-marks-all_of.false, all_so))
     (sym (room_so) ∙ c.if-not-has_room.true)
@@ -28,7 +28,7 @@ returns-then-not-has_room c =
 pub returns : goal.returns
 returns c =
     let all_so : c.all_of.result ≡ all_of c.args.n = c.all_of.ensures ∙ rw c.requires.0 in
-    let room_so : let a = c.args in c.has_room.result ≡ leb (a.offset + bytes_for (min a.budget (worst_body a.n a.l a.p))) a.out = let a = c.args in c.has_room.ensures ∙ ap (λ (x : ℕ). leb (a.offset + bytes_for x) a.out) (c.smaller.ensures ∙ ap (λ (x : ℕ). min a.budget x) c.worst_of.ensures) in
+    let room_so : let a = c.args in c.has_room.result ≡ leb (a.offset + bytes_for (min a.budget (worst_body a.n a.l a.p))) a.out = let a = c.args in c.has_room.ensures ∙ ap (λ (x : ℕ). leb (a.offset + bytes_for x) a.out) (c.min.ensures ∙ ap (λ (x : ℕ). min a.budget x) c.worst_of.ensures) in
     let a = c.args in
     room_well a.n a.l a.p a.marks a.out a.offset a.budget (omega (arith, c.if-marks-all_of.false, all_so))
     (sym (room_so) ∙ c.if-not-has_room.false)

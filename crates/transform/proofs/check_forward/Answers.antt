@@ -2,37 +2,37 @@ use mathlib.Core.Path.{sym, ap, ◌∙◌}
 use Prim.Native.Nat.{ℕ}
 use native.Mathlib.Omega.{arith}
 use lib.ListN.{length}
+use Rattle.std.specs.Prelude.{Err}
 use Rattle.refusals.specs.declared.Refusal.TheVariants.{Sample}
-use Rattle.refusals.specs.declared.Outcome.TheVariants.{Refused}
-use Rattle.refusals.proofs.Laws.{refused_first}
+use Rattle.refusals.proofs.Laws.{passed_on}
 use Rattle.sizes.specs.Checks.{size_checks}
 use Rattle.sizes.proofs.Checks.{sizes_met}
 use Rattle.sizes.proofs.Laws.{side_most, all_most}
 use Rattle.transform.proofs.Checks.{no_room, no_sample, transform_well}
 use Rattle.transform.proofs.check_forward.Goals as goal
 
-pub returns-in-Refused : goal.returns-in-Refused
-returns-in-Refused c = let a = c.args in
-    refused_first (size_checks a.n a.l (length a.samples.now)) _ c.check_sizes-sized.ensures _ c.in-Refused.is
+pub returns-in_err-check_sizes : goal.returns-in_err-check_sizes
+returns-in_err-check_sizes c = let a = c.args in
+    passed_on (size_checks a.n a.l (length a.samples.now)) _ c.check_sizes.ensures c.from_residual.ensures.1 c.in_err-check_sizes.was
 
 pub returns-then-not-has_room : goal.returns-then-not-has_room
 returns-then-not-has_room c = let a = c.args in
     let k = c.has_room in
-    no_room a.n a.l a.samples.now a.out a.work c.check_sizes-sized.ensures c.in_default.is (sym k.ensures ∙ c.if-not-has_room.true)
+    no_room a.n a.l a.samples.now a.out a.work c.check_sizes.ensures c.in_ok-check_sizes.was (sym k.ensures ∙ c.if-not-has_room.true)
 
 pub overflow_cast-result : goal.overflow_cast-result
 overflow_cast-result c = let a = c.args in
-    let m = sizes_met a.n a.l (length a.samples.now) c.check_sizes-sized.ensures c.in_default.is in
+    let m = sizes_met a.n a.l (length a.samples.now) c.check_sizes.ensures c.in_ok-check_sizes.was in
     record { fits = omega (arith, all_most a.n (side_most a.n m.0), m.2, c.if-outside-samples.true) }
 
 pub returns-then-outside-samples : goal.returns-then-outside-samples
 returns-then-outside-samples c = let a = c.args in
     let k = c.has_room in
     let o = c.first_outside-outside.ensures in
-    ap (λ (x : ℕ). Refused (Sample x)) o
-    ∙ no_sample a.n a.l a.samples.now a.out a.work c.check_sizes-sized.ensures c.in_default.is (sym k.ensures ∙ c.if-not-has_room.false) (omega (arith, o, c.if-outside-samples.true))
+    ap (λ (x : ℕ). Err (Sample x)) o
+    ∙ no_sample a.n a.l a.samples.now a.out a.work c.check_sizes.ensures c.in_ok-check_sizes.was (sym k.ensures ∙ c.if-not-has_room.false) (omega (arith, o, c.if-outside-samples.true))
 
 pub returns : goal.returns
 returns c = let a = c.args in
     let k = c.has_room in
-    transform_well a.n a.l a.samples.now a.out a.work c.check_sizes-sized.ensures c.in_default.is (sym k.ensures ∙ c.if-not-has_room.false) (omega (arith, c.first_outside-outside.ensures, c.if-outside-samples.false))
+    transform_well a.n a.l a.samples.now a.out a.work c.check_sizes.ensures c.in_ok-check_sizes.was (sym k.ensures ∙ c.if-not-has_room.false) (omega (arith, c.first_outside-outside.ensures, c.if-outside-samples.false))

@@ -1,24 +1,23 @@
-use mathlib.Core.Path.{◌≡◌, ◌∙◌, sym}
-use mathlib.Core.Bool.{true, false}
-use native.Mathlib.Omega.{arith}
-use native.Mathlib.Numerals.{add-one}
-use Rattle.transform.specs.Answers.{is_sample}
-use Rattle.coef.specs.Coef.{at}
-use Rattle.transform.proofs.Outside.{outside_stop, outside_step, outside_end}
-use Rattle.coef.proofs.Held.{read_back}
+use Rattle.std.proofs.Common.{rules, ◌≡◌, refl, ℕ, suc, ◌+◌, Bool, true, false, not, cond, length, List, ℤ, arith}
+use Rattle.std.specs.List.{position_or_len}
+use Rattle.std.proofs.lemmas.Iterator.{YieldsList-from_slice}
+use Rattle.std.proofs.lemmas.Iterator.Search.{position_from_yields_List}
+use Rattle.std.proofs.lemmas.List.Recursion.{is_position_or_len}
+use Rattle.coef.proofs.Laws.{place_or_length}
+use Rattle.transform.specs.Answers.{is_sample, first_outside}
+use Rattle.transform.proofs.Outside.{outside_le}
 use Rattle.transform.proofs.first_outside.Goals as goal
 
-pub returns-then-not-is_sample : goal.returns-then-not-is_sample
-returns-then-not-is_sample c = let a = c.args.a.now in
-    let i = c.loop-i.i in
-    let w : is_sample (at a i) ≡ false = rw (read_back (at a i) c.x-1.given) at (sym c.is_sample.ensures ∙ c.if-not-is_sample.true) in
-    omega (arith, outside_stop a i c.loop-i-test.true w)
-
-pub loop-i-preserved : goal.loop-i-preserved
-loop-i-preserved c = let a = c.args.a.now in
-    let i = c.loop-i.i in
-    let w : is_sample (at a i) ≡ true = rw (read_back (at a i) c.x-1.given) at (sym c.is_sample.ensures ∙ c.if-not-is_sample.false) in
-    rw add-one (omega (arith, outside_step a i c.loop-i-test.true w))
+-- the first place outside, as `position` counts
+placed : (A : List ℤ) → first_outside A ≡ position_or_len (λ z. not (is_sample z)) A
+unfolding first_outside
+placed A = is_position_or_len first_outside (λ z. not (is_sample z)) refl (λ z rest. tell (is_sample z) (first_outside rest)) A
+  where
+    tell : (t : Bool) (n : ℕ) → cond t (suc n) 0 ≡ cond (not t) 0 (1 + n)
+    tell true n = omega arith
+    tell false n = refl
 
 pub returns : goal.returns
-returns c = omega (arith, outside_end c.args.a.now c.loop-i.i c.loop-i-test.false)
+returns c = let a = c.args.a.now in
+    let found = position_from_yields_List (λ z. not (is_sample z)) _ _ c.position.result c.position.ensures.ran (YieldsList-from_slice a cc) (λ x b q k. search rules) in
+    rw (c.unwrap_or.ensures, found, ← (placed a)) (place_or_length (first_outside a) (length a) (outside_le a))

@@ -1,9 +1,7 @@
-use Rattle.transform.proofs.Outside.{too_low, not_too_low}
-use mathlib.Core.Path.{sym}
+use Rattle.std.proofs.Common.{rules}
+use Rattle.transform.specs.Answers.{is_sample}
 use Rattle.transform.proofs.is_sample.Goals as goal
 
-pub returns-then-x-lt-LEAST_SAMPLE : goal.returns-then-x-lt-LEAST_SAMPLE
-returns-then-x-lt-LEAST_SAMPLE c = sym (too_low c.args.x c.ranges.x c.if-x-lt-LEAST_SAMPLE.true)
-
 pub returns : goal.returns
-returns c = not_too_low c.args.x c.ranges.x c.if-x-lt-LEAST_SAMPLE.false
+unfolding is_sample
+returns c = search rules

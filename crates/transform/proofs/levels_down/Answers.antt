@@ -5,13 +5,17 @@ use lib.Dec.{ltb}
 use Prim.Native.Nat.{ℕ, suc, ◌-◌, ◌/◌, ◌^◌, ◌≤◌, ◌<◌}
 use native.Mathlib.Omega.{arith}
 use native.Mathlib.Numerals.{add-one}
+use mathlib.Core.List.{◌++◌}
+use borrow.Author.Rules.{rules}
+use lib.ListN.{drop}
+use lib.Seq.{length-take-le}
 use lib.IntN.{ℤ}
 use lib.Signed.{mag}
 use Rattle.sizes.specs.Sizes.{all_of}
 use Rattle.sizes.proofs.Laws.{sized}
 use Rattle.coef.specs.Coef.{at}
 use Rattle.transform.specs.Quads.{onward, downs}
-use Rattle.transform.proofs.Arrays.{onward_near, onward_far, tabled}
+use Rattle.transform.proofs.Arrays.{onward_near, onward_far, copied, tabled}
 use Rattle.transform.proofs.Range.{level_up, downs_mag}
 use Rattle.transform.proofs.Runs.{Down, down_start, down_next, level_most}
 use Rattle.transform.proofs.levels_down.Goals as goal
@@ -23,46 +27,48 @@ parts n X Y Z i f g = tell (ltb i n) refl
     tell true e = onward_near n X Y i (ltb-true i n e) ∙ f (ltb-true i n e)
     tell false e = onward_far n X Y i (ltb-false i n e) ∙ g (ltb-false i n e)
 
-pub loop-j-init : goal.loop-j-init
-loop-j-init c = let a = c.args in
+pub loop-init : goal.loop-init
+loop-init c = let a = c.args in
     let e : c.all_of-quarter.result ≡ 4 ^ a.n = c.all_of-quarter.ensures ∙ rw c.requires.0 in
-    (omega arith, e ∙ ap (λ (x : ℕ). 4 ^ x) {x = a.n} {y = a.n - 0} (omega arith), refl, refl, down_start a.n (at a.work.now) (at a.out.now))
+    (e ∙ ap (λ (x : ℕ). 4 ^ x) {x = a.n} {y = a.n - 0} (omega arith), down_start a.n (at a.work.now) (at a.out.now))
 
 pub level_down-requires : goal.level_down-requires
 level_down-requires c = let a = c.args in
-    let l = c.loop-j in
+    let l = c.loop in
     let p = c.requires in
     let z = sized a.n a.l p.1 in
-    let u = level_up a.n l.j (omega (arith, z.most)) in
-    let m = level_most a.n l.j in
-    (omega (arith, u, m), omega (arith, u, m), λ i h. subst (λ (x : ℤ). mag x ≤ 32767) (sym (l.invariant.4.coarse i (omega (arith, u)))) (downs_mag a.n (at a.work.now) (λ k b. p.4 k) l.j (omega (arith, z.most)) i (omega (arith, u))))
+    let u = level_up a.n l.counter (omega (arith, z.most)) in
+    let m = level_most a.n l.counter in
+    (omega (arith, u, m), omega (arith, u, m), λ i h. subst (λ (x : ℤ). mag x ≤ 32767) (sym (l.invariant.1.coarse i (omega (arith, u)))) (downs_mag a.n (at a.work.now) (λ k b. p.4 k) l.counter (omega (arith, z.most)) i (omega (arith, u))))
 
-pub loop-j-smaller : goal.loop-j-smaller
-loop-j-smaller c = omega arith
-
-pub loop-j-preserved : goal.loop-j-preserved
-loop-j-preserved c = let a = c.args in
-    let l = c.loop-j in
+pub loop-preserved : goal.loop-preserved
+loop-preserved c = let a = c.args in
+    let l = c.loop in
     let p = c.requires in
     let z = sized a.n a.l p.1 in
-    let u = level_up a.n l.j (omega (arith, z.most)) in
-    let q : l.quarter / 4 ≡ 4 ^ (a.n - suc l.j) = omega (arith, u) in
-    (omega arith, rw (add-one l.j) q, omega arith, omega arith, rw (add-one l.j) (down_next a.n l.j (l.quarter / 4) (omega (arith, z.most)) q (at a.work.now) (at l.work) (at l.out) (at c.level_down.new.work) (at c.level_down.new.out) l.invariant.4 c.level_down.ensures.coarse c.level_down.ensures.fine))
+    let u = level_up a.n l.counter (omega (arith, z.most)) in
+    let q : l.quarter / 4 ≡ 4 ^ (a.n - suc l.counter) = omega (arith, u) in
+    (rw (add-one l.counter) q, rw (add-one l.counter) (down_next a.n l.counter (l.quarter / 4) (omega (arith, z.most)) q (at a.work.now) (at l.work) (at l.out) (at c.level_down.new.work) (at c.level_down.new.out) l.invariant.1 c.level_down.ensures.coarse c.level_down.ensures.fine))
 
-pub copy_head-requires : goal.copy_head-requires
-copy_head-requires c = let a = c.args in
-    let l = c.loop-j in
-    (omega (arith, level_most a.n l.j), omega (arith, level_most a.n l.j))
+pub slice_bounds-copy_from_slice-end : goal.slice_bounds-copy_from_slice-end
+slice_bounds-copy_from_slice-end c = omega (arith, level_most c.args.n c.loop.counter)
 
-pub shape_of-work : goal.shape_of-work
-shape_of-work c = omega arith
+pub slice_bounds-copy_from_slice-end-2 : goal.slice_bounds-copy_from_slice-end-2
+slice_bounds-copy_from_slice-end-2 c = sym (length-take-le c.loop.quarter c.loop.out (omega (arith, level_most c.args.n c.loop.counter)))
+
+pub slice_bounds-copy_from_slice-end-3 : goal.slice_bounds-copy_from_slice-end-3
+slice_bounds-copy_from_slice-end-3 c = omega (arith, level_most c.args.n c.loop.counter)
+
+pub slice_bounds-copy_from_slice-end-4 : goal.slice_bounds-copy_from_slice-end-4
+slice_bounds-copy_from_slice-end-4 c = sym (length-take-le c.loop.quarter c.loop.work (omega (arith, level_most c.args.n c.loop.counter)))
 
 pub returns : goal.returns
 returns c = let a = c.args in
-    let l = c.loop-j in
-    let e : l.j ≡ a.l = omega arith in
-    let o = c.copy_head.new.to in
+    let l = c.loop in
+    let e : l.counter ≡ a.l = omega arith in
+    let o = c.copy_from_slice.new.self ++ drop l.quarter l.out in
+    let w = copied l.quarter c.copy_from_slice.new.self l.work l.out (omega (arith, level_most a.n l.counter)) (search rules) in
     let X = downs a.n a.l (at a.work.now) in
-    let d = subst (λ (j : ℕ). Down a.n j (at a.work.now) (at l.work) (at l.out)) e l.invariant.4 in
-    let q : l.quarter ≡ 4 ^ (a.n - a.l) = l.invariant.1 ∙ ap (λ (j : ℕ). 4 ^ (a.n - j)) e in
-    tabled o (all_of a.n) X (omega arith) (λ i h. ap (λ (A : ℕ → ℤ). A i) c.copy_head.ensures ∙ parts l.quarter (at l.work) (at l.out) X i (λ k. d.coarse i (omega arith)) (λ k. d.fine i (omega arith) h))
+    let d = subst (λ (j : ℕ). Down a.n j (at a.work.now) (at l.work) (at l.out)) e l.invariant.1 in
+    let q : l.quarter ≡ 4 ^ (a.n - a.l) = l.invariant.0 ∙ ap (λ (j : ℕ). 4 ^ (a.n - j)) e in
+    tabled o (all_of a.n) X (omega arith) (λ i h. ap (λ (A : ℕ → ℤ). A i) w ∙ parts l.quarter (at l.work) (at l.out) X i (λ k. d.coarse i (omega arith)) (λ k. d.fine i (omega arith) h))

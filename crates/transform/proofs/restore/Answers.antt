@@ -24,7 +24,7 @@ returns-then-first_outside-out c =
     let X = samples_of a.n a.l a.coefs.now in
     let o = restored in
     let f : first_outside X ≡ length X = subst (λ (l : List ℤ). first_outside l ≡ length l) o (sym c.first_outside.ensures ∙ c.if-first_outside-out.true) in
-    record { answer = restored_well X f; result = o ∙ sym (restored_all a.n a.l a.coefs.now f); cleared = zeros_of a.n (length c.levels_up.new.work) c.clear.new.dst (omega arith) c.clear.ensures }
+    record { answer = restored_well X f; result = o ∙ sym (restored_all a.n a.l a.coefs.now f); cleared = zeros_of a.n (length c.levels_up.new.work) c.fill.new.self (omega arith) (c.fill.ensures.after (λ y e. e)) }
 
 pub returns : goal.returns
 returns c =
@@ -33,5 +33,5 @@ returns c =
     let X = samples_of a.n a.l a.coefs.now in
     let o = restored in
     let f : first_outside X ≡ length X → ⊥ = subst (λ (l : List ℤ). first_outside l ≡ length l → ⊥) o (λ e. c.if-first_outside-out.false (c.first_outside.ensures ∙ e)) in
-    let z = zeros_of a.n (length c.reorder_to_raster.new.to) c.clear-2.new.dst (omega arith) c.clear-2.ensures in
-    record { answer = no_restored X f; result = z ∙ sym (restored_none a.n a.l a.coefs.now f); cleared = zeros_of a.n (length c.levels_up.new.work) c.clear.new.dst (omega arith) c.clear.ensures }
+    let z = zeros_of a.n (length c.reorder_to_raster.new.to) c.fill-2.new.self (omega arith) (c.fill-2.ensures.after (λ y e. e)) in
+    record { answer = no_restored X f; result = z ∙ sym (restored_none a.n a.l a.coefs.now f); cleared = zeros_of a.n (length c.levels_up.new.work) c.fill.new.self (omega arith) (c.fill.ensures.after (λ y e. e)) }

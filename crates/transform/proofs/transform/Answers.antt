@@ -26,5 +26,5 @@ returns c =
     let a = c.args in
     let p = c.requires in
     let w = filled in
-    let z = c.clear.ensures in
-    record { result = coefficients_from a.n a.l a.samples.now c.reorder_to_linear.new.to c.levels_down.new.out p.1 w c.levels_down.ensures; cleared = zeros_of a.n (length c.levels_down.new.work) c.clear.new.dst (omega arith) z }
+    let z = (c.fill.ensures.after (λ y e. e)) in
+    record { result = coefficients_from a.n a.l a.samples.now c.reorder_to_linear.new.to c.levels_down.new.out p.1 w c.levels_down.ensures; cleared = zeros_of a.n (length c.levels_down.new.work) c.fill.new.self (omega arith) z }

@@ -2,9 +2,9 @@ use mathlib.Core.Path.{ap, ◌∙◌}
 use Prim.Native.Nat.{ℕ}
 use native.Mathlib.Omega.{arith}
 use lib.ListN.{length}
+use Rattle.std.specs.Prelude.{Err}
 use Rattle.refusals.specs.declared.Refusal.TheVariants.{Coefficient}
-use Rattle.refusals.specs.declared.Outcome.TheVariants.{Refused}
-use Rattle.refusals.proofs.Laws.{refused_first}
+use Rattle.refusals.proofs.Laws.{passed_on}
 use Rattle.sizes.proofs.Laws.{side_most, all_most}
 use Rattle.sizes.specs.Checks.{size_checks}
 use Rattle.sizes.proofs.Checks.{sizes_met}
@@ -13,20 +13,20 @@ use Rattle.coef.proofs.Laws.{over_by_le}
 use Rattle.tree.proofs.Checks.{no_coefficient, within_limit}
 use Rattle.tree.proofs.check_by.Goals as goal
 
-pub returns-in-Refused : goal.returns-in-Refused
-returns-in-Refused c = let a = c.args in
-    refused_first (size_checks a.n a.l (length a.coefs.now)) _ c.check_sizes-sized.ensures _ c.in-Refused.is
+pub returns-in_err-check_sizes : goal.returns-in_err-check_sizes
+returns-in_err-check_sizes c = let a = c.args in
+    passed_on (size_checks a.n a.l (length a.coefs.now)) _ c.check_sizes.ensures c.from_residual.ensures.1 c.in_err-check_sizes.was
 
 pub overflow_cast-result : goal.overflow_cast-result
 overflow_cast-result c = let a = c.args in
-    let m = sizes_met a.n a.l (length a.coefs.now) c.check_sizes-sized.ensures c.in_default.is in
+    let m = sizes_met a.n a.l (length a.coefs.now) c.check_sizes.ensures c.in_ok-check_sizes.was in
     record { fits = omega (arith, all_most a.n (side_most a.n m.0), m.2, c.if-over-coefs.true) }
 
 pub returns-then-over-coefs : goal.returns-then-over-coefs
 returns-then-over-coefs c = let a = c.args in
-    ap (λ (x : ℕ). Refused (Coefficient x)) c.first_over_by-over.ensures
-    ∙ no_coefficient a.n a.l (over_by a.planes a.coefs.now) (length a.coefs.now) a.descs a.grands c.check_sizes-sized.ensures c.in_default.is (omega (arith, c.first_over_by-over.ensures, c.if-over-coefs.true))
+    ap (λ (x : ℕ). Err (Coefficient x)) c.first_over_by-over.ensures
+    ∙ no_coefficient a.n a.l (over_by a.planes a.coefs.now) (length a.coefs.now) a.descs a.grands c.check_sizes.ensures c.in_ok-check_sizes.was (omega (arith, c.first_over_by-over.ensures, c.if-over-coefs.true))
 
 pub returns : goal.returns
 returns c = let a = c.args in
-    within_limit a.n a.l (over_by a.planes a.coefs.now) (length a.coefs.now) a.descs a.grands c.check_sizes-sized.ensures c.in_default.is (omega (arith, over_by_le a.planes a.coefs.now, c.first_over_by-over.ensures, c.if-over-coefs.false)) c.check_lent.ensures
+    within_limit a.n a.l (over_by a.planes a.coefs.now) (length a.coefs.now) a.descs a.grands c.check_sizes.ensures c.in_ok-check_sizes.was (omega (arith, over_by_le a.planes a.coefs.now, c.first_over_by-over.ensures, c.if-over-coefs.false)) c.check_lent.ensures

@@ -1,6 +1,9 @@
-use lib.ListN.{get_or}
-use Rattle.tree.proofs.Filling.{or_four}
+use Rattle.std.proofs.Common.{rules, ◌≡◌, ◌∙◌, ◌+◌, ◌*◌, bit_or, slice_range}
+use Rattle.std.specs.List.{fold}
+use Rattle.tree.proofs.Filling.{or_part}
 use Rattle.tree.proofs.entries_or.Goals as goal
 
 pub returns : goal.returns
-returns c = or_four (λ j. get_or c.args.held.now j 0) c.args.i
+returns c = let a = c.args in
+    let e : c.fold.result ≡ fold (λ m z. bit_or m z) 0 (slice_range a.held.now (4 * a.i) (4 * a.i + 4)) = search rules in
+    e ∙ or_part (λ z. z) 0 a.held.now a.i c.requires

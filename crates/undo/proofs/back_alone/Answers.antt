@@ -9,7 +9,7 @@ pub loop-at-init : goal.loop-at-init
 loop-at-init c = (omega arith, c.requires.1, c.requires.2, λ P l big h. hushed_none _ _ P big l sets _ _)
 
 pub old_four-requires : goal.old_four-requires
-old_four-requires c = (omega arith, omega arith, omega arith)
+old_four-requires c = (omega arith, omega arith)
 
 pub returns-then-not-old_four : goal.returns-then-not-old_four
 returns-then-not-old_four c = c.loop-at.invariant.3

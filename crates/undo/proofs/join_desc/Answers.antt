@@ -1,7 +1,8 @@
 use mathlib.Core.Path.{refl}
 use native.Mathlib.Omega.{arith}
 use borrow.Author.Tests.{lt-ltb, le-ltb}
-use lib.ListN.{length-set}
+use Prim.Native.Nat.{◌*◌}
+use lib.ListN.{length, length-set}
 use Rattle.undo.proofs.join_desc.Goals as goal
 
 pub bounds-marks-place-2 : goal.bounds-marks-place-2
@@ -10,11 +11,8 @@ bounds-marks-place-2 c = simp length-set (omega arith)
 pub bounds-marks-place-3 : goal.bounds-marks-place-3
 bounds-marks-place-3 c = simp length-set (omega arith)
 
-pub bounds-marks-place-then-place-all : goal.bounds-marks-place-then-place-all
-bounds-marks-place-then-place-all c = simp length-set (omega arith)
+pub returns-then-place-marks : goal.returns-then-place-marks
+returns-then-place-marks c = rw (lt-ltb (4 * c.args.place) (length c.args.marks.now) (simp length-set at c.if-place-marks.true)) refl
 
-pub returns-then-place-all : goal.returns-then-place-all
-returns-then-place-all c = rw (lt-ltb _ _ c.if-place-all.true) refl
-
-pub returns-else-place-all : goal.returns-else-place-all
-returns-else-place-all c = rw (le-ltb _ _ c.if-place-all.false) refl
+pub returns-else-place-marks : goal.returns-else-place-marks
+returns-else-place-marks c = rw (le-ltb (4 * c.args.place) (length c.args.marks.now) (simp length-set at c.if-place-marks.false)) refl

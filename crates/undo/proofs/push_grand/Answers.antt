@@ -32,8 +32,8 @@ shape_of-marks-after-loop-k c = omega arith
 pub returns-after-loop-k : goal.returns-after-loop-k
 returns-after-loop-k c = push_done _ _ _ _ _ c.loop-k.invariant.4 (omega arith)
 
-pub shape_of-marks-then-all-at : goal.shape_of-marks-then-all-at
-shape_of-marks-then-all-at c = omega arith
+pub shape_of-marks-then-marks-at : goal.shape_of-marks-then-marks-at
+shape_of-marks-then-marks-at c = omega arith
 
-pub returns-then-all-at : goal.returns-then-all-at
-returns-then-all-at c = push_out _ _ _ _ _ c.loop-k.invariant.4 (omega arith)
+pub returns-then-marks-at : goal.returns-then-marks-at
+returns-then-marks-at c = push_out _ _ _ _ _ c.loop-k.invariant.4 (omega arith)

@@ -7,7 +7,7 @@ use Rattle.marking.specs.Marking.{codes_end}
 use Rattle.undo.proofs.push_grand.Given as goal
 
 abbrev pub invariant-loop-k : goal.invariant-loop-k
-invariant-loop-k l = (MN 3 ≤ l.k) × (l.k ≤ codes_end) × (length l.marks ≡ l.all) × (l.at < 4 * all_of most_n) × (push_from l.all (codes_end - l.k) l.at l.k l.marks ≡ push_from l.all l.all (4 * l.place) (MN 3) l.initial.marks)
+invariant-loop-k l = (MN 3 ≤ l.k) × (l.k ≤ codes_end) × (length l.marks ≡ length l.initial.marks) × (l.at < 4 * all_of most_n) × (push_from (length l.initial.marks) (codes_end - l.k) l.at l.k l.marks ≡ push_from (length l.initial.marks) (length l.initial.marks) (4 * l.place) (MN 3) l.initial.marks)
 
 abbrev pub decreases-loop-k : goal.decreases-loop-k
 decreases-loop-k l = codes_end - l.k

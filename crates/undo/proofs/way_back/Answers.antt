@@ -8,7 +8,7 @@ pub loop-l-init : goal.loop-l-init
 loop-l-init c = (refl, c.requires.1.lefts, c.requires.1.passes, c.requires.0.within, refl)
 
 pub prior-requires : goal.prior-requires
-prior-requires c = (record { size = refl; near = omega arith; whole = omega arith; wide = omega arith; roots = omega arith; within = omega arith }, record { each = omega arith; most = omega arith; lefts = omega arith; passes = omega arith })
+prior-requires c = (record { near = omega arith; whole = omega arith; wide = omega arith; roots = omega arith; within = omega arith }, record { each = omega arith; most = omega arith; lefts = omega arith; passes = omega arith })
 
 pub shape_of-marks-in-Nothing : goal.shape_of-marks-in-Nothing
 shape_of-marks-in-Nothing c = c.prior.auto.marks ∙ (omega arith)
@@ -18,7 +18,7 @@ returns-in-Nothing c = ends_first (length c.args.marks.now) _ _ _ _ _ _ _ _ _ _ 
 
 pub run_back-place-requires : goal.run_back-place-requires
 run_back-place-requires c = let g = goes_on (length c.args.marks.now) _ _ _ _ _ _ _ _ _ _ c.loop-l.invariant.0 c.prior.ensures _ c.loop-l.invariant.4 _ _ _ c.in-Quiet.is c.loop-l.invariant.1 c.loop-l.invariant.3 in
-    (record { size = refl; near = omega arith; whole = omega arith; wide = omega arith; roots = omega arith; within = omega arith }, omega arith, omega arith, g.2)
+    (record { near = omega arith; whole = omega arith; wide = omega arith; roots = omega arith; within = omega arith }, omega arith, omega arith, g.2)
 
 pub loop-l-smaller : goal.loop-l-smaller
 loop-l-smaller c = (runs_on (length c.args.marks.now) _ _ _ _ _ _ _ _ _ _ c.loop-l.invariant.0 c.prior.ensures _ c.loop-l.invariant.4 _ _ _ c.in-Quiet.is c.loop-l.invariant.1 c.loop-l.invariant.3 _ _ _ (c.prior.auto.marks ∙ c.loop-l.invariant.0) c.run_back-place.ensures).0

@@ -43,13 +43,13 @@ row_so c = c.row-k.ensures ∙ go (dec_lt 6 mark)
     f : ℕ → ℕ
     f i = precision_by (length c.args.marks.now) c.args.marks.now c.args.left c.args.stop i
 
-    go : Dec (6 < mark) → cond (ltb 6 mark) (get_or c.loop-place.precisions (c.loop-place.place / 4) 0) (down_to c.args.left c.reach-sets.result c.loop-place.place) ≡ f c.loop-place.place
+    go : Dec (6 < mark) → cond (ltb 6 mark) (get_or c.loop-place.precisions (c.loop-place.place / 4) 0) (down_to c.args.left c.saturating_sub-sets.result c.loop-place.place) ≡ f c.loop-place.place
     go (yes h) =
         let up = by_parent s some place c.loop-place-test.true w h in
         rw (lt-ltb 6 mark h) (ap (λ (x : List ℕ). get_or x (place / 4) 0) c.loop-place.invariant.2 ∙ table_front place f (drop place c.args.precisions.now) (place / 4) 0 up.0 ∙ sym up.1)
     go (no h) =
         rw (le-ltb 6 mark (omega (arith, h)))
-        (ap (λ (n : ℕ). down_to c.args.left n c.loop-place.place) c.reach-sets.ensures ∙ sym (by_head s some place c.loop-place-test.true w c.if-mark-lt-MD.false (omega (arith, h))))
+        (ap (λ (n : ℕ). down_to c.args.left n c.loop-place.place) c.saturating_sub-sets.ensures ∙ sym (by_head s some place c.loop-place-test.true w c.if-mark-lt-MD.false (omega (arith, h))))
 
 pub overflow_mul-all : goal.overflow_mul-all
 overflow_mul-all c = record { fits = omega (arith, short c.requires.2) }
@@ -81,7 +81,7 @@ loop-place-preserved-then-mark-lt-MD c = let a = c.args in
     let s = c.requires.2 in
     let some = c.requires.1 in
     let h = c.loop-place-test.true in
-    let k = c.down_to-k-then-mark-lt-MD.ensures ∙ ap (λ (n : ℕ). down_to a.left n l.place) c.reach-refined.ensures ∙ sym (by_old s some l.place h l.invariant.0 c.if-mark-lt-MSP.false (omega (arith, c.if-mark-lt-MD.true))) in (
+    let k = c.down_to-k-then-mark-lt-MD.ensures ∙ ap (λ (n : ℕ). down_to a.left n l.place) c.saturating_sub-refined.ensures ∙ sym (by_old s some l.place h l.invariant.0 c.if-mark-lt-MSP.false (omega (arith, c.if-mark-lt-MD.true))) in (
       walked_one s some l.place h l.invariant.0 (omega (arith, c.if-mark-lt-MD.true)),
       length-set l.precisions l.place _ ∙ l.invariant.1,
       rw (l.invariant.2, add-one l.place) (fill_step l.place (λ i. precision_by (length a.marks.now) a.marks.now a.left a.stop i) a.precisions.now c.down_to-k-then-mark-lt-MD.result (omega (arith, h, c.requires.0)) k),
@@ -116,9 +116,9 @@ loop-place-preserved c =
     let e = l.place + c.skip.result in
     let within : e ≤ length l.precisions = omega (arith, row_end.within, l.invariant.1, c.requires.0) in (
       row_end,
-      same_len_mid l.place (e - l.place) l.precisions c.fill.new.dst c.fill.auto.dst ∙ l.invariant.1,
-      fill_row l.place e (λ i. precision_by (length a.marks.now) a.marks.now a.left a.stop i) a.precisions.now l.precisions c.fill.new.dst c.row-k.result (omega arith) within l.invariant.2
-          c.fill.ensures (λ d k. by_row c.requires.2 c.requires.1 l.place c.loop-place-test.true l.invariant.0 c.if-mark-lt-MD.false d (omega (arith, k, skip_so)) ∙ sym (row_so (goal.at.loop-place-preserved c).After-row-k)),
+      same_len_mid l.place (e - l.place) l.precisions c.fill.new.self c.fill.auto.self ∙ l.invariant.1,
+      fill_row l.place e (λ i. precision_by (length a.marks.now) a.marks.now a.left a.stop i) a.precisions.now l.precisions c.fill.new.self c.row-k.result (omega arith) within l.invariant.2
+          (c.fill.ensures.after (λ y e. e)) (λ d k. by_row c.requires.2 c.requires.1 l.place c.loop-place-test.true l.invariant.0 c.if-mark-lt-MD.false d (omega (arith, k, skip_so)) ∙ sym (row_so (goal.at.loop-place-preserved c).After-row-k)),
     )
 
 pub returns : goal.returns

@@ -2,9 +2,8 @@ use mathlib.Core.Path.{◌≡◌, refl, ap, ◌∙◌}
 use mathlib.Core.List.{List}
 use native.Mathlib.Omega.{arith}
 use native.Mathlib.Numerals.{add-one}
-use borrow.Author.Rules.{rules}
 use lib.IntN.{ℤ, pos}
-use lib.ListN.{length, get_or, length-set}
+use lib.ListN.{length, get_or}
 use mir.Facts.{to_z-of_z}
 use mir.Syntax.{w32}
 use mir.Val.{SFits, to_z, of_z}
@@ -19,42 +18,35 @@ use Rattle.decoder.proofs.FinishLaws.{not_yet, whole}
 use Rattle.decoder.proofs.finish.uncode.Goals as goal
 
 pub loop-i-init : goal.loop-i-init
-loop-i-init c = (search rules, refl, refl, unfold table in refl)
+loop-i-init c = unfold table in refl
 
-pub overflow_cast-code : goal.overflow_cast-code
-overflow_cast-code c =
-    let code_is : at c.loop-i.values c.loop-i.i ≡ at c.args.values.now c.loop-i.i = let a = c.args in let l = c.loop-i in ap (λ (x : List ℤ). at x l.i) l.invariant.3 ∙ not_yet l.i (λ k. value_by (rule_of a.rule) (get_or a.precisions.now k 0) (plain_of (at a.values.now k))) a.values.now (pos 0) in
+pub overflow_cast-value : goal.overflow_cast-value
+overflow_cast-value c =
+    let code_is : at c.loop-i.values c.loop-i.i ≡ at c.args.values.now c.loop-i.i = let a = c.args in let l = c.loop-i in ap (λ (x : List ℤ). at x l.i) l.invariant ∙ not_yet l.i (λ k. value_by (rule_of a.rule) (get_or a.precisions.now k 0) (plain_of (at a.values.now k))) a.values.now (pos 0) in
     let l = c.loop-i in
-    pos_cast (at l.values l.i) (record { sfits = c.code-1.given }) (ap (λ (z : ℤ). negative z) (code_is) ∙ (c.requires.1 l.i c.loop-i-test.true).0)
+    pos_cast (at l.values l.i) (record { sfits = omega arith }) (ap (λ (z : ℤ). negative z) (code_is) ∙ (c.requires.1 l.i c.loop-i-test.true).0)
 
-pub overflow_cast-precisions : goal.overflow_cast-precisions
-overflow_cast-precisions c = record { fits = omega (arith, c.shared_slice_known-in-loop-i-1.given c.loop-i.i) }
-
-pub value_at-v-requires : goal.value_at-v-requires
-value_at-v-requires c =
-    let code_is : at c.loop-i.values c.loop-i.i ≡ at c.args.values.now c.loop-i.i = let a = c.args in let l = c.loop-i in ap (λ (x : List ℤ). at x l.i) l.invariant.3 ∙ not_yet l.i (λ k. value_by (rule_of a.rule) (get_or a.precisions.now k 0) (plain_of (at a.values.now k))) a.values.now (pos 0) in
-    let code_so : to_z w32 (of_z w32 (at c.loop-i.values c.loop-i.i)) ≡ at c.args.values.now c.loop-i.i = let l = c.loop-i in let f : SFits w32 (at l.values l.i) = record { sfits = c.code-1.given } in to_z-of_z f ∙ code_is in
+pub value_at-requires : goal.value_at-requires
+value_at-requires c =
+    let code_is : at c.loop-i.values c.loop-i.i ≡ at c.args.values.now c.loop-i.i = let a = c.args in let l = c.loop-i in ap (λ (x : List ℤ). at x l.i) l.invariant ∙ not_yet l.i (λ k. value_by (rule_of a.rule) (get_or a.precisions.now k 0) (plain_of (at a.values.now k))) a.values.now (pos 0) in
+    let code_so : to_z w32 (of_z w32 (at c.loop-i.values c.loop-i.i)) ≡ at c.args.values.now c.loop-i.i = let l = c.loop-i in let f : SFits w32 (at l.values l.i) = record { sfits = omega arith } in to_z-of_z f ∙ code_is in
     let l = c.loop-i in
     let u = c.requires.1 l.i c.loop-i-test.true in
     rw (code_so) (u.1, u.2)
 
 pub loop-i-preserved : goal.loop-i-preserved
 loop-i-preserved c =
-    let code_is : at c.loop-i.values c.loop-i.i ≡ at c.args.values.now c.loop-i.i = let a = c.args in let l = c.loop-i in ap (λ (x : List ℤ). at x l.i) l.invariant.3 ∙ not_yet l.i (λ k. value_by (rule_of a.rule) (get_or a.precisions.now k 0) (plain_of (at a.values.now k))) a.values.now (pos 0) in
-    let code_so : to_z w32 (of_z w32 (at c.loop-i.values c.loop-i.i)) ≡ at c.args.values.now c.loop-i.i = let l = c.loop-i in let f : SFits w32 (at l.values l.i) = record { sfits = c.code-1.given } in to_z-of_z f ∙ code_is in
+    let code_is : at c.loop-i.values c.loop-i.i ≡ at c.args.values.now c.loop-i.i = let a = c.args in let l = c.loop-i in ap (λ (x : List ℤ). at x l.i) l.invariant ∙ not_yet l.i (λ k. value_by (rule_of a.rule) (get_or a.precisions.now k 0) (plain_of (at a.values.now k))) a.values.now (pos 0) in
+    let code_so : to_z w32 (of_z w32 (at c.loop-i.values c.loop-i.i)) ≡ at c.args.values.now c.loop-i.i = let l = c.loop-i in let f : SFits w32 (at l.values l.i) = record { sfits = omega arith } in to_z-of_z f ∙ code_is in
     let a = c.args in
     let l = c.loop-i in
-    let f : SFits w32 c.value_at-v.result = record { sfits = c.value_at-v.type_inv } in
-    let v : to_z w32 (of_z w32 c.value_at-v.result) ≡ value_by (rule_of a.rule) (get_or a.precisions.now l.i 0) (plain_of (at a.values.now l.i)) =
-    to_z-of_z f ∙ c.value_at-v.ensures ∙ rw (code_so) in (
-      omega arith,
-      refl,
-      length-set l.values l.i _ ∙ l.invariant.2,
-      rw (l.invariant.3, add-one l.i) (fill_step l.i (λ k. value_by (rule_of a.rule) (get_or a.precisions.now k 0) (plain_of (at a.values.now k))) a.values.now (to_z w32 (of_z w32 c.value_at-v.result)) (omega arith) v),
-    )
+    let f : SFits w32 c.value_at.result = record { sfits = c.value_at.type_inv } in
+    let v : to_z w32 (of_z w32 c.value_at.result) ≡ value_by (rule_of a.rule) (get_or a.precisions.now l.i 0) (plain_of (at a.values.now l.i)) =
+    to_z-of_z f ∙ c.value_at.ensures ∙ rw (code_so) in
+    rw (l.invariant, add-one l.i) (fill_step l.i (λ k. value_by (rule_of a.rule) (get_or a.precisions.now k 0) (plain_of (at a.values.now k))) a.values.now (to_z w32 (of_z w32 c.value_at.result)) (omega arith) v)
 
 pub returns : goal.returns
 returns c = let a = c.args in
     let l = c.loop-i in
     let e : l.i ≡ length a.values.now = omega arith in
-    l.invariant.3 ∙ rw e (whole (length a.values.now) _ a.values.now refl)
+    l.invariant ∙ rw e (whole (length a.values.now) _ a.values.now refl)

@@ -1,7 +1,6 @@
 use mathlib.Core.Path.{◌≡◌}
 use mathlib.Core.List.{◌++◌}
-use Prim.Native.Nat.{◌-◌, ◌≤◌}
-use lib.ListN.{length, get_or, drop}
+use lib.ListN.{get_or, drop}
 use Rattle.sizes.specs.Tables.{table}
 use Rattle.coef.specs.Coef.{at}
 use Rattle.nls.specs.Reading.{value_by}
@@ -10,9 +9,4 @@ use Rattle.decoder.specs.Rules.{rule_of}
 use Rattle.decoder.proofs.finish.uncode.Given as goal
 
 abbrev pub invariant-loop-i : goal.invariant-loop-i
-invariant-loop-i l =
-    (l.i ≤ l.i-end) × (l.i-end ≡ length l.initial.values) × (length l.values ≡ length l.initial.values)
-    × (l.values ≡ table l.i (λ k. value_by (rule_of l.rule) (get_or l.precisions k 0) (plain_of (at l.initial.values k))) ++ drop l.i l.initial.values)
-
-abbrev pub decreases-loop-i : goal.decreases-loop-i
-decreases-loop-i l = l.i-end - l.i
+invariant-loop-i l = l.values ≡ table l.i (λ k. value_by (rule_of l.rule) (get_or l.precisions k 0) (plain_of (at l.initial.values k))) ++ drop l.i l.initial.values

@@ -1,19 +1,12 @@
 use mathlib.Core.Path.{◌≡◌}
 use native.Mathlib.Omega.{arith}
-use lib.Bits.{and_le_l}
 use Rattle.fours.specs.Words.{key}
 use Rattle.fours.proofs.Laws.{key_lt}
 use Rattle.encoder.specs.Siblings.{bits_at, signs_at}
 use Rattle.encoder.proofs.SiblingSteps.{bits_few, signs_few}
 use Rattle.encoder.proofs.siblings.key_of.Goals as goal
 
-pub overflow_mul-result : goal.overflow_mul-result
-overflow_mul-result c = omega (arith, and_le_l c.args.k c.four_bits-x.result)
-
 pub overflow_add-result : goal.overflow_add-result
 overflow_add-result c = let a = c.args in
     let e : key a.k c.four_bits-x.result c.four_signs-minus.result ≡ key a.k (bits_at a.coefs.now a.b a.place) (signs_at a.coefs.now a.place) = λ i. key a.k (c.four_bits-x.ensures i) (c.four_signs-minus.ensures i) in
     omega (arith, e, key_lt a.k (bits_at a.coefs.now a.b a.place) (signs_at a.coefs.now a.place) c.requires.3 (bits_few a.coefs.now a.b a.place) (signs_few a.coefs.now a.place))
-
-pub returns : goal.returns
-returns c = λ i. key c.args.k (c.four_bits-x.ensures i) (c.four_signs-minus.ensures i)

@@ -6,8 +6,8 @@ use Rattle.encoder.proofs.siblings.pass_on.Given as goal
 
 abbrev pub invariant-loop-place : goal.invariant-loop-place
 invariant-loop-place l =
-    Led l.coefs l.desc l.grand l.all l.budget l.b l.pass 0 l.initial.marks l.initial.out l.initial.s l.place l.s l.marks l.out × (length l.marks ≡ length l.initial.marks) × (length l.out ≡ length l.initial.out)
+    Led l.src.coefs.now l.src.desc.now l.src.grand.now l.limits.all l.limits.budget l.b l.pass 0 l.initial.marks l.initial.out l.initial.s l.place l.s l.marks l.out × (length l.marks ≡ length l.initial.marks) × (length l.out ≡ length l.initial.out)
 
 abbrev pub decreases-loop-place : goal.decreases-loop-place
 decreases-loop-place l =
-    (l.all - l.place) + (l.budget - (8 * l.s.at + l.s.n))
+    (l.limits.all - l.place) + (l.limits.budget - (8 * l.s.at + l.s.n))

@@ -11,8 +11,8 @@ overflow_add-s c = omega (arith, parsed_below _ _ c.requires.0 c.requires.3)
 pub overflow_cast-s : goal.overflow_cast-s
 overflow_cast-s c = omega (arith, parsed_below _ _ c.requires.0 c.requires.3)
 
-pub bounds-placed-k-2 : goal.bounds-placed-k-2
-bounds-placed-k-2 c = omega (arith, parsed_below _ _ c.requires.0 c.requires.3)
+pub bounds-lookups-k-2 : goal.bounds-lookups-k-2
+bounds-lookups-k-2 c = omega (arith, parsed_below _ _ c.requires.0 c.requires.3)
 
 pub overflow_cast-result-2 : goal.overflow_cast-result-2
 overflow_cast-result-2 c = omega (arith, (heard _ _ _ _ c.requires.0 c.requires.1 c.requires.2 c.requires.3).0, found_small (bit c.args.k) (in_byte c.args.byte))

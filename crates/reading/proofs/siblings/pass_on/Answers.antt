@@ -4,6 +4,7 @@ use native.Mathlib.Omega.{arith}
 use Rattle.walk.proofs.Fours.{leads_none}
 use Rattle.reading.proofs.Handing.{led_on}
 use Rattle.reading.proofs.siblings.pass_on.Goals as goal
+use Rattle.reading.proofs.siblings.pass_on.Goals.{else-loop-place-test, then-loop-place-test+then-not-r}
 
 pub overflow_sub-last : goal.overflow_sub-last
 overflow_sub-last c = omega arith
@@ -31,20 +32,8 @@ loop-place-preserved c = (
   led_on _ _ _ _ _ _ _ _ _ _ _ _ _ _ _ _ _ _ c.loop-place.invariant.2 c.step-r.ensures,
 )
 
-pub shape_of-marks-after-loop-place : goal.shape_of-marks-after-loop-place
-shape_of-marks-after-loop-place c = c.loop-place.invariant.0
-
-pub shape_of-values-after-loop-place : goal.shape_of-values-after-loop-place
-shape_of-values-after-loop-place c = c.loop-place.invariant.1
-
-pub returns-after-loop-place : goal.returns-after-loop-place
-returns-after-loop-place c = c.loop-place.invariant.2
-
-pub shape_of-marks-then-not-r : goal.shape_of-marks-then-not-r
-shape_of-marks-then-not-r c = c.step-r.auto.marks ∙ c.loop-place.invariant.0
-
-pub shape_of-values-then-not-r : goal.shape_of-values-then-not-r
-shape_of-values-then-not-r c = c.step-r.auto.values ∙ c.loop-place.invariant.1
-
-pub returns-then-not-r : goal.returns-then-not-r
-returns-then-not-r c = led_on _ _ _ _ _ _ _ _ _ _ _ _ _ _ _ _ _ _ c.loop-place.invariant.2 c.step-r.ensures
+pub returns : goal.returns
+returns c = rw c.goes.ensures (elim c.loop-place-test.branch [
+  | else-loop-place-test w ↦ rw (w.marks-is, w.values-is, w.n-is, w.place-is) c.loop-place.invariant.2
+  | then-loop-place-test+then-not-r w ↦ rw (w.marks-is, w.values-is, w.n-is, w.place-is) (led_on _ _ _ _ _ _ _ _ _ _ _ _ _ _ _ _ _ _ c.loop-place.invariant.2 w.step-r.ensures)
+])

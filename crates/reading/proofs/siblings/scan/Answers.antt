@@ -34,14 +34,14 @@ pass_on-r-requires c = (
   omega arith,
 )
 
-pub shape_of-marks-then-r-all : goal.shape_of-marks-then-r-all
-shape_of-marks-then-r-all c = c.pass_on-r.auto.marks ∙ c.loop-turn.invariant.0.marks
+pub shape_of-marks-then-r-frame : goal.shape_of-marks-then-r-frame
+shape_of-marks-then-r-frame c = c.pass_on-r.auto.marks ∙ c.loop-turn.invariant.0.marks
 
-pub shape_of-values-then-r-all : goal.shape_of-values-then-r-all
-shape_of-values-then-r-all c = c.pass_on-r.auto.values ∙ c.loop-turn.invariant.0.values
+pub shape_of-values-then-r-frame : goal.shape_of-values-then-r-frame
+shape_of-values-then-r-frame c = c.pass_on-r.auto.values ∙ c.loop-turn.invariant.0.values
 
-pub returns-then-r-all : goal.returns-then-r-all
-returns-then-r-all c = (resume_go _ _ _ _ _ _ _ c.loop-turn.invariant.2 (omega arith) _ _ c.pass_on-r.ensures.leads, c.loop-turn.invariant.1, c.pass_on-r.ensures.spent)
+pub returns-then-r-frame : goal.returns-then-r-frame
+returns-then-r-frame c = (resume_go _ _ _ _ _ _ _ c.loop-turn.invariant.2 (omega arith) _ _ c.pass_on-r.ensures.leads, c.loop-turn.invariant.1, c.pass_on-r.ensures.spent)
 
 pub overflow_sub-turn : goal.overflow_sub-turn
 overflow_sub-turn c = omega arith
@@ -53,7 +53,7 @@ pub loop-turn-preserved : goal.loop-turn-preserved
 loop-turn-preserved c = (
   record { marks = c.pass_on-r.auto.marks ∙ c.loop-turn.invariant.0.marks; values = c.pass_on-r.auto.values ∙ c.loop-turn.invariant.0.values; spent = c.pass_on-r.ensures.spent },
   omega arith,
-  resume_next _ _ _ _ _ _ (resume_go _ _ _ _ _ _ _ c.loop-turn.invariant.2 (omega arith) _ _ c.pass_on-r.ensures.leads) c.loop-turn-test.true c.if-r-all.false,
+  resume_next _ _ _ _ _ _ (resume_go _ _ _ _ _ _ _ c.loop-turn.invariant.2 (omega arith) _ _ c.pass_on-r.ensures.leads) c.loop-turn-test.true c.if-r-frame.false,
 )
 
 pub shape_of-marks : goal.shape_of-marks

@@ -2,11 +2,11 @@ use native.Mathlib.Omega.{arith}
 use mathlib.Core.Path.{◌≡◌}
 use Rattle.reading.proofs.siblings.step.Goals as goal
 
-pub returns-then-pass-eq0 : goal.returns-then-pass-eq0
-returns-then-pass-eq0 c = rw c.if-pass-eq0.true c.pixels.ensures
+pub returns-in-0 : goal.returns-in-0
+returns-in-0 c = rw c.in-0.is c.pixels.ensures
 
-pub returns-then-pass-eq1 : goal.returns-then-pass-eq1
-returns-then-pass-eq1 c = rw c.if-pass-eq1.true c.sets.ensures
+pub returns-in-1 : goal.returns-in-1
+returns-in-1 c = rw c.in-1.is c.sets.ensures
 
-pub returns : goal.returns
-returns c = let e : c.args.pass ≡ 2 = omega arith in rw e c.refine.ensures
+pub returns-in_default : goal.returns-in_default
+returns-in_default c = let e : c.args.pass ≡ 2 = omega arith in rw e c.refine.ensures

@@ -2,9 +2,9 @@ use mathlib.Core.Path.{sym, subst, ◌∙◌}
 use Prim.Native.Nat.{◌-◌}
 use native.Mathlib.Omega.{arith}
 use Rattle.refusals.specs.declared.Refusal.TheVariants.{Contradiction, Beyond, Spent}
+use Rattle.view.proofs.Laws.{viewed_past}
 use Rattle.moves.specs.declared.Stand.{Stand}
 use Rattle.decoder.specs.{Body.tables, Ending.ending}
-use Rattle.view.proofs.Laws.{viewed_past}
 use Rattle.steps.specs.Steps.{usable_bits}
 use Rattle.steps.specs.Ready.{Stood, forward_in}
 use Rattle.steps.proofs.Standing.{stood_first, stood_onward}
@@ -32,7 +32,7 @@ pub returns-then-at-eq0 : goal.returns-then-at-eq0
 returns-then-at-eq0 c = let a = c.args in
     let l = c.loop-used in
     let range = c.requires.range in
-    let bit = read_bit a.body.now l.used a.declared c.read.ensures _ c.in-Bit.is in
+    let bit = read_bit a.body.now l.used a.declared c.read.ensures _ c.in-Ok.is in
     c.refuse.ensures l.marks (tables l.values l.precisions l.marks)
     ∙ climb_ends a.dial range l.at l.invariant.1 (ending a.declared a.body.now) (usable_bits a.declared a.body.now) a.body.now l.used l.values l.precisions l.marks a.to (Beyond l.used) c.loop-used-test.true (forward_beyond a.dial range l.at l.invariant.1 (ending a.declared a.body.now) (usable_bits a.declared a.body.now) a.body.now l.used l.values l.precisions l.marks _ bit c.if-at-eq0.true)
     ∙ l.invariant.0
@@ -50,7 +50,7 @@ pub returns-then-bars : goal.returns-then-bars
 returns-then-bars c = let a = c.args in
     let l = c.loop-used in
     let range = c.requires.range in
-    let bit = read_bit a.body.now l.used a.declared c.read.ensures _ c.in-Bit.is in
+    let bit = read_bit a.body.now l.used a.declared c.read.ensures _ c.in-Ok.is in
     c.refuse-then-bars.ensures l.marks (tables l.values l.precisions l.marks)
     ∙ climb_ends a.dial range l.at l.invariant.1 (ending a.declared a.body.now) (usable_bits a.declared a.body.now) a.body.now l.used l.values l.precisions l.marks a.to (Contradiction l.used) c.loop-used-test.true (forward_barred a.dial range l.at l.invariant.1 (ending a.declared a.body.now) (usable_bits a.declared a.body.now) a.body.now l.used l.values l.precisions l.marks _ bit c.if-at-eq0.false _ c.bars.ensures c.if-bars.true)
     ∙ l.invariant.0
@@ -65,7 +65,7 @@ pub loop-used-preserved : goal.loop-used-preserved
 loop-used-preserved c = let a = c.args in
     let l = c.loop-used in
     let range = c.requires.range in
-    let bit = read_bit a.body.now l.used a.declared c.read.ensures _ c.in-Bit.is in
+    let bit = read_bit a.body.now l.used a.declared c.read.ensures _ c.in-Ok.is in
     let k = c.tell-at in (
       climb_goes a.dial range l.at l.invariant.1 (ending a.declared a.body.now) (usable_bits a.declared a.body.now) a.body.now l.used l.values l.precisions l.marks a.to _ k.result k.new.values k.new.precisions k.new.marks c.loop-used-test.true
           (forward_on a.dial range l.at l.invariant.1 (ending a.declared a.body.now) (usable_bits a.declared a.body.now) a.body.now l.used l.values l.precisions l.marks _ bit c.if-at-eq0.false _ c.bars.ensures c.if-bars.false) k.ensures.stand k.ensures.filled ∙ l.invariant.0,
@@ -78,21 +78,21 @@ loop-used-preserved c = let a = c.args in
       },
     )
 
-pub shape_of-values-in-NoMore : goal.shape_of-values-in-NoMore
-shape_of-values-in-NoMore c = c.loop-used.invariant.2.values_size ∙ sym c.requires.values_size
+pub shape_of-values-in-Err : goal.shape_of-values-in-Err
+shape_of-values-in-Err c = c.loop-used.invariant.2.values_size ∙ sym c.requires.values_size
 
-pub shape_of-precisions-in-NoMore : goal.shape_of-precisions-in-NoMore
-shape_of-precisions-in-NoMore c = c.loop-used.invariant.2.precisions_size ∙ sym c.requires.precisions_size
+pub shape_of-precisions-in-Err : goal.shape_of-precisions-in-Err
+shape_of-precisions-in-Err c = c.loop-used.invariant.2.precisions_size ∙ sym c.requires.precisions_size
 
-pub shape_of-marks-in-NoMore : goal.shape_of-marks-in-NoMore
-shape_of-marks-in-NoMore c = c.loop-used.invariant.2.marks_size ∙ sym c.requires.marks_size
+pub shape_of-marks-in-Err : goal.shape_of-marks-in-Err
+shape_of-marks-in-Err c = c.loop-used.invariant.2.marks_size ∙ sym c.requires.marks_size
 
-pub returns-in-NoMore : goal.returns-in-NoMore
-returns-in-NoMore c = let a = c.args in
+pub returns-in-Err : goal.returns-in-Err
+returns-in-Err c = let a = c.args in
     let l = c.loop-used in
     let range = c.requires.range in
-    c.refuse-in-NoMore.ensures l.marks (tables l.values l.precisions l.marks)
-    ∙ climb_ends a.dial range l.at l.invariant.1 (ending a.declared a.body.now) (usable_bits a.declared a.body.now) a.body.now l.used l.values l.precisions l.marks a.to Spent c.loop-used-test.true (forward_spent a.dial range l.at l.invariant.1 (ending a.declared a.body.now) (usable_bits a.declared a.body.now) a.body.now l.used l.values l.precisions l.marks (viewed_past a.body.now l.used a.declared _ (sym c.read.ensures ∙ c.in-NoMore.is)))
+    c.refuse-in-Err.ensures l.marks (tables l.values l.precisions l.marks)
+    ∙ climb_ends a.dial range l.at l.invariant.1 (ending a.declared a.body.now) (usable_bits a.declared a.body.now) a.body.now l.used l.values l.precisions l.marks a.to Spent c.loop-used-test.true (forward_spent a.dial range l.at l.invariant.1 (ending a.declared a.body.now) (usable_bits a.declared a.body.now) a.body.now l.used l.values l.precisions l.marks (viewed_past a.body.now l.used a.declared _ (sym c.read.ensures ∙ c.in-Err.is)))
     ∙ l.invariant.0
 
 pub shape_of-values : goal.shape_of-values

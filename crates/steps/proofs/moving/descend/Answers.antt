@@ -2,10 +2,10 @@ use mathlib.Core.Path.{sym, ◌∙◌}
 use Prim.Native.Nat.{◌-◌}
 use native.Mathlib.Omega.{arith}
 use lib.ListN.{length}
-use Rattle.decoder.specs.{Ending.ending}
-use Rattle.steps.specs.Steps.{usable_bits}
-use Rattle.reading.proofs.ReadLaws.{told_bit}
 use Rattle.view.proofs.Laws.{viewed_past}
+use Rattle.reading.proofs.ReadLaws.{told_bit}
+use Rattle.decoder.specs.Ending.{ending}
+use Rattle.steps.specs.Steps.{usable_bits}
 use Rattle.steps.proofs.RecordLaws.{range_coarsest}
 use Rattle.steps.proofs.DescendLaws.{from_stood, descending_first, descending_last, descending_on}
 use Rattle.steps.proofs.moving.descend.Goals as goal
@@ -22,8 +22,8 @@ untell-requires c = let a = c.args in
     let w = c.loop-used in
     (record { range = c.requires.0.range; values_size = w.invariant.values_size; precisions_size = w.invariant.precisions_size; marks_size = omega (arith, w.invariant.marks_size) }, from_stood a.dial c.requires.0.range (ending a.declared a.body.now) a.body.now w.used w.at w.values w.precisions w.marks w.invariant.stood (length w.marks) (length w.values) c.coarsest_of-coarsest.result c.go_back-at.result _ w.invariant.marks_size w.invariant.values_size (range_coarsest a.dial c.requires.0.range _ c.coarsest_of-coarsest.ensures) c.go_back-at.ensures.value c.go_back-at.ensures.marks_after w.invariant.marks_size)
 
-pub overflow_sub-used-in-Bit : goal.overflow_sub-used-in-Bit
-overflow_sub-used-in-Bit c = omega (arith, c.loop-used-test.true)
+pub overflow_sub-used-in-Ok : goal.overflow_sub-used-in-Ok
+overflow_sub-used-in-Ok c = omega (arith, c.loop-used-test.true)
 
 pub loop-used-smaller : goal.loop-used-smaller
 loop-used-smaller c = omega (arith, c.loop-used-test.true)
@@ -31,25 +31,25 @@ loop-used-smaller c = omega (arith, c.loop-used-test.true)
 pub loop-used-preserved : goal.loop-used-preserved
 loop-used-preserved c = let a = c.args in
     let w = c.loop-used in
-    let t = told_bit a.body.now (w.used - 1) a.declared c.read.ensures _ c.in-Bit.is in
+    let t = told_bit a.body.now (w.used - 1) a.declared c.read.ensures _ c.in-Ok.is in
     descending_on a.dial c.requires.0.range (ending a.declared a.body.now) a.body.now (usable_bits a.declared a.body.now) a.to _ w.used w.at w.values w.precisions w.marks w.invariant c.loop-used-test.true (length w.marks) (length w.values) c.coarsest_of-coarsest.result c.go_back-at.result _ w.invariant.marks_size w.invariant.values_size (range_coarsest a.dial c.requires.0.range _ c.coarsest_of-coarsest.ensures) c.go_back-at.ensures.value c.go_back-at.ensures.marks_after _ _ _ t.1 c.untell.ensures.values_after c.untell.ensures.precisions_after (omega (arith, w.invariant.values_size)) (omega (arith, w.invariant.precisions_size)) (omega (arith, w.invariant.marks_size))
 
 pub refuse-requires : goal.refuse-requires
 refuse-requires c = (c.requires.0.range, c.loop-used.invariant.stood)
 
-pub shape_of-values-in-NoMore : goal.shape_of-values-in-NoMore
-shape_of-values-in-NoMore c = omega (arith, c.loop-used.invariant.values_size, c.requires.0.values_size)
+pub shape_of-values-in-Err : goal.shape_of-values-in-Err
+shape_of-values-in-Err c = omega (arith, c.loop-used.invariant.values_size, c.requires.0.values_size)
 
-pub shape_of-precisions-in-NoMore : goal.shape_of-precisions-in-NoMore
-shape_of-precisions-in-NoMore c = omega (arith, c.loop-used.invariant.precisions_size, c.requires.0.precisions_size)
+pub shape_of-precisions-in-Err : goal.shape_of-precisions-in-Err
+shape_of-precisions-in-Err c = omega (arith, c.loop-used.invariant.precisions_size, c.requires.0.precisions_size)
 
-pub shape_of-marks-in-NoMore : goal.shape_of-marks-in-NoMore
-shape_of-marks-in-NoMore c = omega (arith, c.loop-used.invariant.marks_size, c.requires.0.marks_size)
+pub shape_of-marks-in-Err : goal.shape_of-marks-in-Err
+shape_of-marks-in-Err c = omega (arith, c.loop-used.invariant.marks_size, c.requires.0.marks_size)
 
-pub returns-in-NoMore : goal.returns-in-NoMore
-returns-in-NoMore c = let a = c.args in
+pub returns-in-Err : goal.returns-in-Err
+returns-in-Err c = let a = c.args in
     let w = c.loop-used in
-    absurd (omega (arith, c.loop-used-test.true, w.invariant.few, viewed_past a.body.now (w.used - 1) a.declared _ (sym c.read.ensures ∙ c.in-NoMore.is)))
+    absurd (omega (arith, c.loop-used-test.true, w.invariant.few, viewed_past a.body.now (w.used - 1) a.declared _ (sym c.read.ensures ∙ c.in-Err.is)))
 
 pub arrive-requires : goal.arrive-requires
 arrive-requires c = (c.requires.0.range, c.loop-used.invariant.stood)

@@ -34,7 +34,7 @@ pub loop-at-preserved : goal.loop-at-preserved
 loop-at-preserved c =
     let ends : c.loop-at.at + c.loop-at.wide ≤ length c.loop-at.precisions = row_ends c.loop-at.invariant.row (omega (arith, c.loop-at-test.true, c.loop-at.invariant.same)) in
     let l = c.loop-at in
-    filling_next l.at l.wide c.args.plane l.precisions c.fill.new.dst ends c.fill.ensures l.invariant (omega (arith, c.loop-at-test.true, l.invariant.same))
+    filling_next l.at l.wide c.args.plane l.precisions c.fill.new.self ends (c.fill.ensures.after (λ y e. e)) l.invariant (omega (arith, c.loop-at-test.true, l.invariant.same))
 
 pub returns : goal.returns
 returns c = filling_last c.loop-at.at c.loop-at.wide c.loop-at.precisions c.loop-at.invariant (omega (arith, c.loop-at-test.false, c.loop-at.invariant.same))

@@ -1,6 +1,5 @@
-use mathlib.Core.Path.{◌≡◌, refl, ◌∙◌, sym, ap, subst}
+use mathlib.Core.Path.{◌≡◌, ◌∙◌, sym, ap, subst}
 use Prim.Native.Nat.{ℕ, suc, ◌*◌, ◌-◌, ◌≤◌}
-use lib.ListN.{length-set}
 use native.Mathlib.Omega.{arith}
 use lib.IntN.{ℤ, nat_abs}
 use Rattle.coef.specs.Coef.{at}
@@ -11,7 +10,7 @@ use Rattle.transform.proofs.blocks.level_up.Goals as goal
 pub loop-k-init : goal.loop-k-init
 loop-k-init c = let a = c.args in
     let W = at a.work.now in
-    (omega arith, refl, sym (onward_back (4 * a.quarter) W (unbands a.quarter (onward a.quarter W (at a.from.now)))))
+    sym (onward_back (4 * a.quarter) W (unbands a.quarter (onward a.quarter W (at a.from.now))))
 
 pub unblock_at-v-requires : goal.unblock_at-v-requires
 unblock_at-v-requires c = let a = c.args in
@@ -19,13 +18,7 @@ unblock_at-v-requires c = let a = c.args in
     let W = at a.work.now in
     let k = l.k - 1 in
     let Z = onward (4 * a.quarter) (unbands a.quarter (onward a.quarter W (at a.from.now))) W in
-    (omega arith, omega arith, omega arith, subst (λ (z : ℤ). nat_abs z ≤ 234881024) (sym (ap (λ (A : ℕ → ℤ). A k) l.invariant.2 ∙ onward_near (4 * l.k) W Z k (omega arith))) (c.requires.2 k (omega arith)), c.requires.3)
-
-pub put_block-requires : goal.put_block-requires
-put_block-requires c = omega arith
-
-pub loop-k-smaller : goal.loop-k-smaller
-loop-k-smaller c = omega arith
+    (omega arith, omega arith, omega arith, subst (λ (z : ℤ). nat_abs z ≤ 234881024) (sym (ap (λ (A : ℕ → ℤ). A k) l.invariant ∙ onward_near (4 * l.k) W Z k (omega arith))) (c.requires.2 k (omega arith)), c.requires.3)
 
 pub loop-k-preserved : goal.loop-k-preserved
 loop-k-preserved c = let a = c.args in
@@ -36,11 +29,8 @@ loop-k-preserved c = let a = c.args in
     let e = c.put_block.ensures in
     let W = at a.work.now in
     let Z = onward (4 * a.quarter) (unbands a.quarter (onward a.quarter W (at a.from.now))) W in
-    let s = up_step a.quarter k (omega arith) l.work W (at a.from.now) v (omega arith) (l.invariant.2 ∙ ap (λ (n : ℕ). onward (4 * n) W Z) up) c.unblock_at-v.ensures in
-    (omega arith, rw e (simp length-set (omega arith)), rw e s)
-
-pub shape_of-work : goal.shape_of-work
-shape_of-work c = omega arith
+    let s = up_step a.quarter k (omega arith) l.work W (at a.from.now) v (omega arith) (l.invariant ∙ ap (λ (n : ℕ). onward (4 * n) W Z) up) c.unblock_at-v.ensures in
+    rw e s
 
 pub returns : goal.returns
 returns c = let a = c.args in
@@ -48,4 +38,4 @@ returns c = let a = c.args in
     let W = at a.work.now in
     let Z = onward (4 * a.quarter) (unbands a.quarter (onward a.quarter W (at a.from.now))) W in
     let e : 4 * l.k ≡ 0 = omega arith in
-    l.invariant.2 ∙ ap (λ (n : ℕ). onward n W Z) e ∙ onward_none W Z
+    l.invariant ∙ ap (λ (n : ℕ). onward n W Z) e ∙ onward_none W Z

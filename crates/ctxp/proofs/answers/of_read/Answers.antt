@@ -1,9 +1,0 @@
-use mathlib.Core.Path.{sym, ap, ◌∙◌}
-use Rattle.ctxp.specs.Answers.{of_read}
-use Rattle.ctxp.proofs.answers.of_read.Goals as goal
-
-pub returns-in-Done : goal.returns-in-Done
-returns-in-Done c = rw (c.ending_number-ending.ensures, c.nothing-a.ensures) (sym (ap of_read c.in-Done.is))
-
-pub returns-in-Refused : goal.returns-in-Refused
-returns-in-Refused c = c.refused.ensures ∙ sym (ap of_read c.in-Refused.is)
