@@ -9,6 +9,7 @@ use decoder::Ending;
 use refusals::Refusal;
 
 // The numbers that a call answers, in the order of the header's `txp_answer`. Those that it does not speak of are 0.
+// Kept: numbers for kinds, since the C interface lends them.
 #[derive(Clone, Copy)]
 pub struct Answer {
     pub refusal: u32,

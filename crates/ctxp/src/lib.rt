@@ -1,5 +1,6 @@
 // The calls of the base for programs in C. `ctxp_c` exports each under its name, and `include/txp.h` declares them.
 // Each gives back the number of the refusal, 0 where it was done, and puts every other number into the lent answer.
+// Kept: calls of up to ten parameters, and numbers for refusals, since the C interface lends each table and takes each number alone.
 #![tactic(auto)]
 
 mod answers;

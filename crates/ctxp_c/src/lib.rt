@@ -1,5 +1,6 @@
 // The static library for programs in C: `include/txp.h` declares these calls. Each is the call of `ctxp` of its name, under the same clauses.
 // Each gives back the number of the refusal, 0 where it was done, and puts every other number into the lent answer.
+// Kept: a second list of these calls, since an export has a name and a form of its own.
 #![tactic(auto)]
 
 ghost use Rattle.std.specs.Prelude.{◌≡◌, ◌&&◌, cond, length};

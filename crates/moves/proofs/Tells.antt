@@ -3,14 +3,14 @@ use Prim.Native.Nat.{ℕ, ◌+◌, ◌≤◌, ◌<◌}
 use mathlib.Core.Path.{◌≡◌, sym, ap, subst, ◌∙◌}
 use mathlib.Core.Bool.{Bool, true, false, cond}
 use mathlib.Core.List.{List}
-use borrow.Author.Tests.{lt-ltb, le-ltb, ltb-true, eq-eqb, ne_eqb}
+use borrow.Author.Tests.{ltb-true, eq-eqb, ne_eqb}
 use lib.Dec.{ltb}
 use lib.ListN.{length, set, get_or}
 use Rattle.sizes.specs.Sizes.{most_n, all_of}
 use Rattle.sizes.proofs.Laws.{both_left, both_right}
 use Rattle.nls.specs.Scan.{State, settle}
 use Rattle.marking.specs.Marking.{desc_split_marks, grand_split_marks, in_table}
-use Rattle.marking.proofs.Laws.{in_so, in_large, in_both}
+use Rattle.marking.proofs.Laws.{in_both}
 use Rattle.moves.specs.Stands.{stand, state_of, stand_of}
 use Rattle.moves.specs.Moves.{told, onward, stand_fits}
 use Rattle.moves.specs.declared.Stand.{Stand}
@@ -20,18 +20,6 @@ use Rattle.moves.proofs.Laws.{state_stand, pass_small}
 -- ---- whether the scan stands so
 
 module _ (I : ℕ) (t : Stand) where
-  pub fits_large : all_of most_n < I → false ≡ stand_fits I t
-  unfolding stand_fits
-  fits_large h = rw (sym (in_large I t.place h))
-
-  pub fits_past : I ≤ all_of most_n → I ≤ t.place → false ≡ stand_fits I t
-  unfolding stand_fits
-  fits_past h w = rw (sym (in_so I t.place h), le-ltb t.place I w)
-
-  pub fits_so : I ≤ all_of most_n → t.place < I → ltb t.pass 3 ≡ stand_fits I t
-  unfolding stand_fits
-  fits_so h w = rw (sym (in_so I t.place h), lt-ltb t.place I w)
-
   pub fits_both : stand_fits I t ≡ true → (t.place < I) × (I ≤ all_of most_n) × (t.pass < 3)
   unfolding stand_fits
   fits_both e =

@@ -55,20 +55,20 @@ fn behind(marks: &[u8], place: usize) -> usize
 // Over the coefficients from a place on that were found before this plane, four at a time where it can be: the pixel pass asks
 // nothing there.
 fn over_old(marks: &[u8], place: usize) -> usize
-    requires { length marks.now ≤ all_of most_n }
+    requires { (place ≤ length marks.now) × (length marks.now ≤ all_of most_n) }
     ensures { Passed (length marks.now) pixels place marks.now result marks.now }
 {
     let mut at = place;
+    // Kept: a while, since it goes by fours as long as a test of four marks holds.
     while marking::same_four(marks, at, marking::MSP) {
         at += 4;
     }
-    while at < marks.len() {
-        if marks[at] != marking::MSP {
-            return at;
+    for i in at..marks.len() {
+        if marks[i] != marking::MSP {
+            return i;
         }
-        at += 1;
     }
-    at
+    marks.len()
 }
 
 // Over the fours from a place on that are in no set: the set pass asks nothing there.
@@ -77,10 +77,8 @@ fn over_alone(marks: &[u8], place: usize) -> usize
     ensures { Passed (length marks.now) sets place marks.now result marks.now }
 {
     let mut at = place;
-    while at < marks.len() {
-        if marking::MCP <= marks[at] {
-            return at;
-        }
+    // Kept: a while, since it counts by fours, and its end is the answer also where that is past the marks.
+    while at < marks.len() && marks[at] < marking::MCP {
         at += 4;
     }
     at
@@ -103,21 +101,21 @@ fn is_new(marks: &mut [u8], place: usize) -> bool
 
 // Over such coefficients from a place on, four at a time where it can be.
 fn over_new(marks: &mut [u8], place: usize) -> usize
-    requires { length marks.old ≤ all_of most_n }
+    requires { (place ≤ length marks.old) × (length marks.old ≤ all_of most_n) }
     ensures { Passed (length marks.old) refining place marks.old result marks.new }
 {
     let mut at = place;
+    // Kept: a while, since it writes by fours as long as a test of four marks holds.
     while marking::same_four(marks, at, marking::MNP) {
         marking::set_four(marks, at, marking::MSP);
         at += 4;
     }
-    while at < marks.len() {
-        if !is_new(marks, at) {
-            return at;
+    for i in at..marks.len() {
+        if !is_new(marks, i) {
+            return i;
         }
-        at += 1;
     }
-    at
+    marks.len()
 }
 
 // A place of the pixel pass.
@@ -253,16 +251,11 @@ fn tell(marks: &mut [u8], from: Stand, bit: bool) -> Stand
 }
 
 // Whether the scan stands so in a table of this many marks.
+#[tactic(auto, using(marking::proofs::Laws::most_all), unfolding(crate::specs::Moves::stand_fits, marking::specs::Marking::in_table))]
 fn stand_fits(all: usize, from: Stand) -> bool
     ensures { result ≡ stand_fits all from }
 {
-    if sizes::all_of(sizes::MOST_N) < all {
-        return false;
-    }
-    if all <= from.place {
-        return false;
-    }
-    from.pass < 3
+    all <= sizes::all_of(sizes::MOST_N) && from.place < all && from.pass < 3
 }
 
 // The answer to the question where the scan stands, and the silent moves after it. Where the scan can't stand so, nothing is done.

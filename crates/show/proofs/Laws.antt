@@ -1,45 +1,15 @@
--- When a file is too large, way by way; how long a number is; and a row as a part of the picture.
+-- How long a number is; and a row as a part of the picture.
 use mathlib.Core.Path.{◌≡◌}
-use mathlib.Core.Bool.{true, false}
 use mathlib.Core.List.{List}
 use Prim.Native.Nat.{ℕ, zero, suc, ◌+◌, ◌*◌, ◌-◌, ◌≤◌, ◌<◌}
 use native.Mathlib.Omega.{arith}
-use borrow.Author.Tests.{lt-ltb, le-ltb}
-use lib.Dec.{leb}
 use lib.IntN.{ℤ, pos, negsuc}
 use lib.ListN.{length, take, drop, length-drop}
 use lib.Seq.{take_all}
 use mir.Syntax.{w32}
 use mir.Val.{SFits}
-use Rattle.sizes.specs.Sizes.{most_n}
 use Rattle.decimal.specs.Decimal.{signed_decimal}
 use Rattle.decimal.proofs.Laws.{signed_most}
-use Rattle.txp.specs.Header.{letters_fit, version_fits, header_of}
-use Rattle.show.specs.Text.{most_shown, most_shown_n, too_large}
-
-module _ (file : List ℕ) where
-  pub large_long : most_shown < length file → true ≡ too_large file
-  unfolding too_large
-  large_long h = rw (lt-ltb most_shown (length file) h)
-
-  module _ (h : length file ≤ most_shown) where
-    pub large_letters : letters_fit file ≡ false → false ≡ too_large file
-    unfolding too_large
-    large_letters e = rw (le-ltb most_shown (length file) h, e)
-
-    module _ (e : letters_fit file ≡ true) where
-      pub large_version : version_fits file ≡ false → false ≡ too_large file
-      unfolding too_large
-      large_version f = rw (le-ltb most_shown (length file) h, e, f)
-
-      module _ (f : version_fits file ≡ true) where
-        pub large_small : (header_of file).n ≤ most_shown_n → false ≡ too_large file
-        unfolding too_large
-        large_small g = rw (le-ltb most_shown (length file) h, e, f, le-ltb most_shown_n (header_of file).n g)
-
-        pub large_most : most_shown_n < (header_of file).n → leb (header_of file).n most_n ≡ too_large file
-        unfolding too_large
-        large_most g = rw (le-ltb most_shown (length file) h, e, f, lt-ltb most_shown_n (header_of file).n g)
 
 -- a 32-bit number with a sign has at most 11 characters
 pub signed_short : (z : ℤ) → SFits w32 z → length (signed_decimal z) ≤ 11

@@ -21,23 +21,13 @@ const MOST_SHOWN: usize = 16384;
 const MOST_SHOWN_N: u32 = 6;
 
 // Whether a file is too large to be shown.
+#[tactic(auto, unfolding(crate::specs::Text::too_large))]
 fn is_large(file: &[u8]) -> bool
     ensures { result ≡ too_large file.now }
 {
-    if MOST_SHOWN < file.len() {
-        return true;
-    }
-    if !txp::letters_fit(file) {
-        return false;
-    }
-    if !txp::version_fits(file) {
-        return false;
-    }
-    let h = txp::header_of(file);
-    if h.n <= MOST_SHOWN_N {
-        return false;
-    }
-    h.n <= MOST_N
+    let n = txp::header_of(file).n;
+    MOST_SHOWN < file.len()
+        || (txp::letters_fit(file) && txp::version_fits(file) && MOST_SHOWN_N < n && n <= MOST_N)
 }
 
 // Stores a character at an entry; past the end it does nothing.

@@ -1,5 +1,5 @@
 // The calls of the stepped decoder, with the record by value.
-ghost use Rattle.std.specs.Prelude.{◌≡◌, ◌*◌, ◌-◌, ◌≤◌, length};
+ghost use Rattle.std.specs.Prelude.{◌≡◌, ◌*◌, ◌-◌, ◌≤◌, length, Err};
 ghost use Rattle.decoder.specs.Body.{tables};
 ghost use Rattle.steps.specs.Records.{step};
 ghost use Rattle.decoder.specs.Ending.{ending};
@@ -20,7 +20,7 @@ fn climb_own(
     precisions: &mut [u8],
     marks: &mut [u8],
 ) -> Stepped
-    requires { CallReady dial (usable_bits declared body.now) (length values.old) (length precisions.old) (length marks.old) }
+    requires { CallReady dial (usable_bits declared body.now) (length values.old) (length precisions.old) (length marks.old) × (dial.used ≤ to) }
     ensures { step result.answer result.dial (tables values.new precisions.new marks.new) ≡ own_steps (ending declared body.now) (forward_in (ending declared body.now) (usable_bits declared body.now) body.now) (to - dial.used) dial (tables values.old precisions.old marks.old) }
 {
     let all = sizes::all_of(dial.n);
@@ -36,6 +36,7 @@ fn climb_own(
 }
 
 // Steps back over them.
+// Kept: beside `climb_own`, since each is the one call of another function, under a contract of its own.
 fn descend_own(
     dial: Record,
     body: &[u8],
@@ -45,7 +46,7 @@ fn descend_own(
     precisions: &mut [u8],
     marks: &mut [u8],
 ) -> Stepped
-    requires { CallReady dial (usable_bits declared body.now) (length values.old) (length precisions.old) (length marks.old) }
+    requires { CallReady dial (usable_bits declared body.now) (length values.old) (length precisions.old) (length marks.old) × (to ≤ dial.used) }
     ensures { step result.answer result.dial (tables values.new precisions.new marks.new) ≡ own_steps (ending declared body.now) (back_in (ending declared body.now) body.now) (dial.used - to) dial (tables values.old precisions.old marks.old) }
 {
     let all = sizes::all_of(dial.n);
@@ -58,6 +59,16 @@ fn descend_own(
         &mut precisions[..all],
         &mut marks[..all],
     )
+}
+
+// A refusal, which leaves the record.
+fn refused(dial: Record, why: Refusal) -> Stepped
+    ensures { result ≡ record { dial = dial; answer = Err why } }
+{
+    Stepped {
+        dial,
+        answer: Err(why),
+    }
 }
 
 // The record and the tables before the first bit.
@@ -83,10 +94,7 @@ pub fn take_start(
                 ending: decoder::ending_of(p, Ok(false)),
             }),
         },
-        Err(why) => Stepped {
-            dial,
-            answer: Err(why),
-        },
+        Err(why) => refused(dial, why),
     }
 }
 
@@ -105,10 +113,7 @@ pub fn take_forward(
     match crate::records::check(dial, most, values.len(), precisions.len(), marks.len()) {
         Ok(()) => {
             if dial.used == most {
-                return Stepped {
-                    dial,
-                    answer: Err(Refusal::Spent),
-                };
+                return refused(dial, Refusal::Spent);
             }
             climb_own(
                 dial,
@@ -120,10 +125,7 @@ pub fn take_forward(
                 marks,
             )
         }
-        Err(why) => Stepped {
-            dial,
-            answer: Err(why),
-        },
+        Err(why) => refused(dial, why),
     }
 }
 
@@ -142,10 +144,7 @@ pub fn take_back(
     match crate::records::check(dial, most, values.len(), precisions.len(), marks.len()) {
         Ok(()) => {
             if dial.used == 0 {
-                return Stepped {
-                    dial,
-                    answer: Err(Refusal::First),
-                };
+                return refused(dial, Refusal::First);
             }
             descend_own(
                 dial,
@@ -157,10 +156,7 @@ pub fn take_back(
                 marks,
             )
         }
-        Err(why) => Stepped {
-            dial,
-            answer: Err(why),
-        },
+        Err(why) => refused(dial, why),
     }
 }
 
@@ -184,9 +180,6 @@ pub fn take_turn(
             }
             climb_own(dial, body, declared, to, values, precisions, marks)
         }
-        Err(why) => Stepped {
-            dial,
-            answer: Err(why),
-        },
+        Err(why) => refused(dial, why),
     }
 }

@@ -114,29 +114,23 @@ pub(crate) fn climb(
     precisions: &mut [u8],
     marks: &mut [u8],
 ) -> Stepped
-    requires { Ready dial (length values.old) (length precisions.old) (length marks.old) }
+    requires { Ready dial (length values.old) (length precisions.old) (length marks.old) × (dial.used ≤ to) }
     ensures { step result.answer result.dial (tables values.new precisions.new marks.new) ≡ steps_of (forward_in (ending declared body.now) (usable_bits declared body.now) body.now) (to - dial.used) (step (position_of (ending declared body.now) dial) dial (tables values.old precisions.old marks.old)) }
 {
     let mut at = crate::records::stand_of(dial);
-    let mut used = dial.used;
-    while used < to {
-        match view::read(body, used as usize, declared as usize) {
-            Ok(bit) => {
-                if at.left == 0 {
-                    return refuse(dial, used, at, Refusal::Beyond(used));
-                }
-                if bars(dial, used, at, bit, marks) {
-                    return refuse(dial, used, at, Refusal::Contradiction(used));
-                }
-                at = tell(dial, at, bit, values, precisions, marks);
-                used = used + 1;
-            }
-            Err(_) => {
-                return refuse(dial, used, at, Refusal::Spent);
-            }
+    for used in dial.used..to {
+        let Ok(bit) = view::read(body, used as usize, declared as usize) else {
+            return refuse(dial, used, at, Refusal::Spent);
+        };
+        if at.left == 0 {
+            return refuse(dial, used, at, Refusal::Beyond(used));
         }
+        if bars(dial, used, at, bit, marks) {
+            return refuse(dial, used, at, Refusal::Contradiction(used));
+        }
+        at = tell(dial, at, bit, values, precisions, marks);
     }
-    arrive(dial, body, declared, used, at)
+    arrive(dial, body, declared, to, at)
 }
 
 // Steps back, until `to` bits are used.
@@ -149,23 +143,17 @@ pub(crate) fn descend(
     precisions: &mut [u8],
     marks: &mut [u8],
 ) -> Stepped
-    requires { Ready dial (length values.old) (length precisions.old) (length marks.old) × (dial.used ≤ usable_bits declared body.now) }
+    requires { Ready dial (length values.old) (length precisions.old) (length marks.old) × (dial.used ≤ usable_bits declared body.now) × (to ≤ dial.used) }
     ensures { step result.answer result.dial (tables values.new precisions.new marks.new) ≡ steps_of (back_in (ending declared body.now) body.now) (dial.used - to) (step (position_of (ending declared body.now) dial) dial (tables values.old precisions.old marks.old)) }
 {
     let coarsest = sizes::coarsest_of(dial.n, dial.l);
     let mut at = crate::records::stand_of(dial);
-    let mut used = dial.used;
-    while to < used {
-        match view::read(body, used as usize - 1, declared as usize) {
-            Ok(bit) => {
-                at = undo::go_back(marks, values, coarsest, dial.p, at);
-                untell(dial, at, bit, values, precisions, marks);
-                used = used - 1;
-            }
-            Err(_) => {
-                return refuse(dial, used, at, Refusal::Spent);
-            }
-        }
+    for used in (to..dial.used).rev() {
+        let Ok(bit) = view::read(body, used as usize, declared as usize) else {
+            return refuse(dial, used, at, Refusal::Spent);
+        };
+        at = undo::go_back(marks, values, coarsest, dial.p, at);
+        untell(dial, at, bit, values, precisions, marks);
     }
-    arrive(dial, body, declared, used, at)
+    arrive(dial, body, declared, to, at)
 }

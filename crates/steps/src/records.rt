@@ -14,56 +14,38 @@ use moves::Stand;
 use refusals::Refusal;
 
 // Whether a record stands at the end.
+#[tactic(auto, unfolding(crate::specs::Records::is_end))]
 fn is_end(dial: Record) -> bool
     requires { side_fits dial.n ≡ true }
     ensures { result ≡ is_end dial }
 {
-    if dial.plane != 0 {
-        return false;
-    }
-    if dial.pass != 2 {
-        return false;
-    }
-    if dial.place as usize != sizes::all_of(dial.n) {
-        return false;
-    }
-    dial.pending == 0
+    dial.plane == 0
+        && dial.pass == 2
+        && dial.place as usize == sizes::all_of(dial.n)
+        && dial.pending == 0
 }
 
 // Whether it stands in a plane, a pass and at a place that there are.
+#[tactic(auto, unfolding(crate::specs::Records::is_within))]
 fn is_within(dial: Record) -> bool
     requires { side_fits dial.n ≡ true }
     ensures { result ≡ is_within dial }
 {
-    if dial.p <= dial.plane {
-        return false;
-    }
-    if 2 < dial.pass {
-        return false;
-    }
-    if sizes::all_of(dial.n) <= dial.place as usize {
-        return false;
-    }
-    dial.pending < 2
+    dial.plane < dial.p
+        && dial.pass < 3
+        && (dial.place as usize) < sizes::all_of(dial.n)
+        && dial.pending < 2
 }
 
 // Whether a record is in range.
+#[tactic(auto, unfolding(crate::specs::Records::in_range))]
 fn in_range(dial: Record) -> bool
     ensures { result ≡ in_range dial }
 {
-    if !sizes::side_fits(dial.n) {
-        return false;
-    }
-    if !sizes::levels_fit(dial.n, dial.l) {
-        return false;
-    }
-    if sizes::MOST_PLANES < dial.p {
-        return false;
-    }
-    if is_end(dial) {
-        return true;
-    }
-    is_within(dial)
+    sizes::side_fits(dial.n)
+        && sizes::levels_fit(dial.n, dial.l)
+        && dial.p <= sizes::MOST_PLANES
+        && (is_end(dial) || is_within(dial))
 }
 
 // The first of refusals 16 and 5 that holds, if any: `most` bits are usable.

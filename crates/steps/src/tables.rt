@@ -25,28 +25,15 @@ pub(crate) fn asked(marks: &[u8], at: Stand) -> Asked
         return Asked::Nothing;
     }
     let mark = marks[place];
-    if at.pass == 0 {
-        if mark == marking::MIP {
-            return Asked::Bit;
-        }
-        return Asked::Nothing;
+    match at.pass {
+        0 if mark == marking::MIP => Asked::Bit,
+        1 if mark == marking::MD => Asked::Desc,
+        1 if mark == marking::MG => Asked::Grand,
+        1 if mark == marking::MCP => Asked::Bit,
+        0 | 1 => Asked::Nothing,
+        _ if mark == marking::MSP => Asked::More,
+        _ => Asked::Nothing,
     }
-    if at.pass == 1 {
-        if mark == marking::MD {
-            return Asked::Desc;
-        }
-        if mark == marking::MG {
-            return Asked::Grand;
-        }
-        if mark == marking::MCP {
-            return Asked::Bit;
-        }
-        return Asked::Nothing;
-    }
-    if mark == marking::MSP {
-        return Asked::More;
-    }
-    Asked::Nothing
 }
 
 // A value of a sign and a magnitude; 0 for one over the limit.
@@ -163,6 +150,7 @@ fn note_desc(precisions: &mut [u8], n: u32, l: u32, place: usize, plane: u8)
 }
 
 // The members of the GRAND that is tested at a place.
+// Kept: beside `note_desc`, since each is a comparison and a call, and the sets in their contracts are others.
 fn note_grand(precisions: &mut [u8], n: u32, l: u32, place: usize, plane: u8)
     requires { (length precisions.old ≡ all_of n) × (side_fits n ≡ true) × (levels_fit n l ≡ true) }
     ensures { precisions.new ≡ set_each (grand n l (place / 16)) plane precisions.old }
@@ -187,27 +175,10 @@ pub(crate) fn note(
     ensures { precisions.new ≡ moved.noted n l what place plane bit precisions.old }
 {
     match what {
-        Asked::Nothing => {}
-        Asked::Sign => {
-            store(precisions, place, plane);
-        }
-        Asked::More => {
-            store(precisions, place, plane);
-        }
-        Asked::Bit => {
-            if !bit {
-                store(precisions, place, plane);
-            }
-        }
-        Asked::Desc => {
-            if !bit {
-                note_desc(precisions, n, l, place, plane);
-            }
-        }
-        Asked::Grand => {
-            if !bit {
-                note_grand(precisions, n, l, place, plane);
-            }
-        }
+        Asked::Sign | Asked::More => store(precisions, place, plane),
+        Asked::Bit if !bit => store(precisions, place, plane),
+        Asked::Desc if !bit => note_desc(precisions, n, l, place, plane),
+        Asked::Grand if !bit => note_grand(precisions, n, l, place, plane),
+        _ => {}
     }
 }

@@ -54,10 +54,7 @@ pub struct Decoded {
 fn byte_at(file: &[u8], i: usize) -> u32
     ensures { (result ≡ get_or file.now i 0) × (result < 256) }
 {
-    if i < file.len() {
-        return file[i] as u32;
-    }
-    0
+    file.get(i).copied().map_or(0, u32::from)
 }
 
 // The 16 bits at a place, the high byte first.
@@ -71,19 +68,14 @@ fn two_at(file: &[u8], i: usize) -> u32
 }
 
 // The condition of refusal 7.
+#[tactic(auto, unfolding(crate::specs::Header::letters_fit))]
 pub fn letters_fit(file: &[u8]) -> bool
     ensures { result ≡ letters_fit file.now }
 {
-    if file.len() < HEADER_SIZE {
-        return false;
-    }
-    if byte_at(file, 0) != 0x54 {
-        return false;
-    }
-    if byte_at(file, 1) != 0x58 {
-        return false;
-    }
-    byte_at(file, 2) == 0x50
+    HEADER_SIZE <= file.len()
+        && byte_at(file, 0) == 0x54
+        && byte_at(file, 1) == 0x58
+        && byte_at(file, 2) == 0x50
 }
 
 // The condition of refusal 8.
@@ -300,6 +292,7 @@ pub fn decode(
 }
 
 // Reads a file, whole or cut, by the midpoint.
+// Kept: beside `decode`, since both names are those of the C interface, and README has them.
 pub fn decode_midpoint(
     file: &[u8],
     values: &mut [i32],

@@ -5,9 +5,9 @@ use mathlib.Core.Bool.{Bool, true, false, ◌&&◌, ◌||◌, not, cond, or-fals
 use mathlib.Core.List.{List}
 use native.Mathlib.Omega.{arith}
 use native.Mathlib.Decide.{dec_lt}
-use borrow.Author.Tests.{le-leb, lt-leb, ltb-true, leb-true, eqb-true, not-true}
+use borrow.Author.Tests.{le-leb, ltb-true, leb-true, eqb-true, not-true}
 use lib.Bits.{bit_or}
-use lib.Dec.{ltb, leb, eqb}
+use lib.Dec.{ltb, leb}
 use lib.ListN.{length, get_or, set}
 use lib.Seq.{get_or-set_other, set_comm}
 use Rattle.sizes.specs.Sizes.{most_n}
@@ -17,7 +17,7 @@ use Rattle.nls.specs.Scan.{Pass, pixels, sets, refining, state_at}
 use Rattle.nls.proofs.Booleans.{neither}
 use Rattle.marking.specs.Marking.{same_four, set_four}
 use Rattle.marking.proofs.Laws.{four_told}
-use Rattle.moves.specs.Stands.{pass_of}
+use Rattle.moves.specs.Stands.{pass_of, stand}
 use Rattle.undo.specs.Back.{is, alone, block, fresh, prior}
 use Rattle.undo.specs.declared.Before.TheVariants.{Quiet}
 use Rattle.undo.specs.Undoing.{Was, Hushed}
@@ -40,12 +40,6 @@ four_before m q v e =
     let h = leb-true 4 q (both_left (leb 4 q) _ e) in
     let t = four_told m (q - 4) v (both_right (leb 4 q) _ e) in
     (h, omega arith)
-
--- what a test for the end, or for four such at a place, tells
-pub four_here : (m : List ℕ) (I q : ℕ) → (eqb (q % 4) 0 && (leb I q || alone m q)) ≡ true → (q % 4 ≡ 0) × (q < I → alone m q ≡ true)
-four_here m I q e =
-    let h = both_right (eqb (q % 4) 0) _ e in
-    (eqb-true (q % 4) 0 (both_left (eqb (q % 4) 0) _ e), λ k. rw (lt-leb I q k) at h)
 
 -- ---- marks
 
@@ -73,16 +67,13 @@ still m j k v w h e = get_or-set_other m k j v 0 (λ z. omega arith) ∙ e
 -- ---- runs
 
 module _ (I D P : ℕ) (big : ℕ → ℕ → Bool) (l : ℕ) where
-  pub hushed_none : (p : Pass) (q : ℕ) (m : List ℕ) → Hushed I D P big l p q m q m
-  hushed_none p q m = record { near = omega arith; same = refl }
-
   pub hushed_on : {p : Pass} {q : ℕ} {m : List ℕ} {r : ℕ} {m' : List ℕ} {s : ℕ} {m'' : List ℕ} → Hushed I D P big l p q m r m' → Hushed I D P big l p r m' s m'' → Hushed I D P big l p q m s m''
   hushed_on h k = record { near = omega arith; same = k.same ∙ h.same }
 
   module _ (few : l ≤ P) where
-    hushed_move : (k q r : ℕ) (m m' : List ℕ) → q ≤ I → r ≤ q → Was (prior I D P big (state_at l (pass_of k) q m)) (Quiet l k r) m m' → Hushed I D P big l (pass_of k) q m r m'
+    hushed_move : (k q r : ℕ) (m m' : List ℕ) → q ≤ I → r ≤ q → Was (prior I D P big (state_at l (pass_of k) q m)) (Quiet (stand l k r false)) m m' → Hushed I D P big l (pass_of k) q m r m'
     hushed_move k q r m m' h n w =
-        let x = was_quiet (prior I D P big (state_at l (pass_of k) q m)) l k r m m' w in
+        let x = was_quiet (prior I D P big (state_at l (pass_of k) q m)) (stand l k r false) m m' w in
         record { near = n; same = sym (back_quiet I D P big (state_at l (pass_of k) q m) (state_at l (pass_of k) r m') x.0 few h) }
 
     -- ---- the pixel pass: coefficients that are found
@@ -118,10 +109,6 @@ module _ (I D P : ℕ) (big : ℕ → ℕ → Bool) (l : ℕ) where
         go true g t f = let x = both_not _ _ g in rw f (new_one m q i e h (eqb-true (get_or m i 0) 3 x.0) x.1)
         go false g t f = rw f (none_one m q i e h (eqb-true (get_or m i 0) 1 (sym (or-false (is m i 1)) ∙ t)))
 
-    -- where it did ask, nothing is set
-    pub back_none : (m m' : List ℕ) (q i : ℕ) → (is m i 1 || (is m i 3 && not (big l i))) ≡ false → m' ≡ cond (is m i 3 && not (big l i)) (set m i 2) m → Hushed I D P big l refining q m q m'
-    back_none m m' q i e f = rw (rw (neither (is m i 1) _ e).1 at f) (hushed_none refining q m)
-
     -- four that were found, from the last to the first
     new_each : (m : List ℕ) (q i : ℕ) → i + 4 ≡ q → q ≤ I → (get_or m i 0 ≡ 3) × (get_or m (i + 1) 0 ≡ 3) × (get_or m (i + 2) 0 ≡ 3) × (get_or m (i + 3) 0 ≡ 3)
         → big l i ≡ false → big l (i + 1) ≡ false → big l (i + 2) ≡ false → big l (i + 3) ≡ false → Hushed I D P big l refining q m i (set (set (set (set m (i + 3) 2) (i + 2) 2) (i + 1) 2) i 2)
@@ -151,8 +138,8 @@ module _ (I D P : ℕ) (big : ℕ → ℕ → Bool) (l : ℕ) where
         let x = both_not (alone m (q - 4)) _ e in
         hushed_move 1 q (q - 4) m m h (omega arith) (go (dec_lt q I) (block_alone I D P big l q m _ _ x.0 x.1))
       where
-        go : Dec (q < I) → Ending I D P big l q m (Quiet l 1 (q - 4)) m → Was (prior I D P big (state_at l sets q m)) (Quiet l 1 (q - 4)) m m
+        go : Dec (q < I) → Ending I D P big l q m (Quiet (stand l 1 (q - 4) false)) m → Was (prior I D P big (state_at l sets q m)) (Quiet (stand l 1 (q - 4) false)) m m
         go (yes k) =
             let b = ltb-true (get_or m q 0) 4 (both_right (ltb 0 (get_or m q 0)) _ (a k)) in
-            sets_block I D P big l q m f (omega arith) false (many_none D m q (omega arith)) refl (Quiet l 1 (q - 4)) m (omega arith)
-        go (no k) = sets_end I D P big l q m f (Quiet l 1 (q - 4)) m (omega arith) (omega arith)
+            sets_block I D P big l q m f (omega arith) false (many_none D m q (omega arith)) refl (Quiet (stand l 1 (q - 4) false)) m (omega arith)
+        go (no k) = sets_end I D P big l q m f (Quiet (stand l 1 (q - 4) false)) m (omega arith) (omega arith)

@@ -3,29 +3,28 @@ use Prim.Native.Nat.{ℕ, ◌+◌, ◌*◌, ◌-◌, ◌%◌, ◌≤◌, ◌<◌
 use mathlib.Core.Path.{◌≡◌, refl, sym, ap, ◌∙◌}
 use mathlib.Core.Bool.{Bool, true, false, ◌&&◌, ◌||◌}
 use mathlib.Core.List.{List}
+use mathlib.Core.Logic.{◌⊎◌, inl, inr}
 use native.Mathlib.Numerals.{add-one}
 use native.Mathlib.Omega.{arith}
-use borrow.Author.Tests.{lt-ltb, le-ltb, leb-true, eq-eqb, ne_eqb, eqb-true}
+use borrow.Author.Tests.{lt-ltb, eq-eqb, ne_eqb}
 use lib.Dec.{ltb, leb, eqb, lit<}
 use lib.ListN.{length, get_or, set, get_or-eq_default}
-use Rattle.sizes.proofs.Laws.{both_left, both_right}
 use Rattle.nls.specs.Scan.{pixels, sets, refining, state_at}
 use Rattle.moves.specs.declared.Stand.{Stand}
 use Rattle.moves.specs.Stands.{pass_of, stand, state_of}
 use Rattle.undo.specs.Back.{Prior, first, quiet, answered, is, block, four_are, many_descs, join_desc, join_grand, fresh, unasked, prior_block, prior}
 use Rattle.undo.specs.declared.Before.{Before}
 use Rattle.undo.specs.declared.Before.TheVariants.{Nothing, Quiet, Answer}
-use Rattle.undo.specs.Undoing.{Was}
+use Rattle.undo.specs.Undoing.{Was, plain}
 
 -- ---- tests
 
--- where four DESC begin is a multiple of 16, and below the roots
-pub many_far : (D : ℕ) (m : List ℕ) (q : ℕ) → many_descs D m q ≡ true → (q % 16 ≡ 0) × (4 * D ≤ q)
-many_far D m q e =
-    let h = both_right (eqb (q % 16) 0) _ e in
-    (eqb-true (q % 16) 0 (both_left (eqb (q % 16) 0) _ e), leb-true (4 * D) q (both_left (leb (4 * D) q) _ h))
+-- a mark is one of two
+either_is : (m : List ℕ) (i v w : ℕ) → (get_or m i 0 ≡ v) ⊎ ((get_or m i 0 ≡ v → ⊥) × (get_or m i 0 ≡ w)) → (is m i v || is m i w) ≡ true
+either_is m i v w (inl e) = rw (eq-eqb (get_or m i 0) v e) refl
+either_is m i v w (inr e) = rw (ne_eqb (get_or m i 0) v e.0, eq-eqb (get_or m i 0) w e.1) refl
 
--- nor do they begin where there is no DESC
+-- four DESC do not begin where there is none
 pub many_none : (D : ℕ) (m : List ℕ) (q : ℕ) → (get_or m q 0 ≡ 5 → ⊥) → false ≡ many_descs D m q
 many_none D m q h = go (eqb (q % 16) 0) (leb (4 * D) q)
   where
@@ -43,36 +42,27 @@ module _ (I D P : ℕ) (big : ℕ → ℕ → Bool) where
   module _ (l q : ℕ) (m : List ℕ) where
     -- ---- the pixel pass
 
-    pub pixel_up : q ≡ 0 → l < P → Was (prior I D P big (state_at l pixels q m)) (Quiet (l + 1) 2 I) m m
+    pub pixel_up : q ≡ 0 → l < P → Was (prior I D P big (state_at l pixels q m)) (Quiet (stand (l + 1) 2 I false)) m m
     unfolding pass_of
     pixel_up z h = rw (eq-eqb q 0 z, lt-ltb l P h) (ap (λ (x : ℕ). state_at x refining I m) (sym (add-one l)), lit< tt)
 
-    pub pixel_first : q ≡ 0 → P ≤ l → Was (prior I D P big (state_at l pixels q m)) Nothing m m
-    pixel_first z h = rw (eq-eqb q 0 z, le-ltb l P h)
-
     module _ (i : ℕ) (n : q ≡ 0 → ⊥) (e : i ≡ block m q) where
-      pixel_asked : (r : Before) (m' : List ℕ) → (is m i 1 || is m i 2) ≡ true → r ≡ Answer (stand l 0 i (is m i 2)) → m' ≡ set m i 1 → Was (prior I D P big (state_at l pixels q m)) r m m'
+      pub pixel_asked : (r : Before) (m' : List ℕ) → (get_or m i 0 ≡ 1) ⊎ ((get_or m i 0 ≡ 1 → ⊥) × (get_or m i 0 ≡ 2)) → r ≡ Answer (stand l 0 i (is m i 2)) → m' ≡ set m i 1 → Was (prior I D P big (state_at l pixels q m)) r m m'
       unfolding pass_of
-      pixel_asked r m' t er em = rw (ne_eqb q 0 n, ← e, t, er, em) (asked_back l 0 i 1 m (is m i 2) (lit< tt))
+      pixel_asked r m' t er em = rw (ne_eqb q 0 n, ← e, either_is m i 1 2 t, er, em) (asked_back l 0 i 1 m (is m i 2) (lit< tt))
 
-      pub pixel_none : (r : Before) (m' : List ℕ) → get_or m i 0 ≡ 1 → r ≡ Answer (stand l 0 i (is m i 2)) → m' ≡ set m i 1 → Was (prior I D P big (state_at l pixels q m)) r m m'
-      pixel_none r m' h = pixel_asked r m' (rw (eq-eqb (get_or m i 0) 1 h))
-
-      pub pixel_found : (r : Before) (m' : List ℕ) → (get_or m i 0 ≡ 1 → ⊥) → get_or m i 0 ≡ 2 → r ≡ Answer (stand l 0 i (is m i 2)) → m' ≡ set m i 1 → Was (prior I D P big (state_at l pixels q m)) r m m'
-      pixel_found r m' k h = pixel_asked r m' (rw (ne_eqb (get_or m i 0) 1 k, eq-eqb (get_or m i 0) 2 h))
-
-      pub pixel_quiet : (get_or m i 0 ≡ 1 → ⊥) → (get_or m i 0 ≡ 2 → ⊥) → Was (prior I D P big (state_at l pixels q m)) (Quiet l 0 i) m m
+      pub pixel_quiet : (get_or m i 0 ≡ 1 → ⊥) → (get_or m i 0 ≡ 2 → ⊥) → Was (prior I D P big (state_at l pixels q m)) (Quiet (stand l 0 i false)) m m
       unfolding pass_of
       pixel_quiet k h = rw (ne_eqb q 0 n, ← e, ne_eqb (get_or m i 0) 1 k, ne_eqb (get_or m i 0) 2 h) (refl, lit< tt)
 
     -- ---- the refinement pass
 
-    pub refining_start : q ≡ 0 → Was (prior I D P big (state_at l refining q m)) (Quiet l 1 I) m m
+    pub refining_start : q ≡ 0 → Was (prior I D P big (state_at l refining q m)) (Quiet (stand l 1 I false)) m m
     unfolding pass_of
     refining_start z = rw (eq-eqb q 0 z) (refl, lit< tt)
 
     module _ (i : ℕ) (n : q ≡ 0 → ⊥) (e : i ≡ block m q) where
-      pub refining_other : (get_or m i 0 ≡ 3 → ⊥) → Was (prior I D P big (state_at l refining q m)) (Quiet l 2 i) m m
+      pub refining_other : (get_or m i 0 ≡ 3 → ⊥) → Was (prior I D P big (state_at l refining q m)) (Quiet (stand l 2 i false)) m m
       unfolding pass_of
       refining_other h = rw (ne_eqb q 0 n, ← e, ne_eqb (get_or m i 0) 3 h) (refl, lit< tt)
 
@@ -80,7 +70,7 @@ module _ (I D P : ℕ) (big : ℕ → ℕ → Bool) where
       unfolding pass_of
       refining_asked t h b k = rw (ne_eqb q 0 n, ← e, eq-eqb (get_or m i 0) 3 h, sym b ∙ k) (refl, lit< tt)
 
-      pub refining_new : (t : Bool) → get_or m i 0 ≡ 3 → t ≡ big l i → t ≡ false → Was (prior I D P big (state_at l refining q m)) (Quiet l 2 i) m (set m i 2)
+      pub refining_new : (t : Bool) → get_or m i 0 ≡ 3 → t ≡ big l i → t ≡ false → Was (prior I D P big (state_at l refining q m)) (Quiet (stand l 2 i false)) m (set m i 2)
       unfolding pass_of
       refining_new t h b k = rw (ne_eqb q 0 n, ← e, eq-eqb (get_or m i 0) 3 h, sym b ∙ k) (refl, lit< tt)
 
@@ -90,20 +80,16 @@ module _ (I D P : ℕ) (big : ℕ → ℕ → Bool) where
     unfolding pass_of
     block_new a n r m' ea en er em = rw (ea, en, er, em) (asked_back l 1 (q - 1) 4 m (is m (q - 1) 2) (lit< tt))
 
-    pub block_alone : (a n : Bool) → a ≡ true → n ≡ false → Was (prior_block I D P big l q m a n) (Quiet l 1 (q - 4)) m m
+    pub block_alone : (a n : Bool) → a ≡ true → n ≡ false → Was (prior_block I D P big l q m a n) (Quiet (stand l 1 (q - 4) false)) m m
     unfolding pass_of
     block_alone a n ea en = rw (ea, en) (refl, lit< tt)
 
     module _ (a n : Bool) (ea : a ≡ false) (i : ℕ) (e : i ≡ block m q) where
-      pub block_desc : get_or m i 0 ≡ 5 → Was (prior_block I D P big l q m a n) (Answer (stand l 1 i false)) m m
+      pub block_set : (get_or m i 0 ≡ 5) ⊎ ((get_or m i 0 ≡ 5 → ⊥) × (get_or m i 0 ≡ 6)) → Was (prior_block I D P big l q m a n) (Answer (stand l 1 i false)) m m
       unfolding pass_of
-      block_desc h = rw (ea, ← e, eq-eqb (get_or m i 0) 5 h) (refl, lit< tt)
+      block_set h = rw (ea, ← e, either_is m i 5 6 h) (refl, lit< tt)
 
-      pub block_grand : (get_or m i 0 ≡ 5 → ⊥) → get_or m i 0 ≡ 6 → Was (prior_block I D P big l q m a n) (Answer (stand l 1 i false)) m m
-      unfolding pass_of
-      block_grand k h = rw (ea, ← e, ne_eqb (get_or m i 0) 5 k, eq-eqb (get_or m i 0) 6 h) (refl, lit< tt)
-
-      pub block_quiet : (get_or m i 0 ≡ 5 → ⊥) → (get_or m i 0 ≡ 6 → ⊥) → Was (prior_block I D P big l q m a n) (Quiet l 1 i) m m
+      pub block_quiet : (get_or m i 0 ≡ 5 → ⊥) → (get_or m i 0 ≡ 6 → ⊥) → Was (prior_block I D P big l q m a n) (Quiet (stand l 1 i false)) m m
       unfolding pass_of
       block_quiet k h = rw (ea, ← e, ne_eqb (get_or m i 0) 5 k, ne_eqb (get_or m i 0) 6 h) (refl, lit< tt)
 
@@ -127,7 +113,7 @@ module _ (I D P : ℕ) (big : ℕ → ℕ → Bool) where
         sets_grand t m' et k em = rw (eq-eqb (q % 4) 0 f, ne_eqb (get_or m q 0) 4 h, sym et ∙ k, em) (refl, lit< tt)
 
         module _ (t : Bool) (et : t ≡ many_descs D m q) (k : t ≡ false) where
-          pub sets_start : q ≡ 0 → Was (prior I D P big (state_at l sets q m)) (Quiet l 0 I) m m
+          pub sets_start : q ≡ 0 → Was (prior I D P big (state_at l sets q m)) (Quiet (stand l 0 I false)) m m
           unfolding pass_of
           sets_start z = rw (eq-eqb (q % 4) 0 f, ne_eqb (get_or m q 0) 4 h, sym et ∙ k, eq-eqb q 0 z) (refl, lit< tt)
 
@@ -139,20 +125,6 @@ module _ (I D P : ℕ) (big : ℕ → ℕ → Bool) where
           let z = get_or-eq_default m 0 past in
           sets_block (omega arith) false (many_none D m q (omega arith)) refl r m'
 
--- ---- the passes by number
-
-pub pass_pixels : (p : ℕ) → p ≡ 0 → pass_of p ≡ pixels
-unfolding pass_of
-pass_pixels p e = rw (eq-eqb p 0 e)
-
-pub pass_sets : (p : ℕ) → (p ≡ 0 → ⊥) → p ≡ 1 → pass_of p ≡ sets
-unfolding pass_of
-pass_sets p n e = rw (ne_eqb p 0 n, eq-eqb p 1 e)
-
-pub pass_refining : (p : ℕ) → (p ≡ 0 → ⊥) → (p ≡ 1 → ⊥) → pass_of p ≡ refining
-unfolding pass_of
-pass_refining p n k = rw (ne_eqb p 0 n, ne_eqb p 1 k)
-
 -- ---- what an answer tells
 
 pub was_nothing : (x : Prior) (m m' : List ℕ) → Was x Nothing m m' → (x ≡ first) × (m' ≡ m)
@@ -160,10 +132,10 @@ was_nothing first m m' w = (refl, w)
 was_nothing (quiet t) m m' w = absurd w
 was_nothing (answered t) m m' w = absurd w
 
-pub was_quiet : (x : Prior) (l p i : ℕ) (m m' : List ℕ) → Was x (Quiet l p i) m m' → (x ≡ quiet (state_at l (pass_of p) i m')) × (p < 3)
-was_quiet first l p i m m' w = absurd w
-was_quiet (quiet t) l p i m m' w = (ap quiet w.0, w.1)
-was_quiet (answered t) l p i m m' w = absurd w
+pub was_quiet : (x : Prior) (st : Stand) (m m' : List ℕ) → Was x (Quiet st) m m' → (x ≡ quiet (plain st m')) × (st.pass < 3)
+was_quiet first st m m' w = absurd w
+was_quiet (quiet t) st m m' w = (ap quiet w.0, w.1)
+was_quiet (answered t) st m m' w = absurd w
 
 pub was_answer : (x : Prior) (st : Stand) (m m' : List ℕ) → Was x (Answer st) m m' → (x ≡ answered (state_of st m')) × (st.pass < 3)
 was_answer first st m m' w = absurd w

@@ -8,12 +8,12 @@ use native.Mathlib.Numerals.{add-one}
 use native.Mathlib.Omega.{arith}
 use borrow.Author.Tests.{lt-ltb, le-ltb, ltb-true, ltb-false, eq-eqb, ne_eqb}
 use lib.Dec.{ltb}
-use lib.ListN.{length, get_or, set, length-set}
+use lib.ListN.{get_or, set}
 use Rattle.sizes.specs.Sizes.{most_n, all_of}
 use Rattle.nls.specs.Marks.{MN, push_from}
 use Rattle.marking.specs.Marking.{codes_end}
 use Rattle.marking.proofs.Laws.{push_enough}
-use Rattle.undo.specs.Back.{block_from, wipe_from, wiped, join_grand}
+use Rattle.undo.specs.Back.{block_from, wipe_from}
 
 -- ---- blocks
 
@@ -79,8 +79,3 @@ module _ (I : ℕ) where
   -- from place 16 on each code once is enough
   pub push_grand_most : (i : ℕ) (m : List ℕ) → I ≤ all_of most_n → 16 ≤ i → push_from I (codes_end - MN 3) (4 * i) (MN 3) m ≡ push_from I I (4 * i) (MN 3) m
   push_grand_most i m h w = push_enough I (codes_end - MN 3) I (4 * i) (MN 3) m (omega arith) (omega arith) (omega arith)
-
--- GRAND is joined by three pushes taken back and one made
-pub grand_joined : (i : ℕ) (m a b c d : List ℕ) → length a ≡ length m → length b ≡ length a → length c ≡ length b → a ≡ wiped (length m) (i + 12) m → b ≡ wiped (length a) (i + 8) a → c ≡ wiped (length b) (i + 4) b
-    → d ≡ push_from (length (set c i 6)) (length (set c i 6)) (4 * i) (MN 3) (set c i 6) → d ≡ join_grand (length m) i m
-grand_joined i m a b c d la lb lc ea eb ec ed = rw (ed, length-set c i 6, lc, ec, lb, eb, la, ea) refl

@@ -17,38 +17,38 @@ use Rattle.moves.proofs.Passes.{pass_back}
 use Rattle.undo.specs.Back.{answered, big_in, prior, prior_at, back}
 use Rattle.undo.specs.declared.Before.{Before}
 use Rattle.undo.specs.declared.Before.TheVariants.{Nothing, Quiet, Answer}
-use Rattle.undo.specs.Undoing.{Was, Hushed, Stood, Room, Scanned, table_fits, stand_fits, back_fits}
+use Rattle.undo.specs.Undoing.{Was, plain, Hushed, Stood, Room, Scanned, table_fits, stand_fits, back_fits}
 use Rattle.undo.proofs.Fuel.{behind, nearer, back_first, back_answered, back_quiet}
 use Rattle.undo.proofs.Steps.{was_nothing, was_quiet, was_answer}
 
 -- ---- a turn of the loop, where the way back from here is the whole way
 
-module _ (I D P : ℕ) (big : ℕ → ℕ → Bool) (l p q : ℕ) (m m' : List ℕ) (r : Before) (n : ℕ) (size : n ≡ I) (w : Was (prior n D P big (state_at l (pass_of p) q m)) r m m') (whole : State) (same : back I D P big (state_at l (pass_of p) q m) ≡ whole) where
-  here : Was (prior I D P big (state_at l (pass_of p) q m)) r m m'
-  here = subst (λ (k : ℕ). Was (prior k D P big (state_at l (pass_of p) q m)) r m m') size w
+module _ (I D P : ℕ) (big : ℕ → ℕ → Bool) (at : Stand) (m m' : List ℕ) (r : Before) (n : ℕ) (size : n ≡ I) (w : Was (prior n D P big (plain at m)) r m m') (whole : State) (same : back I D P big (plain at m) ≡ whole) where
+  here : Was (prior I D P big (plain at m)) r m m'
+  here = subst (λ (k : ℕ). Was (prior k D P big (plain at m)) r m m') size w
 
-  pub ends_first : r ≡ Nothing → p < 3 → Stood whole (stand l p q false) m'
+  pub ends_first : r ≡ Nothing → at.pass < 3 → Stood whole (stand at.left at.pass at.place false) m'
   ends_first e h =
-      let x = was_nothing (prior I D P big (state_at l (pass_of p) q m)) m m' (rw e at here) in
-      record { same = sym same ∙ back_first I D P big (state_at l (pass_of p) q m) x.0 ∙ ap (λ (k : List ℕ). state_at l (pass_of p) q k) (sym x.1); passed = h }
+      let x = was_nothing (prior I D P big (plain at m)) m m' (rw e at here) in
+      record { same = sym same ∙ back_first I D P big (plain at m) x.0 ∙ ap (λ (k : List ℕ). plain at k) (sym x.1); passed = h }
 
   pub ends_answer : (st : Stand) → r ≡ Answer st → Stood whole st m'
   ends_answer st e =
-      let x = was_answer (prior I D P big (state_at l (pass_of p) q m)) st m m' (rw e at here) in
-      record { same = sym same ∙ back_answered I D P big (state_at l (pass_of p) q m) (state_of st m') x.0; passed = x.1 }
+      let x = was_answer (prior I D P big (plain at m)) st m m' (rw e at here) in
+      record { same = sym same ∙ back_answered I D P big (plain at m) (state_of st m') x.0; passed = x.1 }
 
-  pub goes_on : (l' p' q' : ℕ) → r ≡ Quiet l' p' q' → l ≤ P → q ≤ I → (behind I D P big (state_at l' (pass_of p') q' m') < behind I D P big (state_at l (pass_of p) q m)) × (l' ≤ P) × (p' < 3) × (q' ≤ I) × (back I D P big (state_at l' (pass_of p') q' m') ≡ whole)
-  goes_on l' p' q' e h k =
-      let x = was_quiet (prior I D P big (state_at l (pass_of p) q m)) l' p' q' m m' (rw e at here) in
-      let f = nearer I D P big (state_at l (pass_of p) q m) (state_at l' (pass_of p') q' m') x.0 h k in
-      (f.0, f.1, x.1, f.2, sym (back_quiet I D P big (state_at l (pass_of p) q m) (state_at l' (pass_of p') q' m') x.0 h k) ∙ same)
+  pub goes_on : (to : Stand) → r ≡ Quiet to → at.left ≤ P → at.place ≤ I → (behind I D P big (plain to m') < behind I D P big (plain at m)) × (to.left ≤ P) × (to.pass < 3) × (to.place ≤ I) × (back I D P big (plain to m') ≡ whole)
+  goes_on to e h k =
+      let x = was_quiet (prior I D P big (plain at m)) to m m' (rw e at here) in
+      let f = nearer I D P big (plain at m) (plain to m') x.0 h k in
+      (f.0, f.1, x.1, f.2, sym (back_quiet I D P big (plain at m) (plain to m') x.0 h k) ∙ same)
 
   -- and further over a run of places where the pass asked nothing
-  pub runs_on : (l' p' q' : ℕ) → r ≡ Quiet l' p' q' → l ≤ P → q ≤ I → (s i : ℕ) (k : List ℕ) → s ≡ I → ((b : ℕ) → l' ≤ b → Hushed s D b big l' (pass_of p') q' m' i k)
-      → (behind I D P big (state_at l' (pass_of p') i k) < behind I D P big (state_at l (pass_of p) q m)) × (l' ≤ P) × (p' < 3) × (i ≤ I) × (back I D P big (state_at l' (pass_of p') i k) ≡ whole)
-  runs_on l' p' q' e h j s i k z f =
-      let g = goes_on l' p' q' e h j in
-      let x = subst (λ (t : ℕ). Hushed t D P big l' (pass_of p') q' m' i k) z (f P g.1) in
+  pub runs_on : (to : Stand) → r ≡ Quiet to → at.left ≤ P → at.place ≤ I → (s i : ℕ) (k : List ℕ) → s ≡ I → ((b : ℕ) → to.left ≤ b → Hushed s D b big to.left (pass_of to.pass) to.place m' i k)
+      → (behind I D P big (state_at to.left (pass_of to.pass) i k) < behind I D P big (plain at m)) × (to.left ≤ P) × (to.pass < 3) × (i ≤ I) × (back I D P big (state_at to.left (pass_of to.pass) i k) ≡ whole)
+  runs_on to e h j s i k z f =
+      let g = goes_on to e h j in
+      let x = subst (λ (t : ℕ). Hushed t D P big to.left (pass_of to.pass) to.place m' i k) z (f P g.1) in
       (omega arith, g.1, g.2, omega arith, x.same ∙ g.4)
 
 -- ---- what the tests tell
@@ -93,7 +93,7 @@ pending_stood I D P big t m e h =
     }
 
 -- none is pending
-pub plain_stood : (I D P : ℕ) (big : ℕ → ℕ → Bool) (t : Stand) (m m' : List ℕ) (st : Stand) → t.pending ≡ false → Stood (back I D P big (state_at t.left (pass_of t.pass) t.place m)) st m' → Stood (back I D P big (state_of t m)) st m'
+pub plain_stood : (I D P : ℕ) (big : ℕ → ℕ → Bool) (t : Stand) (m m' : List ℕ) (st : Stand) → t.pending ≡ false → Stood (back I D P big (plain t m)) st m' → Stood (back I D P big (state_of t m)) st m'
 plain_stood I D P big t m m' st e s = subst (λ (b : Bool). Stood (back I D P big (record { left = t.left; pass = pass_of t.pass; place = t.place; pending = b; marks = m })) st m') (sym e) s
 
 -- what is answered, and the marks, by whether a bit can be taken back
@@ -102,12 +102,5 @@ module _ (m : List ℕ) (v : List ℤ) (D P : ℕ) (t : Stand) where
   Outcome st m' =
       (st ≡ cond (back_fits (length m) (length v) D P t) (stand_of (back (length m) D P (big_in v) (state_of t m))) t) × (m' ≡ cond (back_fits (length m) (length v) D P t) (back (length m) D P (big_in v) (state_of t m)).marks m)
 
-  pub table_refused : table_fits (length m) (length v) D ≡ false → Outcome t m
-  table_refused e = (rw e, rw e)
-
-  module _ (e : table_fits (length m) (length v) D ≡ true) where
-    pub stand_refused : stand_fits (length m) P t ≡ false → Outcome t m
-    stand_refused f = (rw (e, f), rw (e, f))
-
-    pub went : (st : Stand) (m' : List ℕ) → stand_fits (length m) P t ≡ true → Stood (back (length m) D P (big_in v) (state_of t m)) st m' → Outcome st m'
-    went st m' f s = (rw (e, f) (stood_stand (back (length m) D P (big_in v) (state_of t m)) st m' s), rw (e, f) (stood_marks (back (length m) D P (big_in v) (state_of t m)) st m' s))
+  pub went : table_fits (length m) (length v) D ≡ true → (st : Stand) (m' : List ℕ) → stand_fits (length m) P t ≡ true → Stood (back (length m) D P (big_in v) (state_of t m)) st m' → Outcome st m'
+  went e st m' f s = (rw (e, f) (stood_stand (back (length m) D P (big_in v) (state_of t m)) st m' s), rw (e, f) (stood_marks (back (length m) D P (big_in v) (state_of t m)) st m' s))

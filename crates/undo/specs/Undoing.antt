@@ -10,17 +10,21 @@ use Rattle.undo.specs.Back.{Prior, first, quiet, answered, is, back}
 use Rattle.undo.specs.declared.Before.{Before}
 use Rattle.undo.specs.declared.Before.TheVariants.{Nothing, Quiet, Answer}
 
+-- the state where the scan stands, with no sign pending
+abbrev pub plain : Stand → List ℕ → State
+plain st m = state_at st.left (pass_of st.pass) st.place m
+
 -- the code's answer, and the marks m that have become m', are those of what led to a state
 abbrev pub Was : Prior → Before → List ℕ → List ℕ → Type 0
 Was first Nothing m m' = m' ≡ m
-Was (quiet t) (Quiet l p i) m m' = (t ≡ state_at l (pass_of p) i m') × (p < 3)
+Was (quiet t) (Quiet st) m m' = (t ≡ plain st m') × (st.pass < 3)
 Was (answered t) (Answer st) m m' = (t ≡ state_of st m') × (st.pass < 3)
-Was first (Quiet l p i) m m' = ⊥
+Was first (Quiet st) m m' = ⊥
 Was first (Answer st) m m' = ⊥
 Was (quiet t) Nothing m m' = ⊥
 Was (quiet t) (Answer st) m m' = ⊥
 Was (answered t) Nothing m m' = ⊥
-Was (answered t) (Quiet l p i) m m' = ⊥
+Was (answered t) (Quiet st) m m' = ⊥
 
 -- the four coefficients before place q are found; one of the four from i on is big; the one at i was found in the plane in progress
 abbrev pub four_found : List ℕ → ℕ → Bool

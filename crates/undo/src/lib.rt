@@ -1,23 +1,35 @@
 // One bit back: the state of the scan before its last answer, from marks and values alone.
 #![tactic(auto)]
 
-ghost use Rattle.std.specs.Prelude.{◌≡◌, Bool, true, ◌&&◌, ◌||◌, not, cond, ℕ, ◌+◌, ◌*◌, ◌-◌, ◌%◌, ◌<◌, ◌≤◌, ltb, leb, eqb, length, get_or, set};
+ghost use Rattle.std.specs.Prelude.{◌≡◌, Bool, true, false, ◌&&◌, ◌||◌, not, cond, ℕ, ◌+◌, ◌*◌, ◌-◌, ◌%◌, ◌<◌, ◌≤◌, ltb, leb, eqb, length, get_or, set};
 ghost use Rattle.sizes.specs.Sizes.{most_n, most_planes, all_of};
 ghost use Rattle.nls.specs.Marks.{no_mark, MIP, MNP, MSP, MCP, MD, MG, MN, push_from};
 ghost use Rattle.nls.specs.Scan.{pixels, sets, refining, state_at};
 ghost use Rattle.moves.specs.Stands.{pass_of, stand, state_of, stand_of};
 ghost use Rattle.undo.specs.Back as spec;
 ghost use Rattle.undo.specs.declared.Before.TheVariants.{Answer};
-ghost use Rattle.undo.specs.Undoing.{Was, Hushed, four_found, any_big, is_new, Stood, Room, Scanned, table_fits, stand_fits, back_fits};
+ghost use Rattle.undo.specs.Undoing.{Was, plain, Hushed, four_found, any_big, is_new, Stood, Room, Scanned, table_fits, stand_fits, back_fits};
 
 use moves::Stand;
 
-// What led to where the scan stands: nothing, a silent move from these planes left, pass and place, or an answer.
+// What led to where the scan stands: nothing, a silent move from there, where no sign is pending, or an answer.
 #[derive(Clone, Copy)]
 pub enum Before {
     Nothing,
-    Quiet(u32, u32, usize),
+    Quiet(Stand),
     Answer(Stand),
+}
+
+// At a place, with no sign pending.
+fn at(left: u32, pass: u32, place: usize) -> Stand
+    ensures { result ≡ stand left pass place false }
+{
+    Stand {
+        left,
+        pass,
+        place,
+        pending: false,
+    }
 }
 
 // Where the block of places that ends at `end` begins.
@@ -133,73 +145,56 @@ fn four_descs(marks: &[u8], coarsest: usize, place: usize) -> bool
 }
 
 // The answer of a coefficient whose mark was `mark` is taken back: MNP shows that it was the sign.
-fn unasked(marks: &mut [u8], left: u32, pass: u32, place: usize, mark: u8) -> Before
-    requires { place < length marks.old }
-    ensures value { result ≡ Answer (stand left pass place (spec.is marks.old place MNP)) }
-    ensures marks_after { marks.new ≡ set marks.old place mark }
+fn unasked(marks: &mut [u8], from: Stand, mark: u8) -> Before
+    requires { from.place < length marks.old }
+    ensures value { result ≡ Answer (stand from.left from.pass from.place (spec.is marks.old from.place MNP)) }
+    ensures marks_after { marks.new ≡ set marks.old from.place mark }
 {
-    let was = marks[place];
-    marks[place] = mark;
+    let was = marks[from.place];
+    marks[from.place] = mark;
     Before::Answer(Stand {
-        left,
-        pass,
-        place,
         pending: was == marking::MNP,
+        ..from
     })
 }
 
 // One move back in the pixel pass.
-fn prior_pixels(marks: &mut [u8], coarsest: usize, planes: u32, left: u32, place: usize) -> Before
-    requires { Room coarsest marks.old place }
-    ensures { (big : ℕ → ℕ → Bool) → Was (spec.prior (length marks.old) coarsest planes big (state_at left pixels place marks.old)) result marks.old marks.new }
+fn prior_pixels(marks: &mut [u8], planes: u32, from: Stand) -> Before
+    requires { (1 ≤ length marks.old) × (from.place ≤ length marks.old) }
+    ensures { (D : ℕ) (big : ℕ → ℕ → Bool) → Was (spec.prior (length marks.old) D planes big (state_at from.left pixels from.place marks.old)) result marks.old marks.new }
 {
-    if place == 0 {
+    let left = from.left;
+    if from.place == 0 {
         if left < planes {
-            return Before::Quiet(left + 1, 2, marks.len());
+            return Before::Quiet(at(left + 1, 2, marks.len()));
         }
         return Before::Nothing;
     }
-    let at = block(marks, place);
-    let mark = marks[at];
-    if mark == marking::MIP {
-        return unasked(marks, left, 0, at, marking::MIP);
+    let head = block(marks, from.place);
+    let mark = marks[head];
+    if mark == marking::MIP || mark == marking::MNP {
+        return unasked(marks, at(left, 0, head), marking::MIP);
     }
-    if mark == marking::MNP {
-        return unasked(marks, left, 0, at, marking::MIP);
-    }
-    Before::Quiet(left, 0, at)
+    Before::Quiet(at(left, 0, head))
 }
 
 // One move back in the refinement pass.
-fn prior_refining(
-    marks: &mut [u8],
-    values: &[i32],
-    coarsest: usize,
-    planes: u32,
-    left: u32,
-    place: usize,
-) -> Before
-    requires { Room coarsest marks.old place × Scanned (length marks.old) planes values.now left 2 }
-    ensures { Was (spec.prior (length marks.old) coarsest planes (spec.big_in values.now) (state_at left refining place marks.old)) result marks.old marks.new }
+fn prior_refining(marks: &mut [u8], values: &[i32], from: Stand) -> Before
+    requires { (1 ≤ length marks.old) × (from.place ≤ length marks.old) × (length values.now ≡ length marks.old) × (from.left ≤ most_planes) }
+    ensures { (D P : ℕ) → Was (spec.prior (length marks.old) D P (spec.big_in values.now) (state_at from.left refining from.place marks.old)) result marks.old marks.new }
 {
-    if place == 0 {
-        return Before::Quiet(left, 1, marks.len());
+    let left = from.left;
+    if from.place == 0 {
+        return Before::Quiet(at(left, 1, marks.len()));
     }
-    let at = block(marks, place);
-    let mark = marks[at];
-    if mark != marking::MSP {
-        return Before::Quiet(left, 2, at);
+    let head = block(marks, from.place);
+    if marks[head] == marking::MSP {
+        if is_big(values, left, head) {
+            return Before::Answer(at(left, 2, head));
+        }
+        marks[head] = marking::MNP;
     }
-    if is_big(values, left, at) {
-        return Before::Answer(Stand {
-            left,
-            pass: 2,
-            place: at,
-            pending: false,
-        });
-    }
-    marks[at] = marking::MNP;
-    Before::Quiet(left, 2, at)
+    Before::Quiet(at(left, 2, head))
 }
 
 // Whether a mark is that of a coefficient which no set has any more.
@@ -218,93 +213,63 @@ fn new_four(marks: &[u8], coarsest: usize, place: usize) -> bool
 }
 
 // One move back in the set pass, to what ends at a place.
-fn prior_block(marks: &mut [u8], coarsest: usize, left: u32, place: usize) -> Before
-    requires { Room coarsest marks.old place × (4 ≤ place) }
-    ensures { (planes : ℕ) (big : ℕ → ℕ → Bool) → Was (spec.prior_block (length marks.old) coarsest planes big left place marks.old (spec.alone marks.old (place - 4)) (leb coarsest (place - 4) && spec.fresh (length marks.old) coarsest planes big marks.old (place - 4))) result marks.old marks.new }
+fn prior_block(marks: &mut [u8], coarsest: usize, from: Stand) -> Before
+    requires { Room coarsest marks.old from.place × (4 ≤ from.place) }
+    ensures { (planes : ℕ) (big : ℕ → ℕ → Bool) → Was (spec.prior_block (length marks.old) coarsest planes big from.left from.place marks.old (spec.alone marks.old (from.place - 4)) (leb coarsest (from.place - 4) && spec.fresh (length marks.old) coarsest planes big marks.old (from.place - 4))) result marks.old marks.new }
 {
-    let head = place - 4;
-    if alone(marks[head]) {
-        if new_four(marks, coarsest, head) {
-            return unasked(marks, left, 1, place - 1, marking::MCP);
+    let left = from.left;
+    let four = from.place - 4;
+    if alone(marks[four]) {
+        if new_four(marks, coarsest, four) {
+            return unasked(marks, at(left, 1, from.place - 1), marking::MCP);
         }
-        return Before::Quiet(left, 1, head);
+        return Before::Quiet(at(left, 1, four));
     }
-    let at = block(marks, place);
-    let mark = marks[at];
-    if mark == marking::MD {
-        return Before::Answer(Stand {
-            left,
-            pass: 1,
-            place: at,
-            pending: false,
-        });
+    let head = block(marks, from.place);
+    let mark = marks[head];
+    if mark == marking::MD || mark == marking::MG {
+        return Before::Answer(at(left, 1, head));
     }
-    if mark == marking::MG {
-        return Before::Answer(Stand {
-            left,
-            pass: 1,
-            place: at,
-            pending: false,
-        });
-    }
-    Before::Quiet(left, 1, at)
+    Before::Quiet(at(left, 1, head))
 }
 
 // One move back in the set pass.
-fn prior_sets(marks: &mut [u8], coarsest: usize, left: u32, place: usize) -> Before
-    requires { Room coarsest marks.old place }
-    ensures { (planes : ℕ) (big : ℕ → ℕ → Bool) → Was (spec.prior (length marks.old) coarsest planes big (state_at left sets place marks.old)) result marks.old marks.new }
+fn prior_sets(marks: &mut [u8], coarsest: usize, from: Stand) -> Before
+    requires { Room coarsest marks.old from.place }
+    ensures { (planes : ℕ) (big : ℕ → ℕ → Bool) → Was (spec.prior (length marks.old) coarsest planes big (state_at from.left sets from.place marks.old)) result marks.old marks.new }
 {
+    let left = from.left;
+    let place = from.place;
     if place % 4 != 0 {
-        return unasked(marks, left, 1, place - 1, marking::MCP);
+        return unasked(marks, at(left, 1, place - 1), marking::MCP);
     }
     if marks.len() <= place {
-        return prior_block(marks, coarsest, left, place);
+        return prior_block(marks, coarsest, from);
     }
     if marks[place] == marking::MCP {
         join_desc(marks, place);
-        return Before::Answer(Stand {
-            left,
-            pass: 1,
-            place,
-            pending: false,
-        });
+        return Before::Answer(at(left, 1, place));
     }
     if four_descs(marks, coarsest, place) {
         join_grand(marks, place);
-        return Before::Answer(Stand {
-            left,
-            pass: 1,
-            place,
-            pending: false,
-        });
+        return Before::Answer(at(left, 1, place));
     }
     if place == 0 {
-        return Before::Quiet(left, 0, marks.len());
+        return Before::Quiet(at(left, 0, marks.len()));
     }
-    prior_block(marks, coarsest, left, place)
+    prior_block(marks, coarsest, from)
 }
 
 // One move back from where no sign is pending.
-fn prior(
-    marks: &mut [u8],
-    values: &[i32],
-    coarsest: usize,
-    planes: u32,
-    left: u32,
-    pass: u32,
-    place: usize,
-) -> Before
-    requires { Room coarsest marks.old place × Scanned (length marks.old) planes values.now left pass }
-    ensures { Was (spec.prior (length marks.old) coarsest planes (spec.big_in values.now) (state_at left (pass_of pass) place marks.old)) result marks.old marks.new }
+fn prior(marks: &mut [u8], values: &[i32], coarsest: usize, planes: u32, from: Stand) -> Before
+    requires { Room coarsest marks.old from.place × Scanned (length marks.old) planes values.now from.left from.pass }
+    ensures { Was (spec.prior (length marks.old) coarsest planes (spec.big_in values.now) (plain from marks.old)) result marks.old marks.new }
 {
-    if pass == 0 {
-        return prior_pixels(marks, coarsest, planes, left, place);
+    match from.pass {
+        0 => prior_pixels(marks, planes, from),
+        1 => prior_sets(marks, coarsest, from),
+        _ => prior_refining(marks, values, from),
     }
-    if pass == 1 {
-        return prior_sets(marks, coarsest, left, place);
-    }
-    prior_refining(marks, values, coarsest, planes, left, place)
 }
 
 // Whether the four coefficients before a place were found before this plane, or in it.
@@ -319,17 +284,17 @@ fn back_old(marks: &[u8], place: usize) -> usize
     requires { place ≤ length marks.now }
     ensures { (D P l : ℕ) (big : ℕ → ℕ → Bool) → l ≤ P → Hushed (length marks.now) D P big l pixels place marks.now result marks.now }
 {
+    // Kept: a while, since it goes by fours as long as a test of four marks holds.
     let mut at = place;
     while four_found(marks, at) {
         at -= 4;
     }
-    while 0 < at {
-        if marks[at - 1] != marking::MSP {
-            return at;
+    for i in (0..at).rev() {
+        if marks[i] != marking::MSP {
+            return i + 1;
         }
-        at -= 1;
     }
-    at
+    0
 }
 
 // Whether one of four values has a bit of plane `left` or above.
@@ -374,18 +339,18 @@ fn back_new(marks: &mut [u8], values: &[i32], left: u32, place: usize) -> usize
     requires { (place ≤ length marks.old) × (length values.now ≡ length marks.old) × (left ≤ most_planes) }
     ensures { (D P : ℕ) → left ≤ P → Hushed (length marks.old) D P (spec.big_in values.now) left refining place marks.old result marks.new }
 {
+    // Kept: a while, since it writes by fours as long as a test of four marks holds.
     let mut at = place;
     while four_new(marks, values, left, at) {
         marking::set_four(marks, at - 4, marking::MNP);
         at -= 4;
     }
-    while 0 < at {
-        if !was_new(marks, values, left, at - 1) {
-            return at;
+    for i in (0..at).rev() {
+        if !was_new(marks, values, left, i) {
+            return i + 1;
         }
-        at -= 1;
     }
-    at
+    0
 }
 
 // Whether the four at a place are in no set, and were split before this plane.
@@ -401,11 +366,9 @@ fn back_alone(marks: &[u8], coarsest: usize, place: usize) -> usize
     requires { Room coarsest marks.now place × (place % 4 ≡ 0) × (place < length marks.now → spec.alone marks.now place ≡ true) }
     ensures { (P l : ℕ) (big : ℕ → ℕ → Bool) → l ≤ P → Hushed (length marks.now) coarsest P big l sets place marks.now result marks.now }
 {
+    // Kept: a while, since it counts back by fours; a `for` over place / 4 of them would return a product.
     let mut at = place;
-    while 4 <= at {
-        if !old_four(marks, coarsest, at - 4) {
-            return at;
-        }
+    while 4 <= at && old_four(marks, coarsest, at - 4) {
         at -= 4;
     }
     at
@@ -420,51 +383,33 @@ fn at_four(marks: &[u8], place: usize) -> bool
 }
 
 // Back over the places of a pass where it asked nothing, as far as it is seen by their marks alone, or by values of their own.
-fn run_back(
-    marks: &mut [u8],
-    values: &[i32],
-    coarsest: usize,
-    left: u32,
-    pass: u32,
-    place: usize,
-) -> usize
-    requires { Room coarsest marks.old place × (length values.now ≡ length marks.old) × (left ≤ most_planes) × (pass < 3) }
-    ensures { (P : ℕ) → left ≤ P → Hushed (length marks.old) coarsest P (spec.big_in values.now) left (pass_of pass) place marks.old result marks.new }
+fn run_back(marks: &mut [u8], values: &[i32], coarsest: usize, from: Stand) -> usize
+    requires { Room coarsest marks.old from.place × (length values.now ≡ length marks.old) × (from.left ≤ most_planes) × (from.pass < 3) }
+    ensures { (P : ℕ) → from.left ≤ P → Hushed (length marks.old) coarsest P (spec.big_in values.now) from.left (pass_of from.pass) from.place marks.old result marks.new }
 {
-    if pass == 0 {
-        return back_old(marks, place);
+    let place = from.place;
+    match from.pass {
+        0 => back_old(marks, place),
+        1 if at_four(marks, place) => back_alone(marks, coarsest, place),
+        1 => place,
+        _ => back_new(marks, values, from.left, place),
     }
-    if pass == 2 {
-        return back_new(marks, values, left, place);
-    }
-    if at_four(marks, place) {
-        return back_alone(marks, coarsest, place);
-    }
-    place
 }
 
 // The way back from where no sign is pending: silent moves, and the answer before them.
 fn way_back(marks: &mut [u8], values: &[i32], coarsest: usize, planes: u32, from: Stand) -> Stand
     requires { Room coarsest marks.old from.place × Scanned (length marks.old) planes values.now from.left from.pass }
-    ensures { Stood (spec.back (length marks.old) coarsest planes (spec.big_in values.now) (state_at from.left (pass_of from.pass) from.place marks.old)) result marks.new }
+    ensures { Stood (spec.back (length marks.old) coarsest planes (spec.big_in values.now) (plain from marks.old)) result marks.new }
 {
-    let mut left = from.left;
-    let mut pass = from.pass;
-    let mut place = from.place;
+    let mut last = from;
     loop {
-        match prior(marks, values, coarsest, planes, left, pass, place) {
+        match prior(marks, values, coarsest, planes, last) {
             Before::Nothing => {
-                return Stand {
-                    left,
-                    pass,
-                    place,
-                    pending: false,
-                };
+                return at(last.left, last.pass, last.place);
             }
-            Before::Quiet(l, p, i) => {
-                left = l;
-                pass = p;
-                place = run_back(marks, values, coarsest, l, p, i);
+            Before::Quiet(next) => {
+                let place = run_back(marks, values, coarsest, next);
+                last = at(next.left, next.pass, place);
             }
             Before::Answer(stand) => {
                 return stand;
@@ -500,19 +445,11 @@ pub fn go_back(marks: &mut [u8], values: &[i32], coarsest: usize, planes: u32, f
     ensures value { result ≡ cond (back_fits (length marks.old) (length values.now) coarsest planes from) (stand_of (spec.back (length marks.old) coarsest planes (spec.big_in values.now) (state_of from marks.old))) from }
     ensures marks_after { marks.new ≡ cond (back_fits (length marks.old) (length values.now) coarsest planes from) (spec.back (length marks.old) coarsest planes (spec.big_in values.now) (state_of from marks.old)).marks marks.old }
 {
-    if !table_fits(marks.len(), values.len(), coarsest) {
-        return from;
-    }
-    if !stand_fits(marks.len(), planes, from) {
+    if !table_fits(marks.len(), values.len(), coarsest) || !stand_fits(marks.len(), planes, from) {
         return from;
     }
     if from.pending {
-        return Stand {
-            left: from.left,
-            pass: from.pass,
-            place: from.place,
-            pending: false,
-        };
+        return at(from.left, from.pass, from.place);
     }
     way_back(marks, values, coarsest, planes, from)
 }

@@ -1,4 +1,3 @@
-use mathlib.Core.Path.{◌∙◌}
 use Rattle.refusals.proofs.Laws.{left_by}
 use Rattle.encoder.specs.Body.{loan}
 use Rattle.txp.proofs.CallLaws.{refused_body, header_fits, file_written}

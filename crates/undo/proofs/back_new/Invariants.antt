@@ -12,8 +12,5 @@ invariant-loop-marks l = (length l.marks ≡ length l.initial.marks) × (l.at �
 abbrev pub decreases-loop-marks : goal.decreases-loop-marks
 decreases-loop-marks l = l.at
 
-abbrev pub invariant-loop-at : goal.invariant-loop-at
-invariant-loop-at l = (length l.marks ≡ length l.initial.marks) × (l.at ≤ l.initial.at) × ((I D P : ℕ) → l.initial.at ≤ I → l.left ≤ P → Hushed I D P (big_in l.values) l.left refining l.initial.at l.initial.marks l.at l.marks)
-
-abbrev pub decreases-loop-at : goal.decreases-loop-at
-decreases-loop-at l = l.at
+abbrev pub invariant-loop-i : goal.invariant-loop-i
+invariant-loop-i l = (length l.marks ≡ length l.initial.marks) × (l.i ≤ l.initial.at) × ((I D P : ℕ) → l.initial.at ≤ I → l.left ≤ P → Hushed I D P (big_in l.values) l.left refining l.initial.at l.initial.marks l.i l.marks)

@@ -11,8 +11,5 @@ invariant-loop-at l = (l.at ≤ l.place) × ((D P e : ℕ) (big : ℕ → ℕ �
 abbrev pub decreases-loop-at : goal.decreases-loop-at
 decreases-loop-at l = l.at
 
-abbrev pub invariant-loop-at-2 : goal.invariant-loop-at-2
-invariant-loop-at-2 l = (l.at ≤ l.place) × ((D P e : ℕ) (big : ℕ → ℕ → Bool) → e ≤ P → Hushed (length l.marks) D P big e pixels l.place l.marks l.at l.marks)
-
-abbrev pub decreases-loop-at-2 : goal.decreases-loop-at-2
-decreases-loop-at-2 l = l.at
+abbrev pub invariant-loop-i : goal.invariant-loop-i
+invariant-loop-i l = (l.i ≤ l.place) × ((D P e : ℕ) (big : ℕ → ℕ → Bool) → e ≤ P → Hushed (length l.marks) D P big e pixels l.place l.marks l.i l.marks)

@@ -1,13 +1,9 @@
 use Prim.Native.Nat.{◌-◌}
-use mathlib.Core.Path.{◌≡◌, refl, ◌∙◌}
+use mathlib.Core.Path.{◌≡◌, ◌∙◌}
 use native.Mathlib.Omega.{arith}
-use borrow.Author.Rules.{rules}
 use lib.ListN.{get_or}
 use Rattle.undo.proofs.Tables.{size_in, size_again, block_here, block_again, block_done}
 use Rattle.undo.proofs.block.Goals as goal
-
-pub loop-init : goal.loop-init
-loop-init c = (search rules, refl, refl)
 
 pub bounds-marks-at : goal.bounds-marks-at
 bounds-marks-at c = let l = c.loop in omega (arith, size_in l.counter l.size l.invariant.1 l.invariant.0, c.saturating_sub-at.ensures)
@@ -20,12 +16,6 @@ returns-then-marks-at-ne-NO_MARK c = let l = c.loop in
 
 pub overflow_mul-size : goal.overflow_mul-size
 overflow_mul-size c = let l = c.loop in omega (arith, size_in l.counter l.size l.invariant.1 l.invariant.0)
-
-pub overflow_step : goal.overflow_step
-overflow_step c = omega arith
-
-pub loop-smaller : goal.loop-smaller
-loop-smaller c = omega arith
 
 pub loop-preserved : goal.loop-preserved
 loop-preserved c = let l = c.loop in

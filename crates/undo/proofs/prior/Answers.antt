@@ -1,12 +1,13 @@
-use Rattle.undo.proofs.Steps.{pass_pixels, pass_sets, pass_refining}
+use native.Mathlib.Omega.{arith}
+use Rattle.moves.proofs.Passes.{pass_0, pass_1, pass_2}
 use Rattle.undo.specs.Back.{big_in}
 use Rattle.undo.proofs.prior.Goals as goal
 
-pub returns-then-pass-eq0 : goal.returns-then-pass-eq0
-returns-then-pass-eq0 c = rw (pass_pixels c.args.pass c.if-pass-eq0.true) (c.prior_pixels.ensures (big_in c.args.values.now))
+pub returns-in-0 : goal.returns-in-0
+returns-in-0 c = rw (pass_0 c.args.from.pass c.in-0.is) (c.prior_pixels.ensures c.args.coarsest (big_in c.args.values.now))
 
-pub returns-then-pass-eq1 : goal.returns-then-pass-eq1
-returns-then-pass-eq1 c = rw (pass_sets c.args.pass c.if-pass-eq0.false c.if-pass-eq1.true) (c.prior_sets.ensures c.args.planes (big_in c.args.values.now))
+pub returns-in-1 : goal.returns-in-1
+returns-in-1 c = rw (pass_1 c.args.from.pass c.in-1.is) (c.prior_sets.ensures c.args.planes (big_in c.args.values.now))
 
-pub returns : goal.returns
-returns c = rw (pass_refining c.args.pass c.if-pass-eq0.false c.if-pass-eq1.false) c.prior_refining.ensures
+pub returns-in_default : goal.returns-in_default
+returns-in_default c = rw (pass_2 c.args.from.pass (λ e. omega (arith, e)) (λ e. omega (arith, e))) (c.prior_refining.ensures c.args.coarsest c.args.planes)

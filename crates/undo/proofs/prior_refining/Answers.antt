@@ -3,25 +3,20 @@ use lib.ListN.{length}
 use Rattle.undo.specs.Back.{big_in}
 use Rattle.undo.proofs.Ends.{block_before}
 use Rattle.undo.proofs.Steps.{refining_start, refining_other, refining_asked, refining_new}
+use Rattle.undo.proofs.prior_refining.Goals.{then-marks-head-eq-MSP+else-is_big, else-marks-head-eq-MSP}
 use Rattle.undo.proofs.prior_refining.Goals as goal
 
-pub returns-then-place-eq0 : goal.returns-then-place-eq0
-returns-then-place-eq0 c = refining_start (length c.args.marks.now) c.args.coarsest c.args.planes (big_in c.args.values.now) _ _ _ c.if-place-eq0.true
+pub returns-then-from-eq0 : goal.returns-then-from-eq0
+returns-then-from-eq0 c = λ D P. rw c.at.ensures (refining_start (length c.args.marks.now) D P (big_in c.args.values.now) _ _ _ c.if-from-eq0.true)
 
-pub bounds-marks-at : goal.bounds-marks-at
-bounds-marks-at c = omega (arith, block_before c.args.marks.now c.args.place, c.block-at.ensures)
-
-pub returns-then-mark-ne-MSP : goal.returns-then-mark-ne-MSP
-returns-then-mark-ne-MSP c = refining_other (length c.args.marks.now) c.args.coarsest c.args.planes (big_in c.args.values.now) _ _ _ _ c.if-place-eq0.false c.block-at.ensures c.if-mark-ne-MSP.true
-
-pub is_big-requires : goal.is_big-requires
-is_big-requires c = (omega (arith, block_before c.args.marks.now c.args.place, c.block-at.ensures), omega arith)
+pub bounds-marks-head : goal.bounds-marks-head
+bounds-marks-head c = omega (arith, block_before c.args.marks.now c.args.from.place, c.block-head.ensures)
 
 pub returns-then-is_big : goal.returns-then-is_big
-returns-then-is_big c = refining_asked (length c.args.marks.now) c.args.coarsest c.args.planes (big_in c.args.values.now) _ _ _ _ c.if-place-eq0.false c.block-at.ensures _ c.if-mark-ne-MSP.false c.is_big.ensures c.if-is_big.true
-
-pub bounds-marks-at-2 : goal.bounds-marks-at-2
-bounds-marks-at-2 c = omega (arith, block_before c.args.marks.now c.args.place, c.block-at.ensures)
+returns-then-is_big c = λ D P. rw c.at-then-is_big.ensures (refining_asked (length c.args.marks.now) D P (big_in c.args.values.now) _ _ _ _ c.if-from-eq0.false c.block-head.ensures _ c.if-marks-head-eq-MSP.true c.is_big.ensures c.if-is_big.true)
 
 pub returns : goal.returns
-returns c = refining_new (length c.args.marks.now) c.args.coarsest c.args.planes (big_in c.args.values.now) _ _ _ _ c.if-place-eq0.false c.block-at.ensures _ c.if-mark-ne-MSP.false c.is_big.ensures c.if-is_big.false
+returns c = λ D P. rw c.at-2.ensures (elim c.if-marks-head-eq-MSP.branch [
+  | then-marks-head-eq-MSP+else-is_big w ↦ rw w.marks-is (refining_new (length c.args.marks.now) D P (big_in c.args.values.now) _ _ _ _ c.if-from-eq0.false c.block-head.ensures _ w.if-marks-head-eq-MSP.true w.is_big.ensures w.if-is_big.false)
+  | else-marks-head-eq-MSP w ↦ rw w.marks-is (refining_other (length c.args.marks.now) D P (big_in c.args.values.now) _ _ _ _ c.if-from-eq0.false c.block-head.ensures w.if-marks-head-eq-MSP.false)
+])

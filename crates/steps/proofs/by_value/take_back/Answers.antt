@@ -12,13 +12,13 @@ returns-then-dial-eq0 c =
     let checked : let a = c.args in (Ok tt) ≡ outcome_for a.dial (tables a.values.now a.precisions.now a.marks.now) c.usable_of-most.result = sym c.in-Ok.is ∙ c.check.ensures in
     let a = c.args in
     let held = tables a.values.now a.precisions.now a.marks.now in
-    backs (back_at_first a.declared a.body.now a.dial held c.usable_of-most.result c.usable_of-most.ensures (checked) c.if-dial-eq0.true)
+    rw c.refused.ensures (backs (back_at_first a.declared a.body.now a.dial held c.usable_of-most.result c.usable_of-most.ensures (checked) c.if-dial-eq0.true))
 
 pub descend_own-requires : goal.descend_own-requires
 descend_own-requires c =
     let checked : let a = c.args in (Ok tt) ≡ outcome_for a.dial (tables a.values.now a.precisions.now a.marks.now) c.usable_of-most.result = sym c.in-Ok.is ∙ c.check.ensures in
     let a = c.args in
-    usable_ready a.declared a.body.now a.dial (tables a.values.now a.precisions.now a.marks.now) _ c.usable_of-most.ensures (checked)
+    (usable_ready a.declared a.body.now a.dial (tables a.values.now a.precisions.now a.marks.now) _ c.usable_of-most.ensures (checked), omega arith)
 
 pub returns-else-dial-eq0 : goal.returns-else-dial-eq0
 returns-else-dial-eq0 c =
@@ -31,4 +31,4 @@ returns-else-dial-eq0 c =
 pub returns-in-Err : goal.returns-in-Err
 returns-in-Err c = let a = c.args in
     let held = tables a.values.now a.precisions.now a.marks.now in
-    backs (back_refused a.declared a.body.now a.dial held c.usable_of-most.result c.usable_of-most.ensures c.in-Err.why (sym c.in-Err.is ∙ c.check.ensures))
+    rw c.refused-in-Err.ensures (backs (back_refused a.declared a.body.now a.dial held c.usable_of-most.result c.usable_of-most.ensures c.in-Err.why (sym c.in-Err.is ∙ c.check.ensures)))

@@ -15,7 +15,7 @@ returns-then-dial-most c =
     let checked : let a = c.args in (Ok tt) ≡ outcome_for a.dial (tables a.values.now a.precisions.now a.marks.now) c.usable_of-most.result = sym c.in-Ok.is ∙ c.check.ensures in
     let a = c.args in
     let held = tables a.values.now a.precisions.now a.marks.now in
-    forwards (forward_at_end a.declared a.body.now a.dial held c.usable_of-most.result c.usable_of-most.ensures (checked) c.if-dial-most.true)
+    rw c.refused.ensures (forwards (forward_at_end a.declared a.body.now a.dial held c.usable_of-most.result c.usable_of-most.ensures (checked) c.if-dial-most.true))
 
 pub overflow_add-dial : goal.overflow_add-dial
 overflow_add-dial c =
@@ -27,7 +27,7 @@ pub climb_own-requires : goal.climb_own-requires
 climb_own-requires c =
     let checked : let a = c.args in (Ok tt) ≡ outcome_for a.dial (tables a.values.now a.precisions.now a.marks.now) c.usable_of-most.result = sym c.in-Ok.is ∙ c.check.ensures in
     let ready : let a = c.args in CallReady a.dial (usable_bits a.declared a.body.now) (length a.values.now) (length a.precisions.now) (length a.marks.now) = let a = c.args in usable_ready a.declared a.body.now a.dial (tables a.values.now a.precisions.now a.marks.now) _ c.usable_of-most.ensures (checked) in
-    ready
+    (ready, omega arith)
 
 pub returns-else-dial-most : goal.returns-else-dial-most
 returns-else-dial-most c =
@@ -40,4 +40,4 @@ returns-else-dial-most c =
 pub returns-in-Err : goal.returns-in-Err
 returns-in-Err c = let a = c.args in
     let held = tables a.values.now a.precisions.now a.marks.now in
-    forwards (forward_refused a.declared a.body.now a.dial held c.usable_of-most.result c.usable_of-most.ensures c.in-Err.why (sym c.in-Err.is ∙ c.check.ensures))
+    rw c.refused-in-Err.ensures (forwards (forward_refused a.declared a.body.now a.dial held c.usable_of-most.result c.usable_of-most.ensures c.in-Err.why (sym c.in-Err.is ∙ c.check.ensures)))

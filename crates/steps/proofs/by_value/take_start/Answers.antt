@@ -17,4 +17,4 @@ returns-in-Ok c = let a = c.args in
 pub returns-in-Err : goal.returns-in-Err
 returns-in-Err c = let a = c.args in
     let k = c.decode_midpoint in
-    start_refused a.n a.l a.p (0 ∷ []) (tables a.values.now a.precisions.now a.marks.now) k.result (tables k.new.values k.new.precisions k.new.marks) k.ensures a.dial c.in-Err.why c.in-Err.is
+    rw c.refused.ensures (start_refused a.n a.l a.p (0 ∷ []) (tables a.values.now a.precisions.now a.marks.now) k.result (tables k.new.values k.new.precisions k.new.marks) k.ensures a.dial c.in-Err.why c.in-Err.is)

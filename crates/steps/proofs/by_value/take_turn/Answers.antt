@@ -1,4 +1,5 @@
 use mathlib.Core.Path.{◌≡◌, sym, ◌∙◌}
+use native.Mathlib.Omega.{arith}
 use Rattle.std.specs.Prelude.{Ok}
 use Rattle.decoder.specs.Body.{tables}
 use Rattle.steps.proofs.CallLaws.{outcome_for, usable_ready, turn_refused, turn_down, turn_up}
@@ -9,7 +10,7 @@ pub descend_own-requires : goal.descend_own-requires
 descend_own-requires c =
     let checked : let a = c.args in (Ok tt) ≡ outcome_for a.dial (tables a.values.now a.precisions.now a.marks.now) c.usable_of-most.result = sym c.in-Ok.is ∙ c.check.ensures in
     let a = c.args in
-    usable_ready a.declared a.body.now a.dial (tables a.values.now a.precisions.now a.marks.now) _ c.usable_of-most.ensures (checked)
+    (usable_ready a.declared a.body.now a.dial (tables a.values.now a.precisions.now a.marks.now) _ c.usable_of-most.ensures (checked), omega (arith, c.if-to-dial.true))
 
 pub returns-then-to-dial : goal.returns-then-to-dial
 returns-then-to-dial c =
@@ -23,7 +24,7 @@ pub climb_own-requires : goal.climb_own-requires
 climb_own-requires c =
     let checked : let a = c.args in (Ok tt) ≡ outcome_for a.dial (tables a.values.now a.precisions.now a.marks.now) c.usable_of-most.result = sym c.in-Ok.is ∙ c.check.ensures in
     let a = c.args in
-    usable_ready a.declared a.body.now a.dial (tables a.values.now a.precisions.now a.marks.now) _ c.usable_of-most.ensures (checked)
+    (usable_ready a.declared a.body.now a.dial (tables a.values.now a.precisions.now a.marks.now) _ c.usable_of-most.ensures (checked), omega (arith, c.if-to-dial.false))
 
 pub returns-else-to-dial : goal.returns-else-to-dial
 returns-else-to-dial c =
@@ -36,4 +37,4 @@ returns-else-to-dial c =
 pub returns-in-Err : goal.returns-in-Err
 returns-in-Err c = let a = c.args in
     let held = tables a.values.now a.precisions.now a.marks.now in
-    turns (turn_refused a.declared a.to a.body.now a.dial held c.usable_of-most.result c.usable_of-most.ensures c.in-Err.why (sym c.in-Err.is ∙ c.check.ensures))
+    rw c.refused.ensures (turns (turn_refused a.declared a.to a.body.now a.dial held c.usable_of-most.result c.usable_of-most.ensures c.in-Err.why (sym c.in-Err.is ∙ c.check.ensures)))

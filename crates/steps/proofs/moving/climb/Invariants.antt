@@ -13,6 +13,3 @@ abbrev pub invariant-loop-used : goal.invariant-loop-used
 invariant-loop-used l =
     (steps_of (forward_in (ending l.declared l.body) (usable_bits l.declared l.body) l.body) (l.to - l.used) (step (reached (ending l.declared l.body) l.dial.p l.used l.at.left) (record_of l.dial.n l.dial.l l.dial.p l.used (state_of l.at l.marks)) (tables l.values l.precisions l.marks)) ≡ steps_of (forward_in (ending l.declared l.body) (usable_bits l.declared l.body) l.body) (l.to - l.dial.used) (step (position_of (ending l.declared l.body) l.dial) l.dial (tables l.initial.values l.initial.precisions l.initial.marks)))
     × Stood l.dial l.at × Ready l.dial (length l.values) (length l.precisions) (length l.marks)
-
-abbrev pub decreases-loop-used : goal.decreases-loop-used
-decreases-loop-used l = l.to - l.used
