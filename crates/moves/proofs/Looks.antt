@@ -219,13 +219,10 @@ module _ (I i : ℕ) (m : List ℕ) where
       rw (new_same i m x n u t)
       (goes_behind I b 2 i (i + skip (get_or m i 0)) r m (rw (lt-ltb i I w, ne_eqb (get_or m i 0) MSP d, none_new i m x n u t)) f w (lit< tt))
 
--- what a mark is that was written, the places behind it are passed over in the new marks
-pub refining_over : (i : ℕ) (m : List ℕ) (l j : ℕ) (x : Bool) (n o : List ℕ) → Passed (length n) refining (i + 1) n j o → IsNew m i x n
-    → x ≡ true → 1 ≤ l → i < length m → Moves (length m) (state_at l refining i m) (Some (stand l 2 j false)) o
-unfolding pass_of
-refining_over i m l j x n o v u t h w =
-    let p : Passed (length m) refining i m (i + 1) n = new_one i m x n u (length m) t w in
-    goes_over (length m) l 2 i (i + 1) j m n o p (rw p.long at v) h (lit< tt) (omega arith) w
+  pub refining_over : (l j : ℕ) (x : Bool) (n o : List ℕ) → Passed I refining (i + 1) n j o → IsNew m i x n
+      → x ≡ true → 1 ≤ l → i < I → Moves I (state_at l refining i m) (Some (stand l 2 j false)) o
+  unfolding pass_of
+  refining_over l j x n o v u t h w = goes_over I l 2 i (i + 1) j m n o (new_one i m x n u I t w) v h (lit< tt) (omega arith) w
 
 -- ---- all looks
 

@@ -5,7 +5,7 @@ use mathlib.Core.Bool.{Bool, true, false, cond}
 use mathlib.Core.List.{List}
 use borrow.Author.Tests.{ltb-true, eq-eqb, ne_eqb}
 use lib.Dec.{ltb}
-use lib.ListN.{length, set, get_or}
+use lib.ListN.{set, get_or}
 use Rattle.sizes.specs.Sizes.{most_n, all_of}
 use Rattle.sizes.proofs.Laws.{both_left, both_right}
 use Rattle.nls.specs.Scan.{State, settle}
@@ -79,9 +79,9 @@ module _ (I : ℕ) (t : Stand) (m : List ℕ) (a : Bool) (r : Stand) where
   pub tells_pass : r ≡ stand_of (told I (state_of t m) a) → r.pass < 3
   tells_pass e = subst (λ (x : Stand). x.pass < 3) (sym e) (pass_small (told I (state_of t m) a).pass)
 
-  pub goes_on : (x : Stand) (n k : List ℕ) → stand_fits I t ≡ true → Tells I t m a r n → length n ≡ I → x ≡ stand_of (settle (length n) (state_of r n)) → k ≡ (settle (length n) (state_of r n)).marks
+  pub goes_on : (x : Stand) (n k : List ℕ) → stand_fits I t ≡ true → Tells I t m a r n → x ≡ stand_of (settle I (state_of r n)) → k ≡ (settle I (state_of r n)).marks
       → (x ≡ cond (stand_fits I t) (stand_of (onward I (state_of t m) a)) t) × (k ≡ cond (stand_fits I t) (onward I (state_of t m) a).marks m)
-  goes_on x n k f e h ex ek =
+  goes_on x n k f e ex ek =
       let s : State = told I (state_of t m) a in
       let es : state_of r n ≡ s = ap (λ (y : Stand). state_of y n) e.0 ∙ ap (λ (y : List ℕ). state_of (stand_of s) y) e.1 ∙ state_stand s in
-      rw f ((rw h at ex) ∙ ap (λ (y : State). stand_of (settle I y)) es, (rw h at ek) ∙ ap (λ (y : State). (settle I y).marks) es)
+      rw f (ex ∙ ap (λ (y : State). stand_of (settle I y)) es, ek ∙ ap (λ (y : State). (settle I y).marks) es)

@@ -20,7 +20,7 @@ fn climb_own(
     precisions: &mut [u8],
     marks: &mut [u8],
 ) -> Stepped
-    requires { CallReady dial (usable_bits declared body.now) (length values.old) (length precisions.old) (length marks.old) × (dial.used ≤ to) }
+    requires { CallReady dial (usable_bits declared body.now) (length values.old) (length precisions.old) (length marks.old) }
     ensures { step result.answer result.dial (tables values.new precisions.new marks.new) ≡ own_steps (ending declared body.now) (forward_in (ending declared body.now) (usable_bits declared body.now) body.now) (to - dial.used) dial (tables values.old precisions.old marks.old) }
 {
     let all = sizes::all_of(dial.n);
@@ -46,7 +46,7 @@ fn descend_own(
     precisions: &mut [u8],
     marks: &mut [u8],
 ) -> Stepped
-    requires { CallReady dial (usable_bits declared body.now) (length values.old) (length precisions.old) (length marks.old) × (to ≤ dial.used) }
+    requires { CallReady dial (usable_bits declared body.now) (length values.old) (length precisions.old) (length marks.old) }
     ensures { step result.answer result.dial (tables values.new precisions.new marks.new) ≡ own_steps (ending declared body.now) (back_in (ending declared body.now) body.now) (dial.used - to) dial (tables values.old precisions.old marks.old) }
 {
     let all = sizes::all_of(dial.n);

@@ -114,7 +114,7 @@ pub(crate) fn climb(
     precisions: &mut [u8],
     marks: &mut [u8],
 ) -> Stepped
-    requires { Ready dial (length values.old) (length precisions.old) (length marks.old) × (dial.used ≤ to) }
+    requires { Ready dial (length values.old) (length precisions.old) (length marks.old) }
     ensures { step result.answer result.dial (tables values.new precisions.new marks.new) ≡ steps_of (forward_in (ending declared body.now) (usable_bits declared body.now) body.now) (to - dial.used) (step (position_of (ending declared body.now) dial) dial (tables values.old precisions.old marks.old)) }
 {
     let mut at = crate::records::stand_of(dial);
@@ -130,7 +130,7 @@ pub(crate) fn climb(
         }
         at = tell(dial, at, bit, values, precisions, marks);
     }
-    arrive(dial, body, declared, to, at)
+    arrive(dial, body, declared, to.max(dial.used), at)
 }
 
 // Steps back, until `to` bits are used.
@@ -143,7 +143,7 @@ pub(crate) fn descend(
     precisions: &mut [u8],
     marks: &mut [u8],
 ) -> Stepped
-    requires { Ready dial (length values.old) (length precisions.old) (length marks.old) × (dial.used ≤ usable_bits declared body.now) × (to ≤ dial.used) }
+    requires { Ready dial (length values.old) (length precisions.old) (length marks.old) × (dial.used ≤ usable_bits declared body.now) }
     ensures { step result.answer result.dial (tables values.new precisions.new marks.new) ≡ steps_of (back_in (ending declared body.now) body.now) (dial.used - to) (step (position_of (ending declared body.now) dial) dial (tables values.old precisions.old marks.old)) }
 {
     let coarsest = sizes::coarsest_of(dial.n, dial.l);
@@ -155,5 +155,5 @@ pub(crate) fn descend(
         at = undo::go_back(marks, values, coarsest, dial.p, at);
         untell(dial, at, bit, values, precisions, marks);
     }
-    arrive(dial, body, declared, to, at)
+    arrive(dial, body, declared, to.min(dial.used), at)
 }

@@ -14,5 +14,5 @@ pub returns-then-stand_fits : goal.returns-then-stand_fits
 returns-then-stand_fits c =
     let a = c.args in
     let t = c.tell-told.ensures in
-    let g = goes_on (length a.marks.now) a.from a.marks.now a.bit c.tell-told.result c.rest.result c.tell-told.new.marks c.rest.new.marks (sym c.stand_fits.ensures ∙ c.if-stand_fits.true) (t.stand, t.marked) c.tell-told.auto.marks c.rest.ensures.stand c.rest.ensures.marked in
+    let g = goes_on (length a.marks.now) a.from a.marks.now a.bit c.tell-told.result c.rest.result c.tell-told.new.marks c.rest.new.marks (sym c.stand_fits.ensures ∙ c.if-stand_fits.true) (t.stand, t.marked) (rw c.tell-told.auto.marks at c.rest.ensures.stand) (rw c.tell-told.auto.marks at c.rest.ensures.marked) in
     record { stand = g.0; marked = g.1 }

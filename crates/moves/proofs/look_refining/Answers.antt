@@ -10,7 +10,7 @@ pub returns-then-marks-from-eq-MSP : goal.returns-then-marks-from-eq-MSP
 returns-then-marks-from-eq-MSP c = refining_rests (length c.args.marks.now) c.args.from.place c.args.marks.now c.args.from.left c.requires.1 c.if-marks-from.false c.if-marks-from-eq-MSP.true
 
 pub returns-then-is_new : goal.returns-then-is_new
-returns-then-is_new c = rw c.at-then-is_new.ensures (refining_over c.args.from.place c.args.marks.now c.args.from.left _ _ _ _ c.over_new.ensures (c.is_new.ensures.value, c.is_new.ensures.marks_after) c.if-is_new.true c.requires.1 c.if-marks-from.false)
+returns-then-is_new c = rw c.at-then-is_new.ensures (refining_over (length c.args.marks.now) c.args.from.place c.args.marks.now c.args.from.left _ _ _ _ (rw c.is_new.auto.marks at c.over_new.ensures) (c.is_new.ensures.value, c.is_new.ensures.marks_after) c.if-is_new.true c.requires.1 c.if-marks-from.false)
 
 pub returns : goal.returns
 returns c =

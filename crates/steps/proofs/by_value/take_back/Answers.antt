@@ -18,7 +18,7 @@ pub descend_own-requires : goal.descend_own-requires
 descend_own-requires c =
     let checked : let a = c.args in (Ok tt) ≡ outcome_for a.dial (tables a.values.now a.precisions.now a.marks.now) c.usable_of-most.result = sym c.in-Ok.is ∙ c.check.ensures in
     let a = c.args in
-    (usable_ready a.declared a.body.now a.dial (tables a.values.now a.precisions.now a.marks.now) _ c.usable_of-most.ensures (checked), omega arith)
+    usable_ready a.declared a.body.now a.dial (tables a.values.now a.precisions.now a.marks.now) _ c.usable_of-most.ensures (checked)
 
 pub returns-else-dial-eq0 : goal.returns-else-dial-eq0
 returns-else-dial-eq0 c =

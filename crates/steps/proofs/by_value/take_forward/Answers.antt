@@ -27,7 +27,7 @@ pub climb_own-requires : goal.climb_own-requires
 climb_own-requires c =
     let checked : let a = c.args in (Ok tt) ≡ outcome_for a.dial (tables a.values.now a.precisions.now a.marks.now) c.usable_of-most.result = sym c.in-Ok.is ∙ c.check.ensures in
     let ready : let a = c.args in CallReady a.dial (usable_bits a.declared a.body.now) (length a.values.now) (length a.precisions.now) (length a.marks.now) = let a = c.args in usable_ready a.declared a.body.now a.dial (tables a.values.now a.precisions.now a.marks.now) _ c.usable_of-most.ensures (checked) in
-    (ready, omega arith)
+    ready
 
 pub returns-else-dial-most : goal.returns-else-dial-most
 returns-else-dial-most c =

@@ -1,5 +1,4 @@
 use mathlib.Core.Path.{◌≡◌, sym, ◌∙◌}
-use native.Mathlib.Omega.{arith}
 use Rattle.std.specs.Prelude.{Ok}
 use Rattle.decoder.specs.Body.{tables}
 use Rattle.steps.proofs.CallLaws.{outcome_for, usable_ready, turn_refused, turn_down, turn_up}
@@ -10,7 +9,7 @@ pub descend_own-requires : goal.descend_own-requires
 descend_own-requires c =
     let checked : let a = c.args in (Ok tt) ≡ outcome_for a.dial (tables a.values.now a.precisions.now a.marks.now) c.usable_of-most.result = sym c.in-Ok.is ∙ c.check.ensures in
     let a = c.args in
-    (usable_ready a.declared a.body.now a.dial (tables a.values.now a.precisions.now a.marks.now) _ c.usable_of-most.ensures (checked), omega (arith, c.if-to-dial.true))
+    usable_ready a.declared a.body.now a.dial (tables a.values.now a.precisions.now a.marks.now) _ c.usable_of-most.ensures (checked)
 
 pub returns-then-to-dial : goal.returns-then-to-dial
 returns-then-to-dial c =
@@ -24,7 +23,7 @@ pub climb_own-requires : goal.climb_own-requires
 climb_own-requires c =
     let checked : let a = c.args in (Ok tt) ≡ outcome_for a.dial (tables a.values.now a.precisions.now a.marks.now) c.usable_of-most.result = sym c.in-Ok.is ∙ c.check.ensures in
     let a = c.args in
-    (usable_ready a.declared a.body.now a.dial (tables a.values.now a.precisions.now a.marks.now) _ c.usable_of-most.ensures (checked), omega (arith, c.if-to-dial.false))
+    usable_ready a.declared a.body.now a.dial (tables a.values.now a.precisions.now a.marks.now) _ c.usable_of-most.ensures (checked)
 
 pub returns-else-to-dial : goal.returns-else-to-dial
 returns-else-to-dial c =

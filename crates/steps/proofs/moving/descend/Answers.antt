@@ -15,7 +15,7 @@ stand_of-at-requires c = c.requires.0.range
 
 pub loop-used-init : goal.loop-used-init
 loop-used-init c = let a = c.args in
-    (c.requires.2, descending_first a.dial c.requires.0.range (ending a.declared a.body.now) a.body.now (usable_bits a.declared a.body.now) a.to c.stand_of-at.result a.values.now a.precisions.now a.marks.now c.stand_of-at.ensures c.requires.1 c.requires.0.values_size c.requires.0.precisions_size c.requires.0.marks_size)
+    (omega arith, descending_first a.dial c.requires.0.range (ending a.declared a.body.now) a.body.now (usable_bits a.declared a.body.now) a.to c.stand_of-at.result a.values.now a.precisions.now a.marks.now c.stand_of-at.ensures c.requires.1 c.requires.0.values_size c.requires.0.precisions_size c.requires.0.marks_size)
 
 pub untell-requires : goal.untell-requires
 untell-requires c = let a = c.args in
@@ -60,5 +60,5 @@ shape_of-marks c = omega (arith, c.loop-used.invariant.1.marks_size, c.requires.
 pub returns : goal.returns
 returns c = let a = c.args in
     let w = c.loop-used in
-    let done : w.used ≡ a.to = omega (arith, w.invariant.0) in
-    (rw (sym done) at c.arrive.ensures w.values w.precisions w.marks) ∙ descending_last a.dial c.requires.0.range (ending a.declared a.body.now) a.body.now (usable_bits a.declared a.body.now) a.to _ w.used w.at w.values w.precisions w.marks w.invariant.1 (omega (arith, done))
+    let done : w.used ≡ c.min.result = omega (arith, c.min.ensures, w.invariant.0) in
+    (rw (sym done) at c.arrive.ensures w.values w.precisions w.marks) ∙ descending_last a.dial c.requires.0.range (ending a.declared a.body.now) a.body.now (usable_bits a.declared a.body.now) a.to _ w.used w.at w.values w.precisions w.marks w.invariant.1 (omega (arith, c.loop-used-test.false))
