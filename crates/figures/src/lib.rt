@@ -174,16 +174,16 @@ fn tally_one(counts: &mut Tally, x: u32)
 }
 
 // The tally of the sizes of these entries.
-fn tally_by<T: Copy, F: Fn(T) -> u32>(entries: &[T], size: F) -> Tally
+// Kept: lent, as the four are too, since a tally handed back by value makes the library ask others for `memcpy`.
+fn tally_by<T: Copy, F: Fn(T) -> u32>(entries: &[T], size: F, counts: &mut Tally)
     requires callable { F.IsAlwaysCallable size }
     requires few { length entries.now ≤ all_of most_n }
-    ensures { (d : T) (x : ℕ → ℕ) → AllSized (F.post size) entries.now d x → result ≡ tally_of (length entries.now) x }
+    ensures { (d : T) (x : ℕ → ℕ) → AllSized (F.post size) entries.now d x → counts.new ≡ tally_of (length entries.now) x }
 {
-    let mut counts = [0u32; 33];
+    *counts = [0u32; 33];
     for x in entries {
-        tally_one(&mut counts, size(*x));
+        tally_one(counts, size(*x));
     }
-    counts
 }
 
 // A tally for each count of `Reach`.
@@ -195,16 +195,14 @@ struct FourTallies {
     large: Tally,
 }
 
-fn tallies_of(values: &[i32], desc: &[u32], grand: &[u32]) -> FourTallies
+fn tallies_of(values: &[i32], desc: &[u32], grand: &[u32], tallies: &mut FourTallies)
     requires { (length values.now ≤ all_of most_n) × (length desc.now ≤ all_of most_n) × (length grand.now ≤ length desc.now) }
-    ensures { result ≡ tallies_of values.now desc.now grand.now }
+    ensures { tallies.new ≡ tallies_of values.now desc.now grand.now }
 {
-    FourTallies {
-        descs: tally_by(desc, |x| x),
-        inner: tally_by(&desc[..grand.len()], |x| x),
-        grands: tally_by(grand, |x| x),
-        large: tally_by(values, coef::magnitude),
-    }
+    tally_by(desc, |x| x, &mut tallies.descs);
+    tally_by(&desc[..grand.len()], |x| x, &mut tallies.inner);
+    tally_by(grand, |x| x, &mut tallies.grands);
+    tally_by(values, coef::magnitude, &mut tallies.large);
 }
 
 // Everything reaches 0.
@@ -242,7 +240,13 @@ fn count_all(n: u32, l: u32, values: &[i32], desc: &[u32], grand: &[u32], out: &
     ensures { out.new ≡ lent_after (Ok tt) (all_figures n l values.now) out.old }
 {
     let least = least_parts(n, l);
-    let tallies = tallies_of(values, desc, grand);
+    let mut tallies = FourTallies {
+        descs: [0u32; 33],
+        inner: [0u32; 33],
+        grands: [0u32; 33],
+        large: [0u32; 33],
+    };
+    tallies_of(values, desc, grand, &mut tallies);
     let mut here = reach_without(reach_all(values, desc, grand), 32, &tallies);
     for plane in 0..MOST_PLANES {
         let above = reach_without(here, (31 - plane) as usize, &tallies);

@@ -1,14 +1,14 @@
 -- Arrays as functions of their place: what a store changes, and how a loop goes on.
 use mathlib.Core.Path.{◌≡◌, refl, sym, ap, ◌∙◌}
 use mathlib.Core.Bool.{Bool, true, false}
-use mathlib.Core.List.{List, ◌++◌}
-use Prim.Native.Nat.{ℕ, suc, ◌+◌, ◌*◌, ◌-◌, ◌≤◌, ◌<◌}
+use mathlib.Core.List.{List}
+use Prim.Native.Nat.{ℕ, suc, ◌+◌, ◌*◌, ◌≤◌, ◌<◌}
 use native.Mathlib.Omega.{arith}
 use borrow.Author.Tests.{ltb-true, ltb-false, lt-ltb, le-ltb, eqb-true, eqb-false}
 use lib.Dec.{ltb, eqb}
 use lib.IntN.{ℤ, pos}
-use lib.ListN.{length, take, drop, set, length-set, get_or-append}
-use lib.Seq.{length-take-le, get_or-append-add, get_or-drop, get_or-take, get_or-set_same, get_or-set_other, ext_get_or}
+use lib.ListN.{length, set, length-set}
+use lib.Seq.{get_or-set_same, get_or-set_other, ext_get_or}
 use Rattle.sizes.specs.Tables.{table}
 use Rattle.sizes.proofs.Tables.{table_length, table_at}
 use Rattle.coef.specs.Coef.{at}
@@ -214,20 +214,3 @@ module _ (M k : ℕ) (h : k < M) (work : List ℤ) (W F : ℕ → ℤ) (v : Quad
       let e2 : at w2 ≡ onward (suc (4 * k + 1)) W Z = store_down w1 (4 * k + 2) v.bl W Z (omega (arith, l1)) e1 (sym (entered 2 (omega arith))) ∙ ap (λ (n : ℕ). onward n W Z) {x = 4 * k + 2} {y = suc (4 * k + 1)} (omega arith) in
       let e3 : at w3 ≡ onward (suc (4 * k)) W Z = store_down w2 (4 * k + 1) v.tr W Z (omega (arith, l2)) e2 (sym (entered 1 (omega arith))) ∙ ap (λ (n : ℕ). onward n W Z) {x = 4 * k + 1} {y = suc (4 * k)} (omega arith) in
       store_down w3 (4 * k) v.tl W Z (omega (arith, l3)) e3 (sym z0)
-
--- the first entries of an array, in another
-pub copied : (n : ℕ) (front from to : List ℤ) → n ≤ length from → front ≡ take n from → at (front ++ drop n to) ≡ onward n (at from) (at to)
-copied n front from to h e = everywhere (λ i. tell i (ltb i n) refl)
-  where
-    long : length front ≡ n
-    long = rw e (length-take-le n from h)
-
-    tell : (i : ℕ) (t : Bool) → ltb i n ≡ t → at (front ++ drop n to) i ≡ onward n (at from) (at to) i
-    tell i true q =
-        let k = ltb-true i n q in
-        get_or-append front (drop n to) (pos 0) i (omega (arith, long)) ∙ ap (λ (l : List ℤ). at l i) e ∙ get_or-take n from i (pos 0) k ∙ sym (onward_near n (at from) (at to) i k)
-    tell i false q =
-        let k = ltb-false i n q in
-        let a : i ≡ length front + (i - n) = omega (arith, long) in
-        let b : n + (i - n) ≡ i = omega arith in
-        ap (at (front ++ drop n to)) a ∙ get_or-append-add front (drop n to) (i - n) (pos 0) ∙ get_or-drop n to (i - n) (pos 0) ∙ ap (at to) b ∙ sym (onward_far n (at from) (at to) i k)

@@ -11,7 +11,7 @@ ghost use Rattle.sizes.specs.Tables.{table};
 ghost use Rattle.coef.specs.Coef.{at, first_over};
 ghost use Rattle.transform.specs.Transform.{coefficients_of, samples_of};
 ghost use Rattle.transform.specs.Answers.{most_sample, is_sample, first_outside, transform_checks, entry_checks, restored_check, restored_of, all_zero, Transforms, Restores};
-ghost use Rattle.transform.specs.Quads.{downs, ups};
+ghost use Rattle.transform.specs.Quads.{downs, ups, onward};
 
 use refusals::Refusal;
 
@@ -34,6 +34,17 @@ fn first_outside(a: &[i32]) -> usize
     a.iter().position(|&x| !is_sample(x)).unwrap_or(a.len())
 }
 
+// The first entries of an array, in another.
+// Kept: a loop, since a call of `copy_from_slice` makes the library ask others for `memmove`.
+fn copy_head(count: usize, from: &[i32], to: &mut [i32])
+    requires { (count ≤ length from.now) × (count ≤ length to.old) }
+    ensures { at to.new ≡ onward count (at from.now) (at to.old) }
+{
+    for i in 0..count {
+        to[i] = from[i];
+    }
+}
+
 // All levels: the work table holds the samples in linear order.
 fn levels_down(n: u32, l: u32, work: &mut [i32], out: &mut [i32])
     requires { (side_fits n ≡ true) × (levels_fit n l ≡ true) × (length work.old ≡ all_of n) × (length out.old ≡ all_of n) × ((i : ℕ) → mag (at work.old i) ≤ most_sample) }
@@ -44,7 +55,7 @@ fn levels_down(n: u32, l: u32, work: &mut [i32], out: &mut [i32])
         quarter = quarter / 4;
         blocks::level_down(quarter, work, out);
     }
-    out[..quarter].copy_from_slice(&work[..quarter]);
+    copy_head(quarter, work, out);
 }
 
 // All levels back: the work table ends with the samples in linear order.
@@ -53,7 +64,7 @@ fn levels_up(n: u32, l: u32, from: &[i32], work: &mut [i32])
     ensures { work.new ≡ table (all_of n) (ups n l (at from.now)) }
 {
     let mut quarter = sizes::coarsest_of(n, l);
-    work[..quarter].copy_from_slice(&from[..quarter]);
+    copy_head(quarter, from, work);
     for _ in 0..l {
         blocks::level_up(quarter, from, work);
         quarter = 4 * quarter;

@@ -5,17 +5,13 @@ use lib.Dec.{ltb}
 use Prim.Native.Nat.{ℕ, suc, ◌-◌, ◌/◌, ◌^◌, ◌≤◌, ◌<◌}
 use native.Mathlib.Omega.{arith}
 use native.Mathlib.Numerals.{add-one}
-use mathlib.Core.List.{◌++◌}
-use borrow.Author.Rules.{rules}
-use lib.ListN.{drop}
-use lib.Seq.{length-take-le}
 use lib.IntN.{ℤ}
 use lib.Signed.{mag}
 use Rattle.sizes.specs.Sizes.{all_of}
 use Rattle.sizes.proofs.Laws.{sized}
 use Rattle.coef.specs.Coef.{at}
 use Rattle.transform.specs.Quads.{onward, downs}
-use Rattle.transform.proofs.Arrays.{onward_near, onward_far, copied, tabled}
+use Rattle.transform.proofs.Arrays.{onward_near, onward_far, tabled}
 use Rattle.transform.proofs.Range.{level_up, downs_mag}
 use Rattle.transform.proofs.Runs.{Down, down_start, down_next, level_most}
 use Rattle.transform.proofs.levels_down.Goals as goal
@@ -50,25 +46,16 @@ loop-preserved c = let a = c.args in
     let q : l.quarter / 4 ≡ 4 ^ (a.n - suc l.counter) = omega (arith, u) in
     (rw (add-one l.counter) q, rw (add-one l.counter) (down_next a.n l.counter (l.quarter / 4) (omega (arith, z.most)) q (at a.work.now) (at l.work) (at l.out) (at c.level_down.new.work) (at c.level_down.new.out) l.invariant.1 c.level_down.ensures.coarse c.level_down.ensures.fine))
 
-pub slice_bounds-copy_from_slice-end : goal.slice_bounds-copy_from_slice-end
-slice_bounds-copy_from_slice-end c = omega (arith, level_most c.args.n c.loop.counter)
-
-pub slice_bounds-copy_from_slice-end-2 : goal.slice_bounds-copy_from_slice-end-2
-slice_bounds-copy_from_slice-end-2 c = sym (length-take-le c.loop.quarter c.loop.out (omega (arith, level_most c.args.n c.loop.counter)))
-
-pub slice_bounds-copy_from_slice-end-3 : goal.slice_bounds-copy_from_slice-end-3
-slice_bounds-copy_from_slice-end-3 c = omega (arith, level_most c.args.n c.loop.counter)
-
-pub slice_bounds-copy_from_slice-end-4 : goal.slice_bounds-copy_from_slice-end-4
-slice_bounds-copy_from_slice-end-4 c = sym (length-take-le c.loop.quarter c.loop.work (omega (arith, level_most c.args.n c.loop.counter)))
+pub copy_head-requires : goal.copy_head-requires
+copy_head-requires c = let m = level_most c.args.n c.loop.counter in
+    (omega (arith, m), omega (arith, m))
 
 pub returns : goal.returns
 returns c = let a = c.args in
     let l = c.loop in
     let e : l.counter ≡ a.l = omega arith in
-    let o = c.copy_from_slice.new.self ++ drop l.quarter l.out in
-    let w = copied l.quarter c.copy_from_slice.new.self l.work l.out (omega (arith, level_most a.n l.counter)) (search rules) in
+    let o = c.copy_head.new.to in
     let X = downs a.n a.l (at a.work.now) in
     let d = subst (λ (j : ℕ). Down a.n j (at a.work.now) (at l.work) (at l.out)) e l.invariant.1 in
     let q : l.quarter ≡ 4 ^ (a.n - a.l) = l.invariant.0 ∙ ap (λ (j : ℕ). 4 ^ (a.n - j)) e in
-    tabled o (all_of a.n) X (omega arith) (λ i h. ap (λ (A : ℕ → ℤ). A i) w ∙ parts l.quarter (at l.work) (at l.out) X i (λ k. d.coarse i (omega arith)) (λ k. d.fine i (omega arith) h))
+    tabled o (all_of a.n) X (omega arith) (λ i h. ap (λ (A : ℕ → ℤ). A i) c.copy_head.ensures ∙ parts l.quarter (at l.work) (at l.out) X i (λ k. d.coarse i (omega arith)) (λ k. d.fine i (omega arith) h))

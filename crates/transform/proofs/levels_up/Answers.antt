@@ -1,35 +1,21 @@
 use mathlib.Core.Path.{◌≡◌, ◌∙◌, sym, ap, subst}
 use Prim.Native.Nat.{ℕ, suc, ◌+◌, ◌*◌, ◌-◌, ◌^◌, ◌≤◌}
 use native.Mathlib.Omega.{arith}
-use borrow.Author.Rules.{rules}
-use lib.Seq.{length-take-le}
 use lib.IntN.{ℤ, nat_abs}
 use Rattle.sizes.specs.Sizes.{all_of}
 use Rattle.sizes.proofs.Laws.{side_most, sized, all_most, both}
 use Rattle.coef.specs.Coef.{at}
 use Rattle.transform.specs.Quads.{onward, unbands, ups}
-use Rattle.transform.proofs.Arrays.{onward_near, onward_far, copied, tabled}
+use Rattle.transform.proofs.Arrays.{onward_near, onward_far, tabled}
 use Rattle.transform.proofs.Range.{level_up, unbands_size}
 use Rattle.transform.proofs.Runs.{up_next, ups_next, ups_none, onward_copy, level_most}
 use Rattle.transform.proofs.levels_up.Goals as goal
 
-pub slice_bounds-copy_from_slice-end : goal.slice_bounds-copy_from_slice-end
-slice_bounds-copy_from_slice-end c = let a = c.args in
+pub copy_head-requires : goal.copy_head-requires
+copy_head-requires c = let a = c.args in
     let p = c.requires in
     let e : c.coarsest_of-quarter.result ≡ 4 ^ (a.n - a.l) = c.coarsest_of-quarter.ensures ∙ rw (both p.0 p.1) in
-    omega (arith, level_most a.n a.l)
-
-pub slice_bounds-copy_from_slice-end-2 : goal.slice_bounds-copy_from_slice-end-2
-slice_bounds-copy_from_slice-end-2 c = let a = c.args in
-    let p = c.requires in
-    let e : c.coarsest_of-quarter.result ≡ 4 ^ (a.n - a.l) = c.coarsest_of-quarter.ensures ∙ rw (both p.0 p.1) in
-    sym (length-take-le c.coarsest_of-quarter.result a.work.now (omega (arith, level_most a.n a.l)))
-
-pub slice_bounds-copy_from_slice-end-3 : goal.slice_bounds-copy_from_slice-end-3
-slice_bounds-copy_from_slice-end-3 c = let a = c.args in
-    let p = c.requires in
-    let e : c.coarsest_of-quarter.result ≡ 4 ^ (a.n - a.l) = c.coarsest_of-quarter.ensures ∙ rw (both p.0 p.1) in
-    sym (length-take-le c.coarsest_of-quarter.result a.from.now (omega (arith, level_most a.n a.l)))
+    (omega (arith, level_most a.n a.l), omega (arith, level_most a.n a.l))
 
 pub loop-init : goal.loop-init
 loop-init c = let a = c.args in
@@ -37,7 +23,7 @@ loop-init c = let a = c.args in
     let F = at a.from.now in
     let D = c.coarsest_of-quarter.result in
     let e : D ≡ 4 ^ (a.n - a.l) = c.coarsest_of-quarter.ensures ∙ rw (both p.0 p.1) in
-    let w = copied D c.copy_from_slice.new.self a.from.now a.work.now (omega (arith, level_most a.n a.l)) (search rules) in
+    let w = c.copy_head.ensures in
     let none : a.l - 0 ≡ a.l = omega arith in
     rw none (e, ap (ups a.n a.l) (ap (λ (A : ℕ → ℤ). onward D A F) w ∙ onward_copy D F (at a.work.now)), λ i h. subst (λ (z : ℤ). nat_abs z ≤ 16777215 + 0 * 20971520) (sym (ap (λ (A : ℕ → ℤ). A i) w ∙ onward_near D F (at a.work.now) i h)) (omega (arith, p.4 i)))
 
