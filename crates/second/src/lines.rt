@@ -63,10 +63,13 @@ impl Lines {
 
     // The next line. Where its newline is not held, more is read first; there is none where no newline is held then.
     pub fn next(&mut self, input: &mut impl Read) -> Option<&[u8]> {
-        if self.end().is_none() {
-            self.refill(input);
-        }
-        let end = self.end()?;
+        let end = match self.end() {
+            Some(end) => end,
+            None => {
+                self.refill(input);
+                self.end()?
+            }
+        };
         let start = self.at;
         self.at = end + 1;
         Some(&self.text[start..end])

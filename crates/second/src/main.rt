@@ -98,9 +98,8 @@ fn judge(letter: u8, rest: &[u8], room: &mut Room<'_>, tables: &mut Tables<'_>) 
     let mut answer = [0u32; 16];
     tables::reset(&mut answer, 16);
     let result = tables.make(case, lent, &mut answer)?;
-    let held = tables.hold(lent, &mut text, list);
-    tables.reset(lent);
-    Some(held? && result == expected[0] && answer[..] == expected[1..])
+    let held = tables.hold(lent, &mut text, list)?;
+    Some(held && result == expected[0] && answer[..] == expected[1..])
 }
 
 // What became of a line.

@@ -49,9 +49,10 @@ fn past(lent: usize) -> usize {
     lent.saturating_add(PAST)
 }
 
-// What the entry at a place holds before a call: no coefficient, summary, mark or precision, and not the same at each place.
+// What the entry at a place, which is below 2^32, holds before a call: no coefficient, summary, mark or precision, and not the same at each place.
 fn before(i: usize) -> u32 {
-    0xa000_00a0 + (i % 65536) as u32 * 256 + (i % 93) as u32
+    let i = (i & 0xffff_ffff) as u32;
+    0xa000_00a0 + i % 65536 * 256 + i % 93
 }
 
 // A list's number at a place, or, past its end, what stands there before a call.
@@ -79,26 +80,27 @@ pub fn put<A: Cell, B: Cell>(table: &mut [A], numbers: &[B]) {
     put_first(table, usize::MAX, numbers);
 }
 
-// Whether the first n entries of a table hold a list's numbers, and those past the list what stood there before the call.
-fn holds<C: Cell>(table: &[C], n: usize, list: &[u32]) -> bool {
+// Whether the first n entries of a table hold a list's numbers, and those past the list what stood there before the call. They are given that again.
+fn holds<C: Cell>(table: &mut [C], n: usize, list: &[u32]) -> bool {
     let n = n.min(table.len());
-    for (i, x) in table[..n].iter().enumerate() {
-        if *x != C::of(wanted(list, i)) {
-            return false;
-        }
+    let mut held = true;
+    for (i, x) in table[..n].iter_mut().enumerate() {
+        held &= *x == C::of(wanted(list, i));
+        *x = C::of(before(i));
     }
-    true
+    held
 }
 
-// Whether a table holds what the next list says, in the entries that are lent and in some past them.
+// Whether a table holds what the next list says, in the entries that are lent and in some past them. They are given what they hold before a call, where the list is malformed too.
 fn holds_next<C: Cell>(
-    table: &[C],
+    table: &mut [C],
     lent: usize,
     text: &mut Text<'_>,
     list: &mut [u32],
 ) -> Option<bool> {
-    let count = text.list(list)?;
-    Some(holds(table, past(lent), &list[..count]))
+    let count = text.list(list);
+    let held = holds(table, past(lent), &list[..count.unwrap_or(0)]);
+    count.map(|_| held)
 }
 
 // What stands behind the first n numbers.
@@ -173,16 +175,17 @@ impl Tables<'_> {
         reset(self.values, past(lent.values));
     }
 
-    // Whether each table holds what the list for it says; there is no answer if a list is malformed or more of the line is left. The tables stay as they are.
-    pub fn hold(&self, lent: Lent, text: &mut Text<'_>, list: &mut [u32]) -> Option<bool> {
-        let desc = holds_next(self.desc, lent.desc, text, list)?;
-        let grand = holds_next(self.grand, lent.grand, text, list)?;
-        let marks = holds_next(self.marks, lent.marks, text, list)?;
-        let bytes = holds_next(self.bytes, lent.bytes, text, list)?;
-        let values = holds_next(self.values, lent.values, text, list)?;
+    // Whether each table holds what the list for it says; there is no answer if a list is malformed or more of the line is left. The entries that are compared are given what they hold before a call.
+    pub fn hold(&mut self, lent: Lent, text: &mut Text<'_>, list: &mut [u32]) -> Option<bool> {
+        let desc = holds_next(self.desc, lent.desc, text, list);
+        let grand = holds_next(self.grand, lent.grand, text, list);
+        let marks = holds_next(self.marks, lent.marks, text, list);
+        let bytes = holds_next(self.bytes, lent.bytes, text, list);
+        let values = holds_next(self.values, lent.values, text, list);
+        let held = [desc?, grand?, marks?, bytes?, values?];
         if !text.rest.is_empty() {
             return None;
         }
-        Some(desc && grand && marks && bytes && values)
+        Some(held == [true; 5])
     }
 }

@@ -47,18 +47,18 @@ impl Text<'_> {
 
     // The decimal number that comes next: it has a digit, and is below 2^32.
     fn decimal(&mut self) -> Option<u32> {
-        let end = self.rest.iter().position(|x| !x.is_ascii_digit());
-        let (digits, rest) = self.rest.split_at(end.unwrap_or(self.rest.len()));
-        if digits.is_empty() {
-            return None;
+        let mut value = None;
+        let mut rest = self.rest;
+        while let Some((first, behind)) = rest.split_first() {
+            let Some(digit) = char::from(*first).to_digit(10) else {
+                break;
+            };
+            let longer = u64::from(value.unwrap_or(0u32)) * 10 + u64::from(digit);
+            value = Some(u32::try_from(longer).ok()?);
+            rest = behind;
         }
         self.rest = rest;
-        let mut value = 0u32;
-        for x in digits {
-            let digit = char::from(*x).to_digit(10)?;
-            value = value.checked_mul(10)?.checked_add(digit)?;
-        }
-        Some(value)
+        value
     }
 
     // The item that comes next. Places back are at least one, and a magnitude below 0 is 1 to 2^31.
