@@ -113,7 +113,8 @@ def fields(header):
     struct = re.search(r"pub struct Answer \{(.*?)\}", answers, re.S)[1]
     same("the answer's fields", ours, [(NUMBERS.get(k, k), n) for n, k in re.findall(r"pub (\w+): (\w+)", struct)])
     names = [n for _, n in ours]
-    same("the answer's fields as put", names, re.findall(r"\ba\.(\w+)", re.search(r"\*to = \[(.*?)\];", answers, re.S)[1]))
+    put = [e.strip() for e in re.search(r"\*to = \[(.*?)\];", answers, re.S)[1].split(",") if e.strip()]
+    same("the answer's fields as put", [f"a.{n}" for n in names], put)
     spec = read("crates", "ctxp", "specs", "Answers.antt")
     same("the answer's fields as defined", names, re.search(r"^pub data Entry .*?where\n(.*?) : Entry", spec, re.S | re.M)[1].split())
     same("the answer's fields as numbered", [(n, str(i)) for i, n in enumerate(names)],
