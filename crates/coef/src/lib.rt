@@ -97,6 +97,16 @@ fn all_within(a: &[i32]) -> bool
     a.iter().fold(true, |all, &x| all & is_within(x))
 }
 
+// The same as `first_over`, one coefficient after the other, which is met on refused inputs alone.
+// A call of its own: inlined into the encoder, the loop also counts up the refusal beside the place, at two instructions more a coefficient.
+#[cold]
+#[inline(never)]
+fn place_over(a: &[i32]) -> usize
+    ensures { result ≡ first_over a.now }
+{
+    a.iter().position(|&x| !is_within(x)).unwrap_or(a.len())
+}
+
 // The first place of a coefficient over the limit, or the length where there is none.
 pub fn first_over(a: &[i32]) -> usize
     ensures { result ≡ first_over a.now }
@@ -104,7 +114,7 @@ pub fn first_over(a: &[i32]) -> usize
     if all_within(a) {
         return a.len();
     }
-    a.iter().position(|&x| !is_within(x)).unwrap_or(a.len())
+    place_over(a)
 }
 
 // The same for an array whose planes are known: where they are at most those of the limit, no coefficient is looked at.
