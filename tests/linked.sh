@@ -2,8 +2,8 @@
 # Builds the static library, sees that it asks nothing of others but memset, links tests/linked.c with it and holds it to the
 # second coder's cases.
 #   tests/linked.sh [DIR...]  DIR/stdin has the cases and DIR/stdout what is printed for them: by default crates/second
-# CC names the compiler and RUN what runs an x86-64 program, where the machine is another.
-set -eu
+# CC names the compiler, NM what lists an archive's names and RUN what runs an x86-64 program, where the machine is another.
+set -euo pipefail
 [ $# -gt 0 ] || set -- "$(dirname "$0")/../crates/second"
 mapfile -t dirs < <(realpath "$@")
 cd "$(dirname "$0")/.."

@@ -3,6 +3,7 @@ use mathlib.Core.Path.{refl, sym, ◌∙◌}
 use Rattle.refusals.proofs.Decided.{OneAnswer, OneOutcome}
 use Rattle.marking.proofs.skip.Reads as skip
 use Rattle.marking.proofs.set_skip.Reads as set_skip
+use Rattle.marking.proofs.fill.Reads as fill
 use Rattle.marking.proofs.split_desc.Reads as split_desc
 use Rattle.marking.proofs.split_grand.Reads as split_grand
 use Rattle.marking.proofs.same_four.Reads as same_four
@@ -16,6 +17,9 @@ pub set_skip_decided : OneAnswer set_skip.Learnt
 set_skip_decided k args r r' s s' p q = p ∙ sym q
 
 -- the first parameter is the table
+pub fill_decided : OneOutcome fill.Learnt (λ k s. s.0.now)
+fill_decided k args r r' s s' p q = (refl, p ∙ sym q)
+
 pub split_desc_decided : OneOutcome split_desc.Learnt (λ k s. s.0.now)
 split_desc_decided k args r r' s s' p q = (refl, p ∙ sym q)
 

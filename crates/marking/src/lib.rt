@@ -48,6 +48,13 @@ pub fn set_skip(mark: u8) -> usize
     skip(mark)
 }
 
+// Every entry becomes v.
+pub fn fill(dst: &mut [u8], v: u8)
+    ensures { dst.new ≡ replicate (length dst.old) v }
+{
+    dst.fill(v);
+}
+
 // A mark; past the end nothing is written.
 // Kept: of the table behind `marks.get_mut(place)` a proof knows the length and no entry, so that the write through it did not close.
 fn store(marks: &mut [u8], place: usize, code: u8)

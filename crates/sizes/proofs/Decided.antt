@@ -6,6 +6,10 @@ use Rattle.sizes.proofs.check_sizes.Reads as check_sizes
 use Rattle.sizes.proofs.coarsest_of.Reads as coarsest_of
 use Rattle.sizes.proofs.levels_fit.Reads as levels_fit
 use Rattle.sizes.proofs.side_fits.Reads as side_fits
+use Rattle.sizes.proofs.smaller.Reads as smaller
+
+pub smaller_decided : OneAnswer smaller.Learnt
+smaller_decided k args r r' s s' p q = p ∙ sym q
 
 pub side_fits_decided : OneAnswer side_fits.Learnt
 side_fits_decided k args r r' s s' p q = p ∙ sym q

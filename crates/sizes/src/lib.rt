@@ -1,7 +1,7 @@
 // The sizes of document 01, and the checks behind refusals 1 to 3.
 #![tactic(auto)]
 
-ghost use Rattle.std.specs.Prelude.{◌≡◌, ◌&&◌, cond, ◌^◌, ◌≤◌};
+ghost use Rattle.std.specs.Prelude.{◌≡◌, ◌&&◌, cond, ◌^◌, ◌≤◌, min};
 ghost use Rattle.refusals.specs.Checks.{first_failing};
 ghost use Rattle.sizes.specs.Sizes.{side_fits, levels_fit, all_of, coarsest_of, most_n};
 ghost use Rattle.sizes.specs.Checks.{size_checks};
@@ -18,6 +18,13 @@ pub const LIMIT: u32 = 16777215;
 
 // The largest number of planes.
 pub const MOST_PLANES: u32 = 24;
+
+// The smaller of two.
+pub fn smaller(a: u32, b: u32) -> u32
+    ensures { result ≡ min a b }
+{
+    a.min(b)
+}
 
 // Whether N is in range.
 pub fn side_fits(n: u32) -> bool
